@@ -1,0 +1,4 @@
+pub mod Answer
+pub mod Cell
+pub mod Refusal
+pub mod Row

@@ -1,0 +1,59 @@
+-- The numbers of the refusals. Document 01, "Numbers that come from the input" (11 to 29) and "Numbers that come from the state"
+-- (41 to 44).
+use Prim.Native.Nat.{ℕ}
+
+-- "card or program input ends too soon"
+abbrev pub cut-short : ℕ
+cut-short = 11
+
+-- "sheet count not 1 to 8"
+abbrev pub bad-relation-count : ℕ
+bad-relation-count = 12
+
+-- "column count not 1 to 6"
+abbrev pub bad-arity : ℕ
+bad-arity = 13
+
+-- "a row names a sheet that the head lacks"
+abbrev pub no-such-relation : ℕ
+no-such-relation = 14
+
+-- "a bit stands for a column the sheet lacks"
+abbrev pub bit-beyond-arity : ℕ
+bit-beyond-arity = 15
+
+-- "a field or given number is no cell"
+abbrev pub not-a-cell : ℕ
+not-a-cell = 16
+
+-- "a blank would need a mark above 200"
+abbrev pub nulls-exhausted : ℕ
+nulls-exhausted = 17
+
+-- "bytes follow the last row"
+abbrev pub bytes-left-over : ℕ
+bytes-left-over = 18
+
+-- "entered row's length is not the sheet's column count"
+abbrev pub wrong-row-length : ℕ
+wrong-row-length = 27
+
+-- "mark to fill not 1 to 200"
+abbrev pub no-such-null : ℕ
+no-such-null = 29
+
+-- "the plot breaks a rule of its section, or its slice is shorter than the words in use"
+abbrev pub unsound : ℕ
+unsound = 41
+
+-- "words needed exceed 4,096 or the slice"
+abbrev pub no-room : ℕ
+no-room = 42
+
+-- "the mark to fill stands in no cell"
+abbrev pub null-absent : ℕ
+null-absent = 43
+
+-- "output shorter than the card, or census output under 200 words"
+abbrev pub output-too-short : ℕ
+output-too-short = 44
