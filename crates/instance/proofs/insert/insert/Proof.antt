@@ -1,0 +1,107 @@
+-- `instance::insert::insert` meets its contract: what check_insert accepts, write_row writes behind the words in use. Assumes nothing.
+use Prim.Native.Nat.{ℕ}
+use mathlib.Core.Path.{_≡_, sym, ap, _∙_}
+use mathlib.Core.List.{List}
+use native.Mathlib.Omega.{arith}
+use lib.ListN.{length-take, length-drop}
+use Rattle.calculus.specs.declared.answer.Answer.the-variants.{Done}
+use Rattle.instance.specs.declared.header.Header.{Header}
+use Rattle.instance.specs.Insert.{inserted, insertedHeader, insertedWords}
+use Rattle.instance.proofs.Passes.{row-put}
+use Rattle.instance.proofs.Accepted.{Inserted, insert-accepted}
+use borrow.Author.Needs.{needs}
+use Rattle.instance.proofs.insert.insert.Statement.{statement}
+use Rattle.instance.proofs.insert.insert.Tie as tie
+
+check-insert-requires : tie.Need-check-insert-requires
+check-insert-requires c κs = search needs
+
+enum-known-answer : tie.Need-enum-known-answer
+enum-known-answer c = search needs
+
+enum-told : tie.Need-enum-told
+enum-told c = search needs
+
+same-length : tie.Need-same-length
+same-length c = search needs
+
+returns : tie.Need-returns
+unfolding insertedHeader insertedWords
+returns c =
+    let f = sym (c .before .before .check-insert .ensures) ∙ c .enum-told .given .1 in
+    (c .before .before .check-insert .ensures, (simp f, simp f))
+
+-- what the answer says
+module _ (c : tie.After-struct-known) where
+  abbrev answered : tie.After-check-insert
+  answered = c .before .before .before .before
+
+  abbrev h : Header
+  h = answered .before .before .before .before .args .header
+
+  abbrev ws : List ℕ
+  ws = answered .before .before .before .before .args .plot .now
+
+  abbrev r : ℕ
+  r = answered .before .before .before .before .args .relation
+
+  abbrev cs : List ℕ
+  cs = answered .before .before .before .before .args .cells .now
+
+  abbrev k : ℕ
+  k = c .before .before .answer .given .0 .0
+
+  done : inserted h ws r cs ≡ Done k
+  done = sym (answered .check-insert .ensures) ∙ c .before .before .answer .given .1
+
+  accepted : Inserted h ws r cs k
+  accepted = insert-accepted h ws r cs k done
+
+cast-at : tie.Need-cast-at
+cast-at c = search needs
+
+mul-write-row : tie.Need-mul-write-row
+mul-write-row c = search needs
+
+sub-write-row : tie.Need-sub-write-row
+sub-write-row c = omega (arith, accepted c .within)
+
+part-write-row-start : tie.Need-part-write-row-start
+part-write-row-start c = omega (arith, accepted c .within)
+
+part-write-row-end : tie.Need-part-write-row-end
+part-write-row-end c = search needs
+
+write-row-requires : tie.Need-write-row-requires
+write-row-requires c κs = simp (length-take, length-drop) (omega (arith, accepted (c .before) .within))
+
+same-length-2 : tie.Need-same-length-2
+same-length-2 c = search needs
+
+returns-2 : tie.Need-returns-2
+unfolding insertedHeader insertedWords
+returns-2 c = let a = c .before .before .before .before in (
+  sym (done a),
+  (
+    simp (done a) (ap (λ (n : ℕ). record { relations = h a .relations; arities = h a .arities; used = n }) (accepted a .used)),
+    simp (done a) (row-put _ (r a) (cs a) (ws a) _ (c .before .before .write-row .ensures)),
+  ),
+)
+
+pub insert-spec : {M : Type 1} → statement M
+insert-spec =
+    tie.close
+    (tie.spec
+    check-insert-requires
+    enum-known-answer
+    enum-told
+    same-length
+    returns
+    cast-at
+    mul-write-row
+    sub-write-row
+    part-write-row-start
+    part-write-row-end
+    write-row-requires
+    same-length-2
+    returns-2)

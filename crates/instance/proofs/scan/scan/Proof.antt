@@ -1,0 +1,65 @@
+-- `instance::scan::scan` meets its contract: each test fails one part of the definition, and the words are scanned by scan_words. Assumes
+-- nothing.
+use mathlib.Core.Path.{_≡_, sym, _∙_}
+use mathlib.Core.Bool.{true, false, and-false}
+use native.Mathlib.Omega.{arith}
+use borrow.Author.Tests.{le-leb, lt-leb, not-true, not-false}
+use lib.ListN.{length-take}
+use lib.Seq.{length-take-le}
+use Rattle.instance.proofs.Rows.{headed}
+use Rattle.instance.specs.Sound.{sound, rows, scanned, scannedWords}
+use Rattle.instance.specs.Header.{headerStands}
+use borrow.Author.Needs.{needs}
+use Rattle.instance.proofs.scan.scan.Statement.{statement}
+use Rattle.instance.proofs.scan.scan.Tie as tie
+
+cast-used : tie.Need-cast-used
+cast-used c = search needs
+
+returns : tie.Need-returns
+unfolding scanned sound
+returns c = simp (lt-leb _ _ (c .if1 .taken), and-false)
+
+returns-2 : tie.Need-returns-2
+unfolding scanned sound
+returns-2 c = simp (lt-leb _ _ (c .if2 .taken), and-false)
+
+header-stands-requires : tie.Need-header-stands-requires
+header-stands-requires c κs = search needs
+
+returns-3 : tie.Need-returns-3
+unfolding scanned sound
+returns-3 c =
+    let e : headerStands _ _ ≡ false = sym (c .before .header-stands .ensures) ∙ not-true _ (c .if3 .taken) in
+    simp e
+
+slice-aggregate-scan-words : tie.Need-slice-aggregate-scan-words
+slice-aggregate-scan-words c = sym (length-take-le _ _ (c .before .before .before .before .before .if2 .left))
+
+stands : (c : tie.Else3) → headerStands (c .before .before .before .before .before .before .before .before .args .header .relations)
+    (c .before .before .before .before .before .before .before .before .args .header .arities) ≡ true
+stands c = sym (c .before .header-stands .ensures) ∙ not-false _ (c .if3 .left)
+
+scan-words-requires : tie.Need-scan-words-requires
+scan-words-requires c κs =
+    let few = headed _ _ (stands (c .before .before)) .few in
+    (few, simp (length-take) (omega arith))
+
+returns-4 : tie.Need-returns-4
+unfolding scanned sound scannedWords rows
+returns-4 c =
+    let e = c .before .before .before in
+    c .scan-words .ensures ∙ simp (stands e, le-leb _ _ (e .before .before .before .before .if1 .left), le-leb _ _ (e .before .before .before .if2 .left))
+
+pub scan-spec : {M : Type 1} → statement M
+scan-spec =
+    tie.close
+    (tie.spec
+    cast-used
+    returns
+    returns-2
+    header-stands-requires
+    returns-3
+    slice-aggregate-scan-words
+    scan-words-requires
+    returns-4)

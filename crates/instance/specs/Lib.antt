@@ -1,0 +1,6 @@
+pub mod Header
+pub mod Rows
+pub mod Sound
+pub mod Insert
+pub mod Substitute
+pub mod NullCounts

@@ -1,0 +1,6 @@
+// The instance (document 01: the plot): a header by value, and rows as words in a lent slice.
+pub mod header;
+pub mod insert;
+pub mod null_counts;
+pub mod scan;
+pub mod substitute;

@@ -1,0 +1,93 @@
+// One pass over an instance that tells whether it is sound, and how many rows it has.
+ghost use mathlib.Core.Path.{_≡_};
+ghost use Prim.Native.Nat.{_≤_};
+ghost use lib.ListN.{length};
+ghost use Rattle.instance.specs.Header.{headerStands, maxRelations, maxWords};
+ghost use Rattle.instance.specs.Sound.{scanned, scannedWords};
+use super::header::COLUMNS;
+use super::header::Header;
+use super::header::RELATIONS;
+use super::header::WORDS;
+use calculus::cell::is_cell;
+
+pub enum Scanned {
+    Rows(u32),
+    Unsound,
+}
+
+// Whether a header has 1 to 8 relations, of 1 to 6 columns each, and no columns for the others.
+fn header_stands(relations: u32, arities: &[u32; 8]) -> bool
+    requires { ⌜ length (now arities) ≡ maxRelations ⌝ }
+    ensures { λ r. ⌜ r ≡ headerStands relations (now (arities .entry)) ⌝ }
+{
+    if relations < 1 {
+        return false;
+    }
+    if RELATIONS < relations {
+        return false;
+    }
+    let mut i = 0;
+    while i < 8 {
+        let a = arities[i];
+        if i < relations as usize {
+            if a < 1 {
+                return false;
+            }
+            if COLUMNS < a {
+                return false;
+            }
+        } else if a != 0 {
+            return false;
+        }
+        i += 1;
+    }
+    true
+}
+
+// The number of rows that the words stand for, or that they stand for none.
+fn scan_words(relations: u32, arities: &[u32; 8], words: &[u32]) -> Scanned
+    requires { ⌜ (relations ≤ maxRelations) × (length (now words) ≤ maxWords) ⌝ }
+    ensures { λ r. ⌜ r ≡ scannedWords relations (now (arities .entry)) (now (words .entry)) ⌝ }
+{
+    let mut rows: u32 = 0;
+    let mut left: u32 = 0;
+    let mut i = 0;
+    while i < words.len() {
+        let w = words[i];
+        if left == 0 {
+            if relations <= w {
+                return Scanned::Unsound;
+            }
+            left = arities[w as usize];
+            rows += 1;
+        } else {
+            if !is_cell(w) {
+                return Scanned::Unsound;
+            }
+            left -= 1;
+        }
+        i += 1;
+    }
+    if left != 0 {
+        return Scanned::Unsound;
+    }
+    Scanned::Rows(rows)
+}
+
+pub fn scan(header: Header, plot: &[u32]) -> Scanned
+    ensures { λ r. ⌜ r ≡ scanned header (now (plot .entry)) ⌝ }
+{
+    let relations = header.relations;
+    let arities = header.arities;
+    let used = header.used as usize;
+    if WORDS < used {
+        return Scanned::Unsound;
+    }
+    if plot.len() < used {
+        return Scanned::Unsound;
+    }
+    if !header_stands(relations, &arities) {
+        return Scanned::Unsound;
+    }
+    scan_words(relations, &arities, &plot[..used])
+}
