@@ -1,0 +1,62 @@
+// Reading a card into an instance.
+ghost use mathlib.Core.Path.{_≡_};
+ghost use Rattle.calculus.specs.declared.answer.Answer.the-variants.{Refused};
+ghost use Rattle.card.specs.Decode.{decoded, noHeader};
+
+use super::head::read_head;
+use super::measure::{measure, Needed};
+use super::write::write_rows;
+use calculus::answer::Answer;
+use calculus::cell::NULLS;
+use calculus::refusal::{BYTES_LEFT_OVER, NO_ROOM, NULLS_EXHAUSTED};
+use instance::header::{Header, Stored, WORDS};
+
+fn refused(why: u32) -> Stored
+    ensures answer { λ r. ⌜ r .answer ≡ Refused why ⌝ }
+    ensures header { λ r. ⌜ r .header ≡ noHeader ⌝ }
+{
+    Stored {
+        answer: Answer::Refused(why),
+        header: Header { relations: 0, arities: [0u32; 8], used: 0 },
+    }
+}
+
+// Nothing is written before everything is known to fit.
+pub fn decode(card: &[u8], plot: &mut [u32]) -> Stored
+    ensures answer { λ r. ⌜ r .answer ≡ decoded (now (card .entry)) (now (plot .entry)) .answer ⌝ }
+    ensures header { λ r. ⌜ r .header ≡ decoded (now (card .entry)) (now (plot .entry)) .header ⌝ }
+    ensures words { λ r. ⌜ now (plot .exit) ≡ decoded (now (card .entry)) (now (plot .entry)) .words ⌝ }
+{
+    let head = read_head(card);
+    let opened = head.answer;
+    let relations = head.relations;
+    let arities = head.arities;
+    let count = match opened {
+        Answer::Done(count) => count,
+        Answer::Refused(why) => { return refused(why); }
+    };
+    let start = relations as usize + 3;
+    let needed = measure(card, start, relations, &arities, count);
+    let total = match needed {
+        Needed::Records(total) => total,
+        Needed::Refused(why) => { return refused(why); }
+    };
+    if total.end < card.len() {
+        return refused(BYTES_LEFT_OVER);
+    }
+    if NULLS < total.highest + total.blanks {
+        return refused(NULLS_EXHAUSTED);
+    }
+    let words = total.words as usize;
+    if WORDS < words {
+        return refused(NO_ROOM);
+    }
+    if plot.len() < words {
+        return refused(NO_ROOM);
+    }
+    write_rows(plot, card, relations, &arities, count, total.highest + 1);
+    Stored {
+        answer: Answer::Done(total.words),
+        header: Header { relations, arities, used: total.words },
+    }
+}

@@ -1,0 +1,33 @@
+-- What a header slice of ten words, or of another number, makes of an answer and of what is lent. Assumes nothing.
+use Prim.Native.Nat.{ℕ}
+use mathlib.Core.Path.{_≡_, sym, ap, _∙_}
+use mathlib.Core.List.{List}
+use lib.ListN.{length}
+use borrow.Author.Tests.{eq-eqb, ne-eqb}
+use Rattle.calculus.specs.declared.answer.Answer.{Answer}
+use Rattle.calculus.specs.declared.answer.Answer.the-variants.{Refused}
+use Rattle.calculus.specs.Refusal.{unsound}
+use Rattle.instance.specs.declared.header.Header.{Header}
+use Rattle.host.specs.Words.{headerLength, headerOf, headed, ifHeaded}
+
+module _ (hs : List ℕ) where
+  pub headed-no : (length hs ≡ headerLength → ⊥) → (a : Answer) → headed hs a ≡ Refused unsound
+  headed-no h a = rw (ne-eqb (length hs) headerLength h)
+
+  pub kept-no : {A : Type 0} → (length hs ≡ headerLength → ⊥) → (new old : A) → ifHeaded hs new old ≡ old
+  kept-no h new old = rw (ne-eqb (length hs) headerLength h)
+
+  module _ (ten : length hs ≡ headerLength) where
+    pub headed-yes : (a : Answer) → headed hs a ≡ a
+    headed-yes a = rw (eq-eqb (length hs) headerLength ten)
+
+    pub kept-yes : {A : Type 0} → (new old : A) → ifHeaded hs new old ≡ new
+    kept-yes new old = rw (eq-eqb (length hs) headerLength ten)
+
+    -- a call that was handed the header of the slice
+    module _ {h : Header} (is : h ≡ headerOf hs) where
+      pub answered : (call : Header → Answer) {a : Answer} → a ≡ call h → a ≡ headed hs (call (headerOf hs))
+      answered call e = e ∙ ap call is ∙ sym (headed-yes (call (headerOf hs)))
+
+      pub left : {A : Type 0} (call : Header → A) (old : A) {x : A} → x ≡ call h → x ≡ ifHeaded hs (call (headerOf hs)) old
+      left call old e = e ∙ ap call is ∙ sym (kept-yes (call (headerOf hs)) old)

@@ -1,0 +1,57 @@
+-- `host::plotask_substitute` meets its contract: a header slice of another length is refused, and any other makes the library's call. Assumes nothing.
+use mathlib.Core.Path.{_≡_, sym, ap, _∙_}
+use Rattle.calculus.specs.declared.answer.Answer.{Answer}
+use Rattle.calculus.specs.Answer.{numberOf}
+use Rattle.instance.specs.Substitute.{substituted, substitutedWords}
+use Rattle.host.specs.Words.{valueOf}
+use Rattle.host.proofs.Headed.{headed-no, kept-no, answered, left}
+use Rattle.host.specs.Calls.{substituteAnswer, substituteWords}
+use borrow.Author.Needs.{needs}
+use Rattle.host.proofs.plotask_substitute.Statement.{statement}
+use Rattle.host.proofs.plotask_substitute.Tie as tie
+
+returns : tie.Need-returns
+unfolding substituteAnswer substituteWords
+returns c =
+    let hs = c .before .before .before .args .header .now in
+    let a = headed-no hs (c .if1 .taken) _ in
+    (sym (ap numberOf a), (sym (kept-no hs (c .if1 .taken) _ _), sym (ap (λ (x : Answer). valueOf x (c .before .before .before .args .count .now)) a)))
+
+read-header-requires : tie.Need-read-header-requires
+read-header-requires c κs = search needs
+
+substitute-requires : tie.Need-substitute-requires
+substitute-requires c κs = search needs
+
+value-requires : tie.Need-value-requires
+value-requires c κs = search needs
+
+number-requires : tie.Need-number-requires
+number-requires c κs = search needs
+
+same-length : tie.Need-same-length
+same-length c = search needs
+
+returns-2 : tie.Need-returns-2
+unfolding substituteAnswer substituteWords
+returns-2 c =
+    let args = c .before .before .before .before .before .before .before .before .before .before .before .args in
+    let hs = args .header .now in
+    let ten = c .before .before .before .before .before .before .before .before .if1 .left in
+    let is = c .before .before .before .before .before .before .before .read-header .ensures in
+    let made = c .before .before .before .before .before .substitute .ensures in
+    let a = answered hs ten is (λ h. substituted h (args .plot .now) (args .mark) (args .cell)) (made .0) in
+    (c .number .ensures ∙ ap numberOf a,
+    (left hs ten is (λ h. substitutedWords h (args .plot .now) (args .mark) (args .cell)) _ (made .1), c .before .value .ensures ∙ ap (λ (x : Answer). valueOf x (args .count .now)) a))
+
+pub plotask-substitute-spec : {M : Type 1} → statement M
+plotask-substitute-spec =
+    tie.close
+    (tie.spec
+    returns
+    read-header-requires
+    substitute-requires
+    value-requires
+    number-requires
+    same-length
+    returns-2)

@@ -1,0 +1,115 @@
+// The calls for a host in C, on numbers and slices: each answers 0 where it is accepted, else the number of the refusal.
+ghost use mathlib.Core.Path.{_≡_};
+ghost use Rattle.calculus.specs.Answer.{numberOf};
+ghost use Rattle.host.specs.Words.{valueOf};
+ghost use Rattle.host.specs.Calls.{decodeAnswer, decodeHeader, decodeWords};
+ghost use Rattle.host.specs.Calls.{insertAnswer, insertHeader, insertWords};
+ghost use Rattle.host.specs.Calls.{substituteAnswer, substituteWords, countsAnswer, countsWords, encodeAnswer, encodeBytes};
+
+mod words;
+
+use calculus::refusal::UNSOUND;
+use words::number;
+use words::read_header;
+use words::value;
+use words::put_header;
+
+// Reading a card.
+#[no_mangle]
+pub extern "C" fn plotask_decode(card: &[u8], header: &mut [u32], plot: &mut [u32]) -> u32
+    ensures number { λ r. ⌜ r ≡ numberOf (decodeAnswer (now (card .entry)) (now (header .entry)) (now (plot .entry))) ⌝ }
+    ensures header { λ r. ⌜ now (header .exit) ≡ decodeHeader (now (card .entry)) (now (header .entry)) (now (plot .entry)) ⌝ }
+    ensures words { λ r. ⌜ now (plot .exit) ≡ decodeWords (now (card .entry)) (now (header .entry)) (now (plot .entry)) ⌝ }
+{
+    if header.len() != 10 {
+        return UNSOUND;
+    }
+    let stored = card::decode::decode(card, plot);
+    let answer = stored.answer;
+    let new = stored.header;
+    put_header(header, answer, new);
+    number(answer)
+}
+
+// Entering a row.
+#[no_mangle]
+pub extern "C" fn plotask_insert(
+    header: &mut [u32],
+    plot: &mut [u32],
+    relation: u32,
+    cells: &[u32],
+) -> u32
+    ensures number { λ r. ⌜ r ≡ numberOf (insertAnswer (now (header .entry)) (now (plot .entry)) relation (now (cells .entry))) ⌝ }
+    ensures header { λ r. ⌜ now (header .exit) ≡ insertHeader (now (header .entry)) (now (plot .entry)) relation (now (cells .entry)) ⌝ }
+    ensures words { λ r. ⌜ now (plot .exit) ≡ insertWords (now (header .entry)) (now (plot .entry)) relation (now (cells .entry)) ⌝ }
+{
+    if header.len() != 10 {
+        return UNSOUND;
+    }
+    let stored = instance::insert::insert(read_header(header), plot, relation, cells);
+    let answer = stored.answer;
+    let new = stored.header;
+    put_header(header, answer, new);
+    number(answer)
+}
+
+// A fill; count is the number of cells that held the mark.
+#[no_mangle]
+pub extern "C" fn plotask_substitute(
+    header: &[u32],
+    plot: &mut [u32],
+    mark: u32,
+    cell: u32,
+    count: &mut u32,
+) -> u32
+    ensures number { λ r. ⌜ r ≡ numberOf (substituteAnswer (now (header .entry)) (now (plot .entry)) mark cell) ⌝ }
+    ensures words { λ r. ⌜ now (plot .exit) ≡ substituteWords (now (header .entry)) (now (plot .entry)) mark cell ⌝ }
+    ensures count { λ r. ⌜ now (count .exit) ≡ valueOf (substituteAnswer (now (header .entry)) (now (plot .entry)) mark cell) (now (count .entry)) ⌝ }
+{
+    if header.len() != 10 {
+        return UNSOUND;
+    }
+    let answer = instance::substitute::substitute(read_header(header), plot, mark, cell);
+    *count = value(answer, *count);
+    number(answer)
+}
+
+// The census; count is 200.
+#[no_mangle]
+pub extern "C" fn plotask_null_counts(
+    header: &[u32],
+    plot: &[u32],
+    counts: &mut [u32],
+    count: &mut u32,
+) -> u32
+    ensures number { λ r. ⌜ r ≡ numberOf (countsAnswer (now (header .entry)) (now (plot .entry)) (now (counts .entry))) ⌝ }
+    ensures words { λ r. ⌜ now (counts .exit) ≡ countsWords (now (header .entry)) (now (plot .entry)) (now (counts .entry)) ⌝ }
+    ensures count { λ r. ⌜ now (count .exit) ≡ valueOf (countsAnswer (now (header .entry)) (now (plot .entry)) (now (counts .entry))) (now (count .entry)) ⌝ }
+{
+    if header.len() != 10 {
+        return UNSOUND;
+    }
+    let answer = instance::null_counts::null_counts(read_header(header), plot, counts);
+    *count = value(answer, *count);
+    number(answer)
+}
+
+// Writing a card; count is the number of its bytes.
+#[no_mangle]
+pub extern "C" fn plotask_encode(
+    header: &[u32],
+    plot: &[u32],
+    card: &mut [u8],
+    count: &mut u32,
+) -> u32
+    ensures number { λ r. ⌜ r ≡ numberOf (encodeAnswer (now (header .entry)) (now (plot .entry)) (now (card .entry))) ⌝ }
+    ensures bytes { λ r. ⌜ now (card .exit) ≡ encodeBytes (now (header .entry)) (now (plot .entry)) (now (card .entry)) ⌝ }
+    ensures count { λ r. ⌜ now (count .exit) ≡ valueOf (encodeAnswer (now (header .entry)) (now (plot .entry)) (now (card .entry))) (now (count .entry)) ⌝ }
+{
+    if header.len() != 10 {
+        return UNSOUND;
+    }
+    let answer = card::encode::encode(read_header(header), plot, card);
+    *count = value(answer, *count);
+    number(answer)
+}
