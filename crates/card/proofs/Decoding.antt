@@ -1,14 +1,14 @@
 -- Reading a card: what it answers where a test fails, and where all hold. Assumes nothing.
 use Prim.Native.Nat.{ℕ, zero, suc, _+_, _-_, _*_, _≤_, _<_}
-use mathlib.Core.Path.{_≡_, refl, sym, ap, _∙_}
-use mathlib.Core.Bool.{Bool, true, false, _&&_}
+use mathlib.Core.Path.{_≡_, refl, ap, _∙_}
+use mathlib.Core.Bool.{true, false, and-eq-true-iff}
 use mathlib.Core.List.{List, [], _∷_, _++_}
 use native.Mathlib.Omega.{arith}
 use native.Mathlib.Numerals.{add-one}
 use lib.ListN.{length, drop, getD, length-append, length-drop}
 use lib.Count.{ones}
 use lib.Dec.{leb, eqb}
-use borrow.Author.Tests.{le-leb, lt-leb, eq-eqb, ne-eqb}
+use borrow.Author.Tests.{leb-true, le-leb, lt-leb, eq-eqb, ne-eqb}
 use Rattle.calculus.specs.declared.answer.Answer.{Answer}
 use Rattle.calculus.specs.declared.answer.Answer.the-variants.{Done, Refused}
 use Rattle.calculus.specs.Cell.{nulls}
@@ -20,21 +20,15 @@ use Rattle.instance.specs.Rows.{wordsOf}
 use Rattle.card.specs.declared.measure.Total.{Total}
 use Rattle.card.specs.declared.measure.Needed.the-variants as needed
 use Rattle.card.specs.Parse.{Parsed, read, refused, andThen}
-use Rattle.card.specs.Format.{Field, written, blank, Record, Head, Card, readRecord, readRecords, readHead, readCard}
+use Rattle.card.specs.Format.{Record, Head, readRecord, readRecords, readHead, readCard}
 use Rattle.card.specs.Blanks.{blanksIn, blanks, highest, highestIn, numbered, numberedRows}
-use Rattle.card.specs.Decode.{Decoded, decoded, decodedFrom, accepted, cardWords, noHeader}
+use Rattle.card.specs.Decode.{Decoded, decoded, decodedFrom, accepted, noHeader}
 use Rattle.card.specs.Measure.{openedHead, measuredRecords, wordsIn, total}
 use Rattle.card.specs.Write.{WriteRows, wordsRead}
-use Rattle.card.proofs.Order.{never-both, read-first}
-use Rattle.card.proofs.Fields.{written-or-blank}
+use Rattle.card.proofs.Order.{read-first}
+use Rattle.card.proofs.Fields.{written-or-blank, numbered-length}
 use Rattle.card.proofs.Records.{RecordRead, record-read, arity-low}
 use Rattle.card.proofs.Opening.{HeadRead}
-
-numbered-length : (m : ℕ) (fs : List Field) → length (numbered m fs) ≡ length fs
-unfolding numbered
-numbered-length m [] = refl
-numbered-length m (written c ∷ fs) = ap suc (numbered-length m fs)
-numbered-length m (blank ∷ fs) = ap suc (numbered-length (suc m) fs)
 
 -- the words of records, whatever the blanks get
 pub words-count : (m : ℕ) (rs : List Record) → length (wordsOf (numberedRows m rs)) ≡ wordsIn rs
@@ -56,9 +50,9 @@ one-more : (n : ℕ) (ars : List ℕ) (k : ℕ) (bs : List ℕ) {r : Record} {be
 unfolding highest blanks
 one-more n ars k bs {r} {between} {rest} {rs} stand q s =
     let shorter : length between ≡ length bs - (2 + 3 * ones (getD bs 1 0)) =
-        ap length (q .behind) ∙ length-drop (2 + 3 * ones (getD bs 1 0)) bs in
+    ap length (q .behind) ∙ length-drop (2 + 3 * ones (getD bs 1 0)) bs in
     let narrow : blanksIn (r .fields) ≤ maxColumns =
-        omega (arith, written-or-blank (r .fields), q .columns, arity-low n ars (getD bs 0 0) stand) in
+    omega (arith, written-or-blank (r .fields), q .columns, arity-low n ars (getD bs 0 0) stand) in
     let low : highestIn (r .fields) ≤ nulls = q .low in
     record { shorter = omega (arith, s .shorter); low = omega (arith, s .low); few = omega (arith, s .few) }
 
@@ -117,8 +111,8 @@ module _ (card slice : List ℕ) where
       pub rest : List ℕ
       pub was-read : readRecords n ars count (drop (n + 3) card) ≡ read records rest
       pub whole :
-        decoded card slice
-        ≡ decodedFrom (read (record { head = record { relations = n; arities = ars; count = count }; records = records }) rest) slice
+          decoded card slice
+          ≡ decodedFrom (read (record { head = record { relations = n; arities = ars; count = count }; records = records }) rest) slice
       pub total-is : t ≡ total (length card) records rest
       pub known : RecordsRead count (drop (n + 3) card) records rest
 
@@ -183,14 +177,17 @@ module _ (card slice : List ℕ) where
       unfolding decodedFrom accepted
       too-small l m r = c .whole ∙ rw (ends l, enough m, size (suc (highest (c .records))), r)
 
-      pub may-write : t .highest + t .blanks ≤ nulls → t .words ≤ length slice → WriteRows slice card n ars count (t .highest + 1)
-      may-write m r = record {
-        few = h .few;
-        narrow = λ x known. arity-low n ars x (h .stand);
-        reads = rw (c .was-read);
-        free = rw (c .was-read) (omega (arith, sum-is, next-is));
-        room = rw (c .was-read) (omega (arith, size (t .highest + 1)));
-      }
+      pub may-write : t .highest + t .blanks ≤ nulls → hasRoom (t .words) (length slice) ≡ true → WriteRows slice card n ars count (t .highest + 1)
+      may-write m r =
+          let fits : t .words ≤ length slice =
+          leb-true (t .words) (length slice) (and-eq-true-iff (leb (t .words) maxWords) (leb (t .words) (length slice)) .0 r .1) in
+          record {
+            few = h .few;
+            narrow = λ x known. arity-low n ars x (h .stand);
+            reads = rw (c .was-read);
+            free = rw (c .was-read) (omega (arith, sum-is, next-is));
+            room = rw (c .was-read) (omega (arith, size (t .highest + 1)));
+          }
 
       pub all-hold : length card ≤ t .end → t .highest + t .blanks ≤ nulls → hasRoom (t .words) (length slice) ≡ true
           → decoded card slice
@@ -198,8 +195,8 @@ module _ (card slice : List ℕ) where
             answer = Done (t .words);
             header = record { relations = n; arities = ars; used = t .words };
             words =
-              wordsRead n ars count (t .highest + 1) (drop (n + 3) card)
-              ++ drop (length (wordsRead n ars count (t .highest + 1) (drop (n + 3) card))) slice;
+                wordsRead n ars count (t .highest + 1) (drop (n + 3) card)
+                ++ drop (length (wordsRead n ars count (t .highest + 1) (drop (n + 3) card))) slice;
           }
       unfolding decodedFrom accepted
       all-hold l m r = c .whole ∙ rw (words-are, ends l, enough m, size (suc (highest (c .records))), r)

@@ -1,12 +1,12 @@
 -- What the writer's answer says: the size of a card, and the card as its head and its records. Assumes nothing.
 use Prim.Native.Nat.{ℕ, _+_, _-_, _*_, _/_, _%_, _≤_, _<_}
 use mathlib.Core.Path.{_≡_, refl, sym, _∙_}
-use mathlib.Core.Bool.{Bool, true, false}
+use mathlib.Core.Bool.{Bool, true, false, _&&_}
 use mathlib.Core.List.{List, [], _∷_, _++_, append-assoc}
 use native.Mathlib.Omega.{arith}
 use lib.ListN.{length, take, drop, length-append, length-take}
 use lib.Seq.{take-at, drop-at, drop-drop, length-take-le}
-use lib.Dec.{ltb}
+use lib.Dec.{leb}
 use borrow.Rule.Slice.PartMut.{putMid}
 use borrow.Author.Tests.{le-leb, lt-leb, ltb-true, ltb-false}
 use Rattle.calculus.specs.declared.answer.Answer.the-variants.{Done, Refused}
@@ -15,8 +15,10 @@ use Rattle.instance.specs.declared.header.Header.{Header}
 use Rattle.instance.specs.declared.scan.Scanned.the-variants.{Rows}
 use Rattle.instance.specs.Header.{headerStands, arityOf, maxRelations, maxColumns}
 use Rattle.instance.specs.Sound.{sound, rows, scanned, tally}
-use Rattle.instance.proofs.Rows.{headed, parts}
+use Rattle.instance.proofs.Rows.{both, headed, parts}
 use Rattle.card.specs.Encode.{headBytes, recordsBytes, cardBytes, encoded, encodedBytes}
+use Rattle.instance.specs.Header.{aritiesStand}
+use Rattle.card.proofs.Records.{arity-low}
 use Rattle.card.proofs.Parts.{part-to-end, put-to-end}
 use Rattle.card.proofs.RecordSteps.{records-bytes, records-size}
 
@@ -31,11 +33,8 @@ scanned-rows h ws k e = go (sound h ws) e
 
 -- no relation has more columns than 6
 pub narrow : (n : ℕ) (ars : List ℕ) → headerStands n ars ≡ true → (r : ℕ) → arityOf ars r ≤ maxColumns
-narrow n ars e r = go (ltb r n) refl
-  where
-    go : (b : Bool) → ltb r n ≡ b → arityOf ars r ≤ maxColumns
-    go true q = headed n ars e .columns r (ltb-true r n q) .1
-    go false q = rw (headed n ars e .others r (ltb-false r n q)) (omega arith)
+unfolding headerStands
+narrow n ars e r = arity-low n ars r (both (leb 1 n && leb n maxRelations) (aritiesStand n ars) e .1)
 
 -- a head, and then records in the part behind it, over the first elements of a list
 pub joined : (head records out : List ℕ) (start : ℕ) (lent back : List ℕ) → length head ≡ start → start + length records ≤ length out

@@ -1,6 +1,6 @@
 -- Reading the fields of a record: the bits of its map that stand are counted, and so many fields are read in a row. Assumes nothing.
 use Prim.Native.Nat.{ℕ, zero, suc, _+_, _-_, _*_, _/_, _%_, _^_, _≤_, _<_, max}
-use mathlib.Core.Path.{_≡_, refl, sym, ap, _∙_}
+use mathlib.Core.Path.{_≡_, refl, ap, _∙_}
 use mathlib.Core.Bool.{Bool, true, false, cond, _&&_, _||_}
 use mathlib.Core.List.{List, [], _∷_}
 use native.Mathlib.Nat.{lt-of-lt-of-le, le-trans}
@@ -17,8 +17,9 @@ use Rattle.calculus.specs.Cell.{isCell, markOf, constants, nulls}
 use Rattle.calculus.specs.Refusal.{cut-short, not-a-cell}
 use Rattle.card.specs.Parse.{Parsed, read, refused, andThen, ruled}
 use Rattle.card.specs.Format.{Field, written, blank, fieldAt, readField, readFields}
-use Rattle.card.specs.Blanks.{blanksIn, highestIn}
+use Rattle.card.specs.Blanks.{blanksIn, highestIn, numbered}
 use Rattle.card.specs.Measure.{readWritten, highestOf, measuredFields, writtenOf}
+use Rattle.card.proofs.Bytes.{cell-below}
 use Rattle.card.proofs.Order.{never-both, read-first}
 
 -- Fewer leading zeros of 32 bits than the a lowest bits leave: a bit stands above those.
@@ -34,15 +35,7 @@ leading-beyond a x f l =
 
 -- a written null is at most 200
 pub mark-low : (c : ℕ) → isCell c ≡ true → markOf c ≤ nulls
-unfolding isCell
-mark-low c = go (ltb c constants) refl (ltb constants c) refl (leb c (constants + nulls)) refl
-  where
-    go : (b : Bool) → ltb c constants ≡ b → (d : Bool) → ltb constants c ≡ d → (e : Bool) → leb c (constants + nulls) ≡ e
-        → b || (d && e) ≡ true → markOf c ≤ nulls
-    go true p d q e r h = omega (arith, ltb-true c constants p)
-    go false p true q true r h = omega (arith, leb-true c (constants + nulls) r)
-    go false p true q false r h = let z : _≡_ {A = ℕ} 0 1 = cc in omega arith
-    go false p false q e r h = let z : _≡_ {A = ℕ} 0 1 = cc in omega arith
+mark-low c e = omega (arith, cell-below c e)
 
 pub record FieldRead (bs : List ℕ) (c : ℕ) (rest : List ℕ) : Type 0 where
   pub cell : isCell c ≡ true
@@ -207,3 +200,10 @@ unfolding writtenOf highestOf highestIn
 highest-written [] = refl
 highest-written (written c ∷ fs) = rw (highest-written fs)
 highest-written (blank ∷ fs) = highest-written fs
+
+-- a cell for every column, whatever the blanks get
+pub numbered-length : (m : ℕ) (fs : List Field) → length (numbered m fs) ≡ length fs
+unfolding numbered
+numbered-length m [] = refl
+numbered-length m (written c ∷ fs) = ap suc (numbered-length m fs)
+numbered-length m (blank ∷ fs) = ap suc (numbered-length (suc m) fs)

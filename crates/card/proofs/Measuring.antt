@@ -1,6 +1,6 @@
 -- The first pass over a card's records: how it starts, goes on behind a record, and ends. Assumes nothing.
 use Prim.Native.Nat.{ℕ, suc, _+_, _-_, _*_, _≤_, _<_, max}
-use mathlib.Core.Path.{_≡_, refl, sym, ap, _∙_}
+use mathlib.Core.Path.{_≡_, sym, ap, _∙_}
 use mathlib.Core.Bool.{true}
 use mathlib.Core.List.{List}
 use native.Mathlib.Omega.{arith}
@@ -9,7 +9,6 @@ use lib.Seq.{drop-drop}
 use Rattle.instance.specs.Header.{aritiesStand, maxColumns}
 use Rattle.card.specs.declared.measure.Measured.the-variants as measured
 use Rattle.card.specs.declared.measure.Needed.the-variants as needed
-use Rattle.card.specs.Parse.{read}
 use Rattle.card.specs.Format.{readRecord, readRecords}
 use Rattle.card.specs.Blanks.{blanks, highest}
 use Rattle.card.specs.Measure.{measuredRecord, measuredRecords, wordsIn}
@@ -23,8 +22,8 @@ module _ (card : List ℕ) (start n : ℕ) (ars : List ℕ) (count : ℕ) where
     pub few-words : words + 7 * left ≤ 7 * count
     pub few-blanks : blank + 6 * left ≤ 6 * count
     pub sum :
-      measuredRecords (length card) (readRecords n ars count (drop start card))
-      ≡ added words blank top (measuredRecords (length card) (readRecords n ars left (drop at card)))
+        measuredRecords (length card) (readRecords n ars count (drop start card))
+        ≡ added words blank top (measuredRecords (length card) (readRecords n ars left (drop at card)))
 
   pub measuring-starts : start ≤ length card → Measuring 0 0 0 start count
   measuring-starts h = record {
@@ -68,14 +67,14 @@ module _ (card : List ℕ) (start n : ℕ) (ars : List ℕ) (count : ℕ) where
     turn arity written h stand e =
         let s = step n ars (drop at card) arity written h e in
         let low : arity ≤ maxColumns =
-            omega (arith, s .arity-is, record-read n ars (drop at card) (s .was-read) .columns, arity-low n ars (getD (drop at card) 0 0) stand) in
+        omega (arith, s .arity-is, record-read n ars (drop at card) (s .was-read) .columns, arity-low n ars (getD (drop at card) 0 0) stand) in
         let long : 2 + 3 * written ≤ length card - at = rw (length-drop at card) at (s .long) in
         let fewer : written ≤ arity = s .fewer in
         let rest = measuredRecords (length card) (readRecords n ars (left - 1) (drop (at + (2 + 3 * written)) card)) in
         let more : measuredRecords (length card) (readRecords n ars left (drop at card)) ≡ added (1 + arity) (arity - written) h rest =
-            ap (λ (k : ℕ). measuredRecords (length card) (readRecords n ars k (drop at card))) one
-            ∙ records-more (length card) n ars (left - 1) (drop at card) arity written h e
-            ∙ rw (drop-drop (2 + 3 * written) at card) in
+        ap (λ (k : ℕ). measuredRecords (length card) (readRecords n ars k (drop at card))) one
+        ∙ records-more (length card) n ars (left - 1) (drop at card) arity written h e
+        ∙ rw (drop-drop (2 + 3 * written) at card) in
         made arity written h low fewer (omega arith) (m .sum ∙ ap (added words blank top) more ∙ added-more words blank top (1 + arity) (arity - written) h rest)
 
     pub measuring-refused : (why : ℕ) → measuredRecord (readRecord n ars (drop at card)) ≡ measured.Refused why

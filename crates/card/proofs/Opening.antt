@@ -8,28 +8,24 @@ use native.Mathlib.Numerals.{add-one}
 use lib.ListN.{length, take, drop, getD, set, replicate, length-set, length-drop, take-append-drop}
 use lib.Seq.{drop-drop, drop-set-lt, take-suc-set, getD-drop, length-take-le}
 use native.Mathlib.Nat.{add-zero}
-use lib.Dec.{leb, ltb, eqb}
-use borrow.Author.Tests.{leb-true, eqb-true, le-leb, lt-leb}
+use lib.Dec.{leb}
+use borrow.Author.Tests.{leb-true}
 use Rattle.calculus.specs.declared.answer.Answer.the-variants.{Done, Refused}
 use Rattle.calculus.specs.Refusal.{cut-short, bad-relation-count, bad-arity}
-use Rattle.instance.specs.Header.{isArity, aritiesStand, maxRelations, maxColumns}
-use Rattle.card.specs.declared.head.Arities as declared-arities
+use Rattle.instance.specs.Header.{isArity, aritiesStand, maxRelations}
 use Rattle.card.specs.declared.head.Head as declared-head
 use Rattle.card.specs.Parse.{Parsed, read, refused, andThen, readByte}
 use Rattle.card.specs.Format.{Head, padded, readArities, readCount, readHead}
-use Rattle.card.specs.Measure.{openedArities, openedHead}
+use Rattle.card.specs.Measure.{noArities, openedArities, noHead, openedHead}
 use Rattle.card.proofs.Order.{never-both, read-first, byte-read}
-
--- what a refusal answers
-abbrev pub noArities : ℕ → declared-arities.Arities
-noArities why = record { answer = Refused why; arities = replicate maxRelations 0 }
-
-abbrev pub noHead : ℕ → declared-head.Head
-noHead why = record { answer = Refused why; relations = 0; arities = replicate maxRelations 0 }
 
 -- a refusal counts no rows
 pub none-counted : (why n : ℕ) → Refused why ≡ Done n → n < 65536
 none-counted why n e = let z : _≡_ {A = ℕ} 0 1 = cc in omega arith
+
+pub refused-head : (card : List ℕ) {r : declared-head.Head} (why : ℕ) → r ≡ noHead why → openedHead (readHead card) ≡ noHead why
+    → (r ≡ openedHead (readHead card)) × ((n : ℕ) → r .answer ≡ Done n → n < 65536)
+refused-head card why p e = rw (p, e) (refl, none-counted why)
 
 -- The arities that are still to come, at least one: it refuses, or goes on behind one.
 module _ (before : List ℕ) (k : ℕ) where
@@ -85,18 +81,18 @@ module _ (card : List ℕ) (n : ℕ) where
         let a : length ars ≡ maxRelations = o .long in
         let byte : getD (drop (i + 1) card) 0 0 ≡ getD card (i + 1) 0 = simp (getD-drop, add-zero) in
         let taken : take (i + 1) (set ars i (getD card (i + 1) 0)) ≡ take i ars ++ getD card (i + 1) 0 ∷ [] =
-            ap (λ (k : ℕ). take k (set ars i (getD card (i + 1) 0))) (add-one i) ∙ take-suc-set ars i (getD card (i + 1) 0) (omega arith) in
+        ap (λ (k : ℕ). take k (set ars i (getD card (i + 1) 0))) (add-one i) ∙ take-suc-set ars i (getD card (i + 1) 0) (omega arith) in
         let k : maxRelations - i ≡ suc (maxRelations - (i + 1)) = omega arith in
         record {
           within = omega arith;
           long = length-set ars i (getD card (i + 1) 0) ∙ a;
           empty =
-            drop-set-lt (i + 1) ars i (getD card (i + 1) 0) (omega arith) ∙ sym (drop-drop 1 i ars) ∙ rw (o .empty, k);
+              drop-set-lt (i + 1) ars i (getD card (i + 1) 0) (omega arith) ∙ sym (drop-drop 1 i ars) ∙ rw (o .empty, k);
           whole =
-            o .whole
-            ∙ ap (λ (k : ℕ). openedArities (take i ars) (readArities k (drop (i + 1) card))) one
-            ∙ arities-more (take i ars) (n - (i + 1)) (drop (i + 1) card) (simp length-drop (omega arith)) (simp (getD-drop, add-zero) e)
-            ∙ rw (byte, taken, drop-drop 1 (i + 1) card);
+              o .whole
+              ∙ ap (λ (k : ℕ). openedArities (take i ars) (readArities k (drop (i + 1) card))) one
+              ∙ arities-more (take i ars) (n - (i + 1)) (drop (i + 1) card) (simp length-drop (omega arith)) (simp (getD-drop, add-zero) e)
+              ∙ rw (byte, taken, drop-drop 1 (i + 1) card);
         }
 
   pub opening-end : (ars : List ℕ) (i : ℕ) → OpeningArities ars i → n ≤ maxRelations → n ≤ i
@@ -252,11 +248,11 @@ module _ (bs : List ℕ) (some : 1 ≤ length bs) (good : isCount (getD bs 0 0) 
         let long : 2 ≤ length rest = omega (arith, left) in
         let n = getD bs 0 0 in
         let hi : getD rest 0 0 ≡ getD bs (n + 1) 0 =
-            rw place (getD-drop (1 + n) bs 0 0 ∙ at-place (1 + n + 0) (n + 1) (omega arith)) in
+        rw place (getD-drop (1 + n) bs 0 0 ∙ at-place (1 + n + 0) (n + 1) (omega arith)) in
         let lo : getD rest 1 0 ≡ getD bs (n + 1 + 1) 0 =
-            rw place (getD-drop (1 + n) bs 1 0 ∙ at-place (1 + n + 1) (n + 1 + 1) (omega arith)) in
+        rw place (getD-drop (1 + n) bs 1 0 ∙ at-place (1 + n + 1) (n + 1 + 1) (omega arith)) in
         let end : drop 2 rest ≡ drop (n + 3) bs =
-            rw place (drop-drop 2 (1 + n) bs ∙ from-place (1 + n + 2) (n + 3) (omega arith)) in
+        rw place (drop-drop 2 (1 + n) bs ∙ from-place (1 + n + 2) (n + 3) (omega arith)) in
         behind ∙ rw (e, count-whole rest long, hi, lo, end)
 
     -- the same of what was read as it was named on the way
@@ -281,7 +277,7 @@ head-made n bs ars rest count end good e f =
     let place : rest ≡ drop (1 + n) (n ∷ bs) = a .behind ∙ drop-drop n 1 (n ∷ bs) in
     let three : 1 + n + 2 ≡ n + 3 = omega arith in
     let last : end ≡ drop (n + 3) (n ∷ bs) =
-        c .1 ∙ ap (drop 2) place ∙ drop-drop 2 (1 + n) (n ∷ bs) ∙ ap (λ (i : ℕ). drop i (n ∷ bs)) three in
+    c .1 ∙ ap (drop 2) place ∙ drop-drop 2 (1 + n) (n ∷ bs) ∙ ap (λ (i : ℕ). drop i (n ∷ bs)) three in
     record {
       was-read = behind (n ∷ bs) (omega arith) good ∙ rw (e, f, last);
       few = leb-true n maxRelations (and-eq-true-iff (leb 1 n) (leb n maxRelations) .0 good .1);

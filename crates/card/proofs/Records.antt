@@ -1,11 +1,11 @@
 -- Reading records: what a record that was read says of its bytes, and what the first pass answers of one record and of the records behind it.
 -- Assumes nothing.
-use Prim.Native.Nat.{ℕ, zero, suc, _+_, _-_, _*_, _/_, _%_, _^_, _≤_, _<_, max}
+use Prim.Native.Nat.{ℕ, zero, suc, _+_, _-_, _*_, _^_, _≤_, _<_, max}
 use mathlib.Core.Path.{_≡_, refl, sym, ap, _∙_}
-use mathlib.Core.Bool.{Bool, true, false, cond, and-eq-true-iff}
+use mathlib.Core.Bool.{true, and-eq-true-iff}
 use mathlib.Core.List.{List, [], _∷_}
 use native.Mathlib.Omega.{arith}
-use lib.ListN.{length, drop, getD, length-drop}
+use lib.ListN.{length, drop, getD}
 use lib.Seq.{drop-drop}
 use lib.Dec.{leb, ltb, eqb}
 use lib.Count.{ones}
@@ -22,8 +22,8 @@ use Rattle.card.specs.declared.measure.Needed.the-variants as needed
 use Rattle.card.specs.Parse.{Parsed, read, refused, andThen, readByte}
 use Rattle.card.specs.Format.{Field, Record, readFields, readRecord, readRecords}
 use Rattle.card.specs.Blanks.{blanksIn, highestIn, blanks, highest}
-use Rattle.card.specs.Measure.{readWritten, highestOf, writtenOf, measuredFields, measuredRecord, measuredRecords, wordsIn}
-use Rattle.card.proofs.Order.{never-both, read-first, byte-read}
+use Rattle.card.specs.Measure.{readWritten, writtenOf, measuredFields, measuredRecord, measuredRecords, wordsIn}
+use Rattle.card.proofs.Order.{read-first, byte-read}
 use Rattle.card.proofs.Fields.{WrittenRead, written-read, onlyWritten, fields-written, fields-columns, written-or-blank, highest-written}
 
 -- the fields of a map that is within the columns

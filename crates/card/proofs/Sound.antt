@@ -23,19 +23,9 @@ use Rattle.card.specs.Format.{Field, written, blank, Record, Head, Card,
 use Rattle.card.specs.Blanks.{blanksIn, blanks, highest, numbered, numberedRows, rowsOf}
 use Rattle.card.specs.Encode.{cardBytes}
 use Rattle.card.specs.Decode.{cardWords, cardHeader, accepted, decodedFrom, decoded}
+use Rattle.card.proofs.Fields.{field-read}
 use Rattle.card.proofs.Order.{never-both, read-first, byte-read}
 use Rattle.card.proofs.RoundTrip.{decode-encode}
-
-pub field-rule : (bs : List ℕ) (c : ℕ) (rest : List ℕ) → readField bs ≡ read c rest → isCell c ≡ true
-unfolding readField
-field-rule [] c rest e = absurd (never-both e)
-field-rule (x ∷ []) c rest e = absurd (never-both e)
-field-rule (x ∷ y ∷ []) c rest e = absurd (never-both e)
-field-rule (x ∷ y ∷ z ∷ bs) c rest e = go (isCell (x * 65536 + y * 256 + z)) refl e
-  where
-    go : (t : Bool) → isCell (x * 65536 + y * 256 + z) ≡ t → ruled t not-a-cell (x * 65536 + y * 256 + z) bs ≡ read c rest → isCell c ≡ true
-    go true t e = let same : x * 65536 + y * 256 + z ≡ c = cc in rw same at t
-    go false t e = absurd (never-both e)
 
 -- a field that stands
 unfoldable fieldStands : Field → Bool
@@ -63,7 +53,7 @@ unfolding fieldStands
 field-stands true bs f rest e =
     let p = read-first (readField bs) _ e in
     let same : written (p .0) ≡ f = cc in
-    rw (← same) (field-rule bs (p .0) (p .1) (p .2))
+    rw (← same) (field-read bs (p .2) .cell)
 field-stands false bs f rest e = let same : blank ≡ f = cc in rw (← same)
 
 fields-stand : (columns bits : ℕ) (bs : List ℕ) (fs : List Field) (rest : List ℕ) → readFields columns bits bs ≡ read fs rest

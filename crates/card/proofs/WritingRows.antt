@@ -13,10 +13,9 @@ use Rattle.instance.specs.Header.{arityOf, maxColumns}
 use Rattle.instance.specs.Rows.{wordsOf}
 use Rattle.card.specs.Parse.{Parsed, read, refused, andThen, isRead, got}
 use Rattle.card.specs.Format.{Field, Record, readFields, readRecord, readRecords}
-use Rattle.card.specs.Format
 use Rattle.card.specs.Blanks.{blanks, blanksIn, numbered, numberedRows}
 use Rattle.card.specs.Write.{WriteRows, wordsRead}
-use Rattle.card.proofs.Fields.{written-or-blank}
+use Rattle.card.proofs.Fields.{written-or-blank, numbered-length}
 use Rattle.card.proofs.Records.{RecordRead, record-read}
 use Rattle.card.proofs.Written.{allRead, cellsRead, never}
 
@@ -58,12 +57,6 @@ module _ (n : ℕ) (ars : List ℕ) where
         wordsRead n ars (suc k) m bs ≡
         (b ∷ cellsRead m a map (drop 2 bs)) ++ wordsRead n ars k (m + (a - ones map)) (drop (2 + 3 * ones map) bs)
 
-  columns-numbered : (m : ℕ) (fs : List Field) → length (numbered m fs) ≡ length fs
-  unfolding numbered
-  columns-numbered m [] = refl
-  columns-numbered m (Format.written c ∷ fs) = ap suc (columns-numbered m fs)
-  columns-numbered m (Format.blank ∷ fs) = ap suc (columns-numbered (suc m) fs)
-
   pub turn :
       (k m : ℕ) (bs : List ℕ) → isRead (readRecords n ars (suc k) bs) ≡ true →
       Turn k m bs (getD bs 0 0) (getD bs 1 0) (arityOf ars (getD bs 0 0))
@@ -79,7 +72,7 @@ module _ (n : ℕ) (ars : List ℕ) where
       record {
         known = r .known;
         fields = ap isRead (r .fields-are);
-        columns = ap (λ (x : List Field). length (numbered m x)) was ∙ columns-numbered m fs ∙ r .columns;
+        columns = ap (λ (x : List Field). length (numbered m x)) was ∙ numbered-length m fs ∙ r .columns;
         fewer = omega (arith, written-or-blank fs, r .columns, r .count);
         long = r .long;
         reads = rw (r .behind) at (f .reads);
@@ -162,12 +155,12 @@ module _ (start card : List ℕ) (n : ℕ) (ars : List ℕ) (count next : ℕ) w
     unfolding others-words
     next-state part e =
         let whole : take used plot ++ part ≡ (take used plot ++ row) ++ drop (used + (1 + a)) plot =
-            ap (λ (x : List ℕ). take used plot ++ x) e ∙
-            ap (λ (x : List ℕ). take used plot ++ (row ++ x)) tail ∙
-            sym (append-assoc (take used plot) row (drop (used + (1 + a)) plot))
+        ap (λ (x : List ℕ). take used plot ++ x) e ∙
+        ap (λ (x : List ℕ). take used plot ++ (row ++ x)) tail ∙
+        sym (append-assoc (take used plot) row (drop (used + (1 + a)) plot))
         in
         let long : length (take used plot ++ part) ≡ length plot =
-            omega (arith, ap length whole, length-append (take used plot ++ row) (drop (used + (1 + a)) plot), head-long, length-drop (used + (1 + a)) plot, fits)
+        omega (arith, ap length whole, length-append (take used plot ++ row) (drop (used + (1 + a)) plot), head-long, length-drop (used + (1 + a)) plot, fits)
         in
         record {
           inside = omega (arith, long, fits);
@@ -230,9 +223,9 @@ module _ (start card : List ℕ) (n : ℕ) (ars : List ℕ) (count next : ℕ) w
   rows-end plot used free at left w done =
       let none : left ≡ 0 = omega arith in
       let all : take used plot ≡ wordsRead n ars count next (drop (n + 3) card) =
-          sym (append-nil (take used plot)) ∙
-          ap (λ (x : ℕ). take used plot ++ wordsRead n ars x free (drop at card)) (sym none) ∙
-          w .words
+      sym (append-nil (take used plot)) ∙
+      ap (λ (x : ℕ). take used plot ++ wordsRead n ars x free (drop at card)) (sym none) ∙
+      w .words
       in
       let size : used ≡ length (wordsRead n ars count next (drop (n + 3) card)) = sym (length-take-le used plot (w .inside)) ∙ ap length all in
       sym (take-append-drop used plot) ∙

@@ -158,11 +158,12 @@ module _ (start : List ℕ) (relation arity map : ℕ) (fields : List ℕ) (next
   written-step part bits free at column w more room odd =
       let left : arity - column ≡ suc (arity - (column + 1)) = omega arith in
       let col = written-column (arity - (column + 1)) bits free (drop at fields) odd (rw left at (w .reads)) in
-      let long : 3 ≤ length (drop at fields) = col .long in
-      (omega (arith, length-drop at fields),
-      row-step part bits free at column (fieldAt (drop at fields)) (bits / 2) free (at + 3) w more room (omega arith)
-      (rw (drop-drop 3 at fields) at (col .reads))
-      (rw left (rw (drop-drop 3 at fields) at (col .cells))))
+      let long : 3 ≤ length (drop at fields) = col .long in (
+        omega (arith, length-drop at fields),
+        row-step part bits free at column (fieldAt (drop at fields)) (bits / 2) free (at + 3) w more room (omega arith)
+            (rw (drop-drop 3 at fields) at (col .reads))
+            (rw left (rw (drop-drop 3 at fields) at (col .cells))),
+      )
 
   -- the next column is blank
   pub blank-step :
@@ -190,9 +191,9 @@ module _ (start : List ℕ) (relation arity map : ℕ) (fields : List ℕ) (next
       let none : arity - column ≡ 0 = omega arith in
       let end : column + 1 ≡ 1 + arity = omega arith in
       let whole : take (column + 1) part ≡ relation ∷ cellsRead next arity map fields =
-          sym (append-nil (take (column + 1) part)) ∙
-          ap (λ (n : ℕ). take (column + 1) part ++ cellsRead free n bits (drop at fields)) (sym none) ∙
-          w .row
+      sym (append-nil (take (column + 1) part)) ∙
+      ap (λ (n : ℕ). take (column + 1) part ++ cellsRead free n bits (drop at fields)) (sym none) ∙
+      w .row
       in
       sym (take-append-drop (column + 1) part) ∙
       ap (λ (l : List ℕ). l ++ drop (column + 1) part) whole ∙

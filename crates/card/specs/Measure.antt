@@ -1,8 +1,7 @@
 -- What the first pass over a card's bytes answers. Document 01, "The card".
 use Prim.Native.Nat.{ℕ, zero, suc, _+_, _-_, max}
-use mathlib.Core.Bool.{Bool, true, false}
 use mathlib.Core.List.{List, [], _∷_, _++_}
-use lib.ListN.{length, replicate}
+use lib.ListN.{length, drop, replicate}
 use Rattle.calculus.specs.declared.answer.Answer.{Answer}
 use Rattle.calculus.specs.declared.answer.Answer.the-variants.{Done, Refused}
 use Rattle.calculus.specs.Cell.{markOf}
@@ -15,18 +14,25 @@ use Rattle.card.specs.declared.measure.Total.{Total}
 use Rattle.card.specs.declared.measure.Needed.{Needed}
 use Rattle.card.specs.declared.measure.Needed.the-variants as needed
 use Rattle.card.specs.Parse.{Parsed, read, refused, andThen}
-use Rattle.card.specs.Format.{Field, written, blank, Record, Head, padded, readField}
+use Rattle.card.specs.Format.{Field, written, blank, Record, Head, padded, readField, readRecords}
 use Rattle.card.specs.Blanks.{blanks, highest, highestIn}
+
+-- what a refusal answers
+abbrev pub noArities : ℕ → declared-arities.Arities
+noArities why = record { answer = Refused why; arities = replicate maxRelations 0 }
+
+abbrev pub noHead : ℕ → declared-head.Head
+noHead why = record { answer = Refused why; relations = 0; arities = replicate maxRelations 0 }
 
 -- an arity for each of the 8 relations; before them stand those that were read already
 unfoldable pub openedArities : List ℕ → Parsed (List ℕ) → declared-arities.Arities
 openedArities before (read ars bs) = record { answer = Done 0; arities = padded (before ++ ars) }
-openedArities before (refused r) = record { answer = Refused r; arities = replicate maxRelations 0 }
+openedArities before (refused r) = noArities r
 
 -- the number of rows, the number of relations and their arities
 unfoldable pub openedHead : Parsed Head → declared-head.Head
 openedHead (read h bs) = record { answer = Done (h .count); relations = h .relations; arities = h .arities }
-openedHead (refused r) = record { answer = Refused r; relations = 0; arities = replicate maxRelations 0 }
+openedHead (refused r) = noHead r
 
 -- so many fields in a row, all of them written
 unfoldable pub readWritten : ℕ → List ℕ → Parsed (List ℕ)
@@ -64,3 +70,7 @@ total size rs bs = record { words = wordsIn rs; blanks = blanks rs; highest = hi
 unfoldable pub measuredRecords : ℕ → Parsed (List Record) → Needed
 measuredRecords size (read rs bs) = needed.Records (total size rs bs)
 measuredRecords size (refused why) = needed.Refused why
+
+-- the first pass over so many records, from a place of the card on
+abbrev pub measuredFrom : List ℕ → ℕ → ℕ → List ℕ → ℕ → Needed
+measuredFrom card start n ars count = measuredRecords (length card) (readRecords n ars count (drop start card))

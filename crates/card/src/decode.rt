@@ -1,15 +1,20 @@
 // Reading a card into an instance.
 ghost use mathlib.Core.Path.{_≡_};
-ghost use Rattle.calculus.specs.declared.answer.Answer.the-variants.{Refused};
+ghost use Rattle.calculus.specs.declared.answer.Answer.the-variants.{Done, Refused};
+ghost use Rattle.instance.specs.Insert.{hasRoom};
 ghost use Rattle.card.specs.Decode.{decoded, noHeader};
-
 use super::head::read_head;
-use super::measure::{measure, Needed};
+use super::measure::Needed;
+use super::measure::measure;
 use super::write::write_rows;
 use calculus::answer::Answer;
 use calculus::cell::NULLS;
-use calculus::refusal::{BYTES_LEFT_OVER, NO_ROOM, NULLS_EXHAUSTED};
-use instance::header::{Header, Stored, WORDS};
+use calculus::refusal::BYTES_LEFT_OVER;
+use calculus::refusal::NO_ROOM;
+use calculus::refusal::NULLS_EXHAUSTED;
+use instance::header::Header;
+use instance::header::Stored;
+use instance::header::WORDS;
 
 fn refused(why: u32) -> Stored
     ensures answer { λ r. ⌜ r .answer ≡ Refused why ⌝ }
@@ -17,8 +22,33 @@ fn refused(why: u32) -> Stored
 {
     Stored {
         answer: Answer::Refused(why),
-        header: Header { relations: 0, arities: [0u32; 8], used: 0 },
+        header: Header {
+            relations: 0,
+            arities: [0u32; 8],
+            used: 0,
+        },
     }
+}
+
+fn stored(relations: u32, arities: [u32; 8], used: u32) -> Stored
+    ensures answer { λ r. ⌜ r .answer ≡ Done used ⌝ }
+    ensures header { λ r. ⌜ r .header ≡ record { relations = relations; arities = arities; used = used } ⌝ }
+{
+    Stored {
+        answer: Answer::Done(used),
+        header: Header {
+            relations,
+            arities,
+            used,
+        },
+    }
+}
+
+fn has_room(words: u32, slice: usize) -> bool
+    ensures { λ r. ⌜ r ≡ hasRoom words slice ⌝ }
+{
+    let needed = words as usize;
+    needed <= WORDS && needed <= slice
 }
 
 // Nothing is written before everything is known to fit.
@@ -33,13 +63,17 @@ pub fn decode(card: &[u8], plot: &mut [u32]) -> Stored
     let arities = head.arities;
     let count = match opened {
         Answer::Done(count) => count,
-        Answer::Refused(why) => { return refused(why); }
+        Answer::Refused(why) => {
+            return refused(why);
+        }
     };
     let start = relations as usize + 3;
     let needed = measure(card, start, relations, &arities, count);
     let total = match needed {
         Needed::Records(total) => total,
-        Needed::Refused(why) => { return refused(why); }
+        Needed::Refused(why) => {
+            return refused(why);
+        }
     };
     if total.end < card.len() {
         return refused(BYTES_LEFT_OVER);
@@ -47,16 +81,9 @@ pub fn decode(card: &[u8], plot: &mut [u32]) -> Stored
     if NULLS < total.highest + total.blanks {
         return refused(NULLS_EXHAUSTED);
     }
-    let words = total.words as usize;
-    if WORDS < words {
-        return refused(NO_ROOM);
-    }
-    if plot.len() < words {
+    if !has_room(total.words, plot.len()) {
         return refused(NO_ROOM);
     }
     write_rows(plot, card, relations, &arities, count, total.highest + 1);
-    Stored {
-        answer: Answer::Done(total.words),
-        header: Header { relations, arities, used: total.words },
-    }
+    stored(relations, arities, total.words)
 }

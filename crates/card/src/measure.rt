@@ -2,18 +2,26 @@
 ghost use mathlib.Core.Path.{_≡_};
 ghost use mathlib.Core.Bool.{true};
 ghost use Prim.Native.Nat.{_≤_, _<_};
-ghost use lib.ListN.{length, drop};
+ghost use lib.ListN.{length};
 ghost use Rattle.instance.specs.Header.{aritiesStand, maxRelations};
-ghost use Rattle.card.specs.Format.{readRecord, readRecords};
-ghost use Rattle.card.specs.Measure.{readWritten, measuredFields, measuredRecord, measuredRecords};
-
-use super::field::{field, wide};
+ghost use Rattle.card.specs.Format.{readRecord};
+ghost use Rattle.card.specs.Measure.{readWritten, measuredFields, measuredRecord, measuredFrom};
+use super::field::field;
+use super::field::wide;
 use calculus::answer::Answer;
-use calculus::cell::{is_cell, CONSTANTS};
-use calculus::refusal::{BIT_BEYOND_ARITY, CUT_SHORT, NOT_A_CELL, NO_SUCH_RELATION};
+use calculus::cell::CONSTANTS;
+use calculus::cell::is_cell;
+use calculus::refusal::BIT_BEYOND_ARITY;
+use calculus::refusal::CUT_SHORT;
+use calculus::refusal::NO_SUCH_RELATION;
+use calculus::refusal::NOT_A_CELL;
 
 pub enum Measured {
-    Record { arity: u32, written: u32, highest: u32 },
+    Record {
+        arity: u32,
+        written: u32,
+        highest: u32,
+    },
     Refused(u32),
 }
 
@@ -77,7 +85,11 @@ fn measure_record(bytes: &[u8], relations: u32, arities: &[u32; 8]) -> Measured
     }
     let written = u32::count_ones(map);
     match measure_fields(&bytes[2..], written) {
-        Answer::Done(highest) => Measured::Record { arity, written, highest },
+        Answer::Done(highest) => Measured::Record {
+            arity,
+            written,
+            highest,
+        },
         Answer::Refused(why) => Measured::Refused(why),
     }
 }
@@ -88,14 +100,7 @@ pub fn measure(card: &[u8], start: usize, relations: u32, arities: &[u32; 8], co
     requires few { ⌜ relations ≤ maxRelations ⌝ }
     requires stand { ⌜ aritiesStand relations (now arities) ≡ true ⌝ }
     requires counted { ⌜ count < 65536 ⌝ }
-    ensures {
-        λ r. ⌜
-            r
-            ≡ measuredRecords
-            (length (now (card .entry)))
-            (readRecords relations (now (arities .entry)) count (drop start (now (card .entry))))
-        ⌝
-    }
+    ensures { λ r. ⌜ r ≡ measuredFrom (now (card .entry)) start relations (now (arities .entry)) count ⌝ }
 {
     let mut words: u32 = 0;
     let mut blanks: u32 = 0;
@@ -103,9 +108,12 @@ pub fn measure(card: &[u8], start: usize, relations: u32, arities: &[u32; 8], co
     let mut at = start;
     let mut left = count;
     while 0 < left {
-        let one = measure_record(&card[at..], relations, arities);
-        match one {
-            Measured::Record { arity, written, highest } => {
+        match measure_record(&card[at..], relations, arities) {
+            Measured::Record {
+                arity,
+                written,
+                highest,
+            } => {
                 words += 1 + arity;
                 blanks += arity - written;
                 if top < highest {
@@ -119,5 +127,10 @@ pub fn measure(card: &[u8], start: usize, relations: u32, arities: &[u32; 8], co
         }
         left -= 1;
     }
-    Needed::Records(Total { words, blanks, highest: top, end: at })
+    Needed::Records(Total {
+        words,
+        blanks,
+        highest: top,
+        end: at,
+    })
 }

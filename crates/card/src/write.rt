@@ -8,8 +8,8 @@ ghost use Rattle.card.specs.Parse.{isRead, got};
 ghost use Rattle.card.specs.Format.{readFields};
 ghost use Rattle.card.specs.Blanks.{numbered};
 ghost use Rattle.card.specs.Write.{WriteRows, wordsRead};
-
-use super::field::{field, wide};
+use super::field::field;
+use super::field::wide;
 use calculus::cell::CONSTANTS;
 
 // Writes one row at the start of a part of the plot; the next blank gets the given null.
@@ -39,7 +39,14 @@ fn write_row(part: &mut [u32], relation: u32, arity: usize, map: u32, fields: &[
 }
 
 // Writes so many rows from the plot's first word on; the card's records are read already.
-pub fn write_rows(plot: &mut [u32], card: &[u8], relations: u32, arities: &[u32; 8], count: u32, next: u32)
+pub fn write_rows(
+    plot: &mut [u32],
+    card: &[u8],
+    relations: u32,
+    arities: &[u32; 8],
+    count: u32,
+    next: u32,
+)
     requires { ⌜ WriteRows (now plot) (now card) relations (now arities) count next ⌝ }
     ensures { λ _. ⌜ now (plot .exit) ≡ wordsRead relations (now (arities .entry)) count next (drop (relations + 3) (now (card .entry))) ++ drop (length (wordsRead relations (now (arities .entry)) count next (drop (relations + 3) (now (card .entry))))) (now (plot .entry)) ⌝ }
 {
@@ -53,7 +60,14 @@ pub fn write_rows(plot: &mut [u32], card: &[u8], relations: u32, arities: &[u32;
         let arity = arities[relation as usize] as usize;
         let written = u32::count_ones(map);
         let first = at + 2;
-        write_row(&mut plot[used..], relation, arity, map, &card[first..], null);
+        write_row(
+            &mut plot[used..],
+            relation,
+            arity,
+            map,
+            &card[first..],
+            null,
+        );
         used += 1 + arity;
         null += arity as u32 - written;
         at = first + 3 * written as usize;

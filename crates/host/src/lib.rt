@@ -10,9 +10,9 @@ mod words;
 
 use calculus::refusal::UNSOUND;
 use words::number;
+use words::put_header;
 use words::read_header;
 use words::value;
-use words::put_header;
 
 // Reading a card.
 #[no_mangle]

@@ -42,12 +42,15 @@ returns-2 c =
     let ten = c .before .before .before .before .before .before .before .before .before .before .if1 .left in
     let made = c .before .before .before .before .before .before .before .before .decode .ensures in
     let stored = c .before .before .before .before .before .before .before .before .decode .result in
-    let a = made .0 ∙ sym (headed-yes hs ten (decoded (args .card .now) (args .plot .now) .answer)) in
-    (c .number .ensures ∙ ap numberOf a,
-    (c .before .before .before .put-header .ensures ∙
-    ap (λ (x : Answer). after x (headerWords (stored .header)) hs) a ∙
-    ap (λ (x : Header). after (decodeAnswer (args .card .now) hs (args .plot .now)) (headerWords x) hs) (made .1 .0),
-    made .1 .1 ∙ sym (kept-yes hs ten (decoded (args .card .now) (args .plot .now) .words) (args .plot .now))))
+    let a = made .0 ∙ sym (headed-yes hs ten (decoded (args .card .now) (args .plot .now) .answer)) in (
+      c .number .ensures ∙ ap numberOf a,
+      (
+        c .before .before .before .put-header .ensures ∙
+            ap (λ (x : Answer). after x (headerWords (stored .header)) hs) a ∙
+            ap (λ (x : Header). after (decodeAnswer (args .card .now) hs (args .plot .now)) (headerWords x) hs) (made .1 .0),
+        made .1 .1 ∙ sym (kept-yes hs ten (decoded (args .card .now) (args .plot .now) .words) (args .plot .now)),
+      ),
+    )
 
 pub plotask-decode-spec : {M : Type 1} → statement M
 plotask-decode-spec =

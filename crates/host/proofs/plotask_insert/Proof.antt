@@ -47,12 +47,15 @@ returns-2 c =
     let made = c .before .before .before .before .before .before .before .before .insert .ensures in
     let a = answered hs ten is (λ h. inserted h (args .plot .now) (args .relation) (args .cells .now)) (made .0) in
     let new = made .1 .0 ∙ ap (λ (h : Header). insertedHeader h (args .plot .now) (args .relation) (args .cells .now)) is in
-    let stored = c .before .before .before .before .before .before .before .before .insert .result in
-    (c .number .ensures ∙ ap numberOf a,
-    (c .before .before .before .put-header .ensures ∙
-    ap (λ (x : Answer). after x (headerWords (stored .header)) hs) a ∙
-    ap (λ (x : Header). after (insertAnswer hs (args .plot .now) (args .relation) (args .cells .now)) (headerWords x) hs) new,
-    left hs ten is (λ h. insertedWords h (args .plot .now) (args .relation) (args .cells .now)) _ (made .1 .1)))
+    let stored = c .before .before .before .before .before .before .before .before .insert .result in (
+      c .number .ensures ∙ ap numberOf a,
+      (
+        c .before .before .before .put-header .ensures ∙
+            ap (λ (x : Answer). after x (headerWords (stored .header)) hs) a ∙
+            ap (λ (x : Header). after (insertAnswer hs (args .plot .now) (args .relation) (args .cells .now)) (headerWords x) hs) new,
+        left hs ten is (λ h. insertedWords h (args .plot .now) (args .relation) (args .cells .now)) _ (made .1 .1),
+      ),
+    )
 
 pub plotask-insert-spec : {M : Type 1} → statement M
 plotask-insert-spec =

@@ -1,37 +1,22 @@
 -- `card::decode::decode` meets its contract: each refusal is a law of reading a card, and so is what is accepted. Assumes nothing.
-use Prim.Native.Nat.{ℕ, _+_, _*_, _≤_, _<_, _-_}
-use mathlib.Core.Path.{_≡_, refl, sym, ap, _∙_}
-use mathlib.Core.Bool.{true, false}
+use mathlib.Core.Path.{sym, ap, _∙_}
 use native.Mathlib.Omega.{arith}
-use borrow.Author.Tests.{le-leb, lt-leb}
-use lib.ListN.{length, drop}
-use Rattle.instance.specs.Insert.{hasRoom}
-use Rattle.instance.specs.Header.{maxWords}
+use borrow.Author.Tests.{not-true, not-false}
 use Rattle.card.proofs.Opening.{HeadRead, head-known}
 use Rattle.card.proofs.Decoding.{CardRead, card-read, down, head-turned, records-turned, left-over, exhausted, too-small, may-write, all-hold, sum-fits}
 use borrow.Author.Needs.{needs}
 use Rattle.card.proofs.decode.decode.Statement.{statement}
 use Rattle.card.proofs.decode.decode.Tie as tie
-use Rattle.card.proofs.decode.decode.Reads as reads
-use Rattle.card.proofs.decode.decode.Lts as lts
-use Rattle.card.proofs.decode.refused.Reads as refused-reads
-use Rattle.card.proofs.head.read_head.Reads as read-head-reads
-use Rattle.card.proofs.measure.measure.Reads as measure-reads
-use Rattle.card.proofs.write.write_rows.Reads as write-rows-reads
 
--- src/decode.rt:27:9
 read-head-requires : tie.Need-read-head-requires
 read-head-requires c κs = search needs
 
--- src/decode.rt:32:22
 enum-known-opened : tie.Need-enum-known-opened
 enum-known-opened c = search needs
 
--- src/decode.rt:33:25
 enum-known-opened-2 : tie.Need-enum-known-opened-2
 enum-known-opened-2 c = search needs
 
--- src/decode.rt:33:35
 refused-requires : tie.Need-refused-requires
 refused-requires c κs = search needs
 
@@ -56,117 +41,88 @@ carded : (d : tie.After-known-told3)
     (d .before .needed .given .0 .0)
 carded d = card-read _ _ _ _ _ (headed (d .before .before .before .before .before)) _ (sym (d .before .before .before .measure .ensures) ∙ d .before .needed .given .1)
 
--- src/decode.rt:33:35
 returns : tie.Need-returns
 returns c =
     down _ (c .before .before .before .before .before .before .before .before .args .plot .now) (c .before .before .opened2 .given .0 .0) (c .refused .ensures .0) (c .refused .ensures .1)
     (head-turned _ _ _ (ap (λ r. r .answer) (sym (c .before .before .before .before .before .read-head .ensures .0)) ∙ c .before .before .opened2 .given .1))
 
--- src/decode.rt:35:17
 cast-start : tie.Need-cast-start
 cast-start c = search needs
 
--- src/decode.rt:35:17
 add-start : tie.Need-add-start
 add-start c = search needs
 
--- src/decode.rt:36:9
 measure-requires : tie.Need-measure-requires
 measure-requires c κs =
     let h = headed (c .before) in
     (h .long, (h .few, (h .stand, c .before .before .before .before .before .read-head .ensures .1 _ (c .before .before .opened .given .1))))
 
--- src/decode.rt:38:25
 enum-known-needed : tie.Need-enum-known-needed
 enum-known-needed c = search needs
 
--- src/decode.rt:39:25
 enum-known-needed-2 : tie.Need-enum-known-needed-2
 enum-known-needed-2 c = search needs
 
--- src/decode.rt:39:35
 refused-requires-2 : tie.Need-refused-requires-2
 refused-requires-2 c κs = search needs
 
--- src/decode.rt:39:35
 returns-2 : tie.Need-returns-2
 returns-2 c =
     down _ (c .before .before .before .before .before .before .before .before .before .before .before .before .before .args .plot .now) (c .before .before .needed2 .given .0 .0) (c .refused2 .ensures .0) (c .refused2 .ensures .1)
     (records-turned _ _ _ _ _ (headed (c .before .before .before .before .before .before)) _ (sym (c .before .before .before .before .measure .ensures) ∙ c .before .before .needed2 .given .1))
 
--- src/decode.rt:42:9
 refused-requires-3 : tie.Need-refused-requires-3
 refused-requires-3 c κs = search needs
 
--- src/decode.rt:42:9
 returns-3 : tie.Need-returns-3
 returns-3 c =
     down _ _ _ (c .refused3 .ensures .0) (c .refused3 .ensures .1)
     (left-over _ _ _ _ _ _ _ (carded (c .before .before .before)) (c .before .if1 .taken))
 
--- src/decode.rt:44:16
 add-if2 : tie.Need-add-if2
 add-if2 c = omega (arith, sum-fits _ _ _ _ _ _ _ (carded (c .before .before .before)), c .before .before .before .before .before .before .before .before .before .before .before .before .read-head .ensures .1 _ (c .before .before .before .before .before .before .before .before .before .opened .given .1))
 
--- src/decode.rt:45:9
 refused-requires-4 : tie.Need-refused-requires-4
 refused-requires-4 c κs = search needs
 
--- src/decode.rt:45:9
 returns-4 : tie.Need-returns-4
 returns-4 c =
     down _ _ _ (c .refused4 .ensures .0) (c .refused4 .ensures .1)
     (exhausted _ _ _ _ _ _ _ (carded (c .before .before .before .before .before)) (c .before .before .before .if1 .left) (c .before .if2 .taken))
 
--- src/decode.rt:47:17
-cast-words : tie.Need-cast-words
-cast-words c = search needs
+has-room-requires : tie.Need-has-room-requires
+has-room-requires c κs = search needs
 
--- src/decode.rt:49:9
 refused-requires-5 : tie.Need-refused-requires-5
 refused-requires-5 c κs = search needs
 
--- src/decode.rt:49:9
 returns-5 : tie.Need-returns-5
 returns-5 c =
-    let words = c .before .before .before .before .before .before .before .before .needed .given .0 .0 .words in
-    let none : hasRoom words (length (c .before .before .before .before .before .before .before .before .before .before .before .before .before .before .before .before .before .before .before .args .plot .now)) ≡ false = simp (lt-leb words maxWords (c .before .if3 .taken)) in
+    let room = c .before .before .has-room in
     down _ _ _ (c .refused5 .ensures .0) (c .refused5 .ensures .1)
-    (too-small _ _ _ _ _ _ _ (carded (c .before .before .before .before .before .before .before)) (c .before .before .before .before .before .if1 .left) (c .before .before .before .if2 .left) none)
+    (too-small _ _ _ _ _ _ _ (carded (c .before .before .before .before .before .before .before)) (c .before .before .before .before .before .if1 .left) (c .before .before .before .if2 .left)
+    (sym (room .ensures) ∙ not-true (room .result) (c .before .if3 .taken)))
 
--- src/decode.rt:52:9
-refused-requires-6 : tie.Need-refused-requires-6
-refused-requires-6 c κs = search needs
-
--- src/decode.rt:52:9
-returns-6 : tie.Need-returns-6
-returns-6 c =
-    let words = c .before .before .before .before .before .before .before .before .before .needed .given .0 .0 .words in
-    let slice = length (c .before .before .before .before .before .before .before .before .before .before .before .before .before .before .before .before .before .before .before .before .args .plot .now) in
-    let none : hasRoom words slice ≡ false = simp (le-leb words maxWords (c .before .before .if3 .left), lt-leb words slice (c .before .if4 .taken)) in
-    down _ _ _ (c .refused6 .ensures .0) (c .refused6 .ensures .1)
-    (too-small _ _ _ _ _ _ _ (carded (c .before .before .before .before .before .before .before .before)) (c .before .before .before .before .before .before .if1 .left) (c .before .before .before .before .if2 .left) none)
-
--- src/decode.rt:54:56
 add-write-rows : tie.Need-add-write-rows
 add-write-rows c = search needs
 
--- src/decode.rt:54:5
 write-rows-requires : tie.Need-write-rows-requires
-write-rows-requires c κs = may-write _ _ _ _ _ _ _ (carded (c .before .before .before .before .before .before .before .before .before .before)) (c .before .before .before .before .before .before .if2 .left) (c .before .before .before .if4 .left)
+write-rows-requires c κs =
+    let room = c .before .before .before .before .has-room in
+    may-write _ _ _ _ _ _ _ (carded (c .before .before .before .before .before .before .before .before .before)) (c .before .before .before .before .before .if2 .left) (sym (room .ensures) ∙ not-false (room .result) (c .before .before .before .if3 .left))
 
--- src/decode.rt:22:1
+stored-requires : tie.Need-stored-requires
+stored-requires c κs = search needs
+
 same-length : tie.Need-same-length
 same-length c = search needs
 
--- src/decode.rt:22:1
-returns-7 : tie.Need-returns-7
-returns-7 c =
-    let words = c .before .before .before .before .before .before .before .before .before .before .before .before .before .before .needed .given .0 .0 .words in
-    let slice = length (c .before .before .before .before .before .before .before .before .before .before .before .before .before .before .before .before .before .before .before .before .before .before .before .before .before .args .plot .now) in
-    let fits : hasRoom words slice ≡ true = simp (le-leb words maxWords (c .before .before .before .before .before .before .before .if3 .left), le-leb words slice (c .before .before .before .before .before .before .if4 .left)) in
+returns-6 : tie.Need-returns-6
+returns-6 c =
+    let room = c .before .before .before .before .before .before .before .before .has-room in
+    let fits = sym (room .ensures) ∙ not-false (room .result) (c .before .before .before .before .before .before .before .if3 .left) in
     rw (all-hold _ _ _ _ _ _ _ (carded (c .before .before .before .before .before .before .before .before .before .before .before .before .before)) (c .before .before .before .before .before .before .before .before .before .before .before .if1 .left) (c .before .before .before .before .before .before .before .before .before .if2 .left) fits)
-    (refl, (refl, c .before .before .write-rows .ensures))
+    (c .stored .ensures .0, (c .stored .ensures .1, c .before .before .before .write-rows .ensures))
 
 pub decode-spec : {M : Type 1} → statement M
 decode-spec =
@@ -189,12 +145,11 @@ decode-spec =
     add-if2
     refused-requires-4
     returns-4
-    cast-words
+    has-room-requires
     refused-requires-5
     returns-5
-    refused-requires-6
-    returns-6
     add-write-rows
     write-rows-requires
+    stored-requires
     same-length
-    returns-7)
+    returns-6)

@@ -1,62 +1,47 @@
+-- `card::field::field` meets its contract: each byte is read at its place. Assumes nothing.
 use borrow.Author.Needs.{needs}
 use native.Mathlib.Nat.{add-zero}
 use native.Mathlib.Omega.{arith}
 use lib.Seq.{getD-drop}
 use Rattle.card.proofs.field.field.Statement.{statement}
 use Rattle.card.proofs.field.field.Tie as tie
-use Rattle.card.proofs.field.field.Reads as reads
-use Rattle.card.proofs.field.field.Lts as lts
-use Rattle.card.proofs.field.wide.Reads as wide-reads
 
--- src/field.rt:19:10
 shared-slice-read-wide : tie.Need-shared-slice-read-wide
 shared-slice-read-wide c = search needs
 
--- src/field.rt:19:5
 wide-requires : tie.Need-wide-requires
 wide-requires c κs = search needs
 
--- src/field.rt:19:5
 mul-result : tie.Need-mul-result
 mul-result c = search needs
 
--- src/field.rt:19:42
 add-wide : tie.Need-add-wide
 add-wide c = search needs
 
--- src/field.rt:19:36
 shared-slice-read-wide-2 : tie.Need-shared-slice-read-wide-2
 shared-slice-read-wide-2 c = search needs
 
--- src/field.rt:19:31
 wide-requires-2 : tie.Need-wide-requires-2
 wide-requires-2 c κs = search needs
 
--- src/field.rt:19:31
 mul-result-2 : tie.Need-mul-result-2
 mul-result-2 c = search needs
 
--- src/field.rt:19:5
 add-result : tie.Need-add-result
 add-result c = search needs
 
--- src/field.rt:19:70
 add-wide-2 : tie.Need-add-wide-2
 add-wide-2 c = search needs
 
--- src/field.rt:19:64
 shared-slice-read-wide-3 : tie.Need-shared-slice-read-wide-3
 shared-slice-read-wide-3 c = search needs
 
--- src/field.rt:19:59
 wide-requires-3 : tie.Need-wide-requires-3
 wide-requires-3 c κs = search needs
 
--- src/field.rt:19:5
 add-result-2 : tie.Need-add-result-2
 add-result-2 c = search needs
 
--- src/field.rt:15:1
 returns : tie.Need-returns
 returns c = (simp (getD-drop, add-zero, c .before .before .before .before .wide .ensures .0, c .before .before .wide2 .ensures .0, c .wide3 .ensures .0), omega arith)
 

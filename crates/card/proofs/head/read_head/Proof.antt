@@ -1,49 +1,49 @@
 -- `card::head::read_head` meets its contract: each way through the tests is a law of reading a head. Assumes nothing.
-use Prim.Native.Nat.{ℕ, _+_, _*_, _≤_, _<_, _-_}
-use mathlib.Core.Path.{_≡_, refl, sym, ap, _∙_}
+use Prim.Native.Nat.{ℕ, _+_, _*_}
+use mathlib.Core.Path.{_≡_, sym, ap, _∙_}
 use mathlib.Core.Bool.{true, false}
 use mathlib.Core.List.{List, []}
 use native.Mathlib.Omega.{arith}
 use borrow.Author.Tests.{le-leb, lt-leb}
-use lib.ListN.{length, drop, getD}
-use Rattle.calculus.specs.declared.answer.Answer.the-variants.{Done}
+use lib.ListN.{drop, getD}
 use Rattle.instance.specs.Header.{maxRelations}
 use Rattle.card.specs.Parse.{read}
 use Rattle.card.specs.Format.{padded, readArities}
-use Rattle.card.specs.Measure.{openedArities, openedHead}
-use Rattle.card.proofs.Opening.{isCount, none-counted, head-none, head-bad, head-refused, head-long, head-cut, head-answer, arities-opened}
+use Rattle.card.specs.Measure.{openedArities}
+use Rattle.card.proofs.Opening.{isCount, none-counted, refused-head, head-none, head-bad, head-refused, head-long, head-cut, head-answer, arities-opened}
 use borrow.Author.Needs.{needs}
 use Rattle.card.proofs.head.read_head.Statement.{statement}
 use Rattle.card.proofs.head.read_head.Tie as tie
-use Rattle.card.proofs.head.read_head.Reads as reads
-use Rattle.card.proofs.head.read_head.Lts as lts
-use Rattle.card.proofs.field.wide.Reads as wide-reads
-use Rattle.card.proofs.head.read_arities.Reads as read-arities-reads
 
--- src/head.rt:58:9
+no-head-requires : tie.Need-no-head-requires
+no-head-requires c κs = search needs
+
 returns : tie.Need-returns
-returns c = (sym (head-none _ (c .if1 .taken)), none-counted _)
+returns c = refused-head _ _ (c .no-head .ensures) (head-none _ (c .before .if1 .taken))
 
--- src/head.rt:60:26
 shared-slice-read-wide : tie.Need-shared-slice-read-wide
 shared-slice-read-wide c = search needs
 
--- src/head.rt:60:9
 wide-requires : tie.Need-wide-requires
 wide-requires c κs = search needs
 
--- src/head.rt:62:9
+no-head-requires-2 : tie.Need-no-head-requires-2
+no-head-requires-2 c κs = search needs
+
 returns-2 : tie.Need-returns-2
 returns-2 c =
-    let n = c .before .wide in
-    (sym (head-bad _ (c .before .before .before .if1 .left) (rw (← n .ensures .0) (simp (lt-leb 1 (n .result) (c .if2 .taken))))), none-counted _)
+    let n = c .before .before .wide in
+    let bad : isCount (n .result) ≡ false = simp (lt-leb 1 (n .result) (c .before .if2 .taken)) in
+    refused-head _ _ (c .no-head2 .ensures) (head-bad _ (c .before .before .before .before .if1 .left) (rw (n .ensures .0) at bad))
 
--- src/head.rt:65:9
+no-head-requires-3 : tie.Need-no-head-requires-3
+no-head-requires-3 c κs = search needs
+
 returns-3 : tie.Need-returns-3
 returns-3 c =
-    let n = c .before .before .wide in
-    let bad : isCount (n .result) ≡ false = simp (le-leb 1 (n .result) (c .before .if2 .left), lt-leb (n .result) maxRelations (c .if3 .taken)) in
-    (sym (head-bad _ (c .before .before .before .before .if1 .left) (rw (n .ensures .0) at bad)), none-counted _)
+    let n = c .before .before .before .wide in
+    let bad : isCount (n .result) ≡ false = simp (le-leb 1 (n .result) (c .before .before .if2 .left), lt-leb (n .result) maxRelations (c .before .if3 .taken)) in
+    refused-head _ _ (c .no-head3 .ensures) (head-bad _ (c .before .before .before .before .before .if1 .left) (rw (n .ensures .0) at bad))
 
 -- the number of relations is within the rule
 counted : (d : tie.Else3) → isCount (getD (d .before .before .before .before .before .before .args .card .now) 0 0) ≡ true
@@ -58,7 +58,7 @@ opened : (d : tie.After-read-arities)
     ≡ openedArities [] (readArities (getD (d .before .before .before .before .before .before .before .args .card .now) 0 0) (drop 1 (d .before .before .before .before .before .before .before .args .card .now)))
 opened d =
     let known : d .read-arities .result ≡ openedArities [] (readArities (d .before .before .before .wide .result) (drop 1 (d .before .before .before .before .before .before .before .args .card .now))) =
-        d .read-arities .ensures in
+    d .read-arities .ensures in
     rw (d .before .before .before .wide .ensures .0) at known
 
 -- the arities, where they were accepted
@@ -69,106 +69,90 @@ accepted : (d : tie.After-enum-told)
     × (openedArities [] (readArities (getD (d .before .before .before .before .before .before .before .before .before .before .args .card .now) 0 0) (drop 1 (d .before .before .before .before .before .before .before .before .before .before .args .card .now))) .arities ≡ padded ars)
 accepted d = arities-opened _ _ (d .enum-told .given .0 .0) (rw (opened (d .before .before .before)) at (d .enum-told .given .1))
 
--- src/head.rt:67:35
 cast-read-arities : tie.Need-cast-read-arities
 cast-read-arities c = search needs
 
--- src/head.rt:67:9
 read-arities-requires : tie.Need-read-arities-requires
 read-arities-requires c κs = search needs
 
 enum-told : tie.Need-enum-told
 enum-told c = search needs
 
--- src/head.rt:71:9
 enum-told-2 : tie.Need-enum-told-2
 enum-told-2 c = search needs
 
--- src/head.rt:71:9
 returns-4 : tie.Need-returns-4
 returns-4 c =
     let why = c .enum-told2 .given .1 in
-    rw why
-    (
+    rw why (
       sym (head-refused _ (c .before .before .before .before .before .before .before .before .if1 .left) (counted (c .before .before .before .before)) _ (rw (opened (c .before .before .before)) at why)),
       none-counted _,
     )
 
--- src/head.rt:73:14
 cast-at : tie.Need-cast-at
 cast-at c = search needs
 
--- src/head.rt:73:14
 add-at : tie.Need-add-at
 add-at c = search needs
 
--- src/head.rt:74:8
 sub-if4 : tie.Need-sub-if4
 sub-if4 c =
     let a = accepted c in
     rw (c .before .before .before .before .before .before .wide .ensures .0) (head-long (c .before .before .before .before .before .before .before .before .before .before .args .card .now) (c .before .before .before .before .before .before .before .before .if1 .left) (counted (c .before .before .before .before)) _ _ (a .2))
 
--- src/head.rt:75:9
+no-head-requires-4 : tie.Need-no-head-requires-4
+no-head-requires-4 c κs = search needs
+
 returns-5 : tie.Need-returns-5
 returns-5 c =
-    let a = accepted (c .before) in
-    let short = rw (c .before .before .before .before .before .before .before .wide .ensures .0) at (c .if4 .taken) in
-    (
-      sym (head-cut (c .before .before .before .before .before .before .before .before .before .before .before .args .card .now) (c .before .before .before .before .before .before .before .before .before .if1 .left) (counted (c .before .before .before .before .before)) (a .0) (a .1) (a .2) short),
-      none-counted _,
-    )
+    let card = c .before .before .before .before .before .before .before .before .before .before .before .before .args .card .now in
+    let a = accepted (c .before .before) in
+    let short = rw (c .before .before .before .before .before .before .before .before .wide .ensures .0) at (c .before .if4 .taken) in
+    refused-head card _ (c .no-head4 .ensures)
+    (head-cut card (c .before .before .before .before .before .before .before .before .before .before .if1 .left) (counted (c .before .before .before .before .before .before)) (a .0) (a .1) (a .2) short)
 
--- src/head.rt:77:22
 shared-slice-read-wide-2 : tie.Need-shared-slice-read-wide-2
 shared-slice-read-wide-2 c = search needs
 
--- src/head.rt:77:17
 wide-requires-2 : tie.Need-wide-requires-2
 wide-requires-2 c κs = search needs
 
--- src/head.rt:77:17
 mul-count : tie.Need-mul-count
 mul-count c = search needs
 
--- src/head.rt:77:50
 add-wide : tie.Need-add-wide
 add-wide c = search needs
 
--- src/head.rt:77:45
 shared-slice-read-wide-3 : tie.Need-shared-slice-read-wide-3
 shared-slice-read-wide-3 c = search needs
 
--- src/head.rt:77:40
 wide-requires-3 : tie.Need-wide-requires-3
 wide-requires-3 c κs = search needs
 
--- src/head.rt:77:17
 add-count : tie.Need-add-count
 add-count c = search needs
 
--- src/head.rt:52:1
 returns-6 : tie.Need-returns-6
 returns-6 c =
     let a = accepted (c .before .before .before .before .before) in
     let hi = c .before .before .wide2 in
-    let lo = c .wide3 in
-    (
+    let lo = c .wide3 in (
       head-answer
-      (c .before .before .before .before .before .before .before .before .before .before .before .before .before .before .before .args .card .now)
-      (c .before .before .before .before .before .before .before .before .before .before .before .before .before .if1 .left)
-      (counted (c .before .before .before .before .before .before .before .before .before))
-      (a .0)
-      (a .1)
-      (a .2)
-      (c .before .before .before .before .before .before .before .before .before .before .before .wide .result)
-      (hi .result)
-      (lo .result)
-      (c .before .before .before .before .before .before .before .before .read-arities .result .arities)
-      (c .before .before .before .before .before .before .before .before .before .before .before .wide .ensures .0)
-      (hi .ensures .0)
-      (lo .ensures .0)
-      (ap (λ r. r .arities) (opened (c .before .before .before .before .before .before .before .before)) ∙ a .3)
-      (c .before .before .before .before .if4 .left),
+          (c .before .before .before .before .before .before .before .before .before .before .before .before .before .before .before .args .card .now)
+          (c .before .before .before .before .before .before .before .before .before .before .before .before .before .if1 .left)
+          (counted (c .before .before .before .before .before .before .before .before .before))
+          (a .0)
+          (a .1)
+          (a .2)
+          (c .before .before .before .before .before .before .before .before .before .before .before .wide .result)
+          (hi .result)
+          (lo .result)
+          (c .before .before .before .before .before .before .before .before .read-arities .result .arities)
+          (c .before .before .before .before .before .before .before .before .before .before .before .wide .ensures .0)
+          (hi .ensures .0)
+          (lo .ensures .0)
+          (ap (λ r. r .arities) (opened (c .before .before .before .before .before .before .before .before)) ∙ a .3)
+          (c .before .before .before .before .if4 .left),
       λ n e. let same : hi .result * 256 + lo .result ≡ n = cc in omega (arith, hi .ensures .1, lo .ensures .1),
     )
 
@@ -176,10 +160,13 @@ pub read-head-spec : {M : Type 1} → statement M
 read-head-spec =
     tie.close
     (tie.spec
+    no-head-requires
     returns
     shared-slice-read-wide
     wide-requires
+    no-head-requires-2
     returns-2
+    no-head-requires-3
     returns-3
     cast-read-arities
     read-arities-requires
@@ -189,6 +176,7 @@ read-head-spec =
     cast-at
     add-at
     sub-if4
+    no-head-requires-4
     returns-5
     shared-slice-read-wide-2
     wide-requires-2

@@ -1,7 +1,7 @@
 -- `card::measure::measure` meets its contract. The loop's invariant: the answer of the whole is that of what is left, with what was counted so
 -- far added. Assumes nothing.
-use Prim.Native.Nat.{ℕ, _+_, _*_, _≤_, _<_, _-_, suc, max}
-use mathlib.Core.Path.{_≡_, refl, sym, ap, _∙_}
+use Prim.Native.Nat.{_-_, max}
+use mathlib.Core.Path.{_≡_, sym, _∙_}
 use mathlib.Core.Logic.{⊎-elim}
 use native.Mathlib.Omega.{arith}
 use borrow.Author.Needs.{needs}
@@ -12,9 +12,6 @@ use Rattle.card.proofs.Parts.{part-to-end}
 use Rattle.card.proofs.Measuring.{Measuring, Turn, turn, measuring-starts, measuring-refused, measuring-ends}
 use Rattle.card.proofs.measure.measure.Statement.{statement}
 use Rattle.card.proofs.measure.measure.Tie as tie
-use Rattle.card.proofs.measure.measure.Reads as reads
-use Rattle.card.proofs.measure.measure.Lts as lts
-use Rattle.card.proofs.measure.measure_record.Reads as measure-record-reads
 
 abbrev Inv-loop : tie.InvT-loop
 Inv-loop card start relations arities count words₀ blanks₀ top₀ at₀ left₀ words blanks top at left =
@@ -23,23 +20,18 @@ Inv-loop card start relations arities count words₀ blanks₀ top₀ at₀ left
 abbrev μ-loop : tie.MeasureT-loop
 μ-loop card start relations arities count words₀ blanks₀ top₀ at₀ left₀ words blanks top at left = left
 
--- src/measure.rt:105:5
 loop-holds : tie.Need-loop-holds Inv-loop μ-loop
 loop-holds c = measuring-starts _ _ _ _ _ (c .before .pre .0)
 
--- src/measure.rt:106:34
 sub-measure-record : tie.Need-sub-measure-record Inv-loop μ-loop
 sub-measure-record c = search needs
 
--- src/measure.rt:106:34
 part-measure-record-start : tie.Need-part-measure-record-start Inv-loop μ-loop
 part-measure-record-start c = search needs
 
--- src/measure.rt:106:34
 part-measure-record-end : tie.Need-part-measure-record-end Inv-loop μ-loop
 part-measure-record-end c = search needs
 
--- src/measure.rt:106:13
 measure-record-requires : tie.Need-measure-record-requires Inv-loop μ-loop
 measure-record-requires c κs = search needs
 
@@ -55,8 +47,8 @@ measured-here d =
     let card = d .before .before .before .before .before .args .card .now in
     let at = d .before .before .before .loop .at in
     let known : d .measure-record .result
-        ≡ measuredRecord (readRecord (d .before .before .before .before .before .args .relations) (d .before .before .before .before .before .args .arities .now) (take (length card - at) (drop at card))) =
-        d .measure-record .ensures in
+    ≡ measuredRecord (readRecord (d .before .before .before .before .before .args .relations) (d .before .before .before .before .before .args .arities .now) (take (length card - at) (drop at card))) =
+    d .measure-record .ensures in
     known ∙ rw (part-to-end card at)
 
 here : (c : tie.After-known-told Inv-loop μ-loop)
@@ -71,58 +63,47 @@ here : (c : tie.After-known-told Inv-loop μ-loop)
     (c .before .before .before .before .before .before .loop .top)
     (c .before .before .before .before .before .before .loop .at)
     (c .before .before .before .before .before .before .loop .left)
-    (c .before .one .given .0 .0)
-    (c .before .one .given .0 .1 .0)
-    (c .before .one .given .0 .1 .1 .0)
+    (c .before .arity .given .0 .0)
+    (c .before .arity .given .0 .1 .0)
+    (c .before .arity .given .0 .1 .1 .0)
 here c =
     turn _ _ _ _ _ _ _ _ _ _
     (c .before .before .before .before .before .before .loop .inv)
     (c .before .before .before .before .before .loop-test .taken)
     _ _ _
     (c .before .before .before .before .before .before .before .before .pre .1 .1 .0)
-    (sym (measured-here (c .before .before .before)) ∙ c .before .one .given .1)
+    (sym (measured-here (c .before .before .before)) ∙ c .before .arity .given .1)
 
--- src/measure.rt:108:32
-enum-known-one : tie.Need-enum-known-one Inv-loop μ-loop
-enum-known-one c = search needs
+enum-known-arity : tie.Need-enum-known-arity Inv-loop μ-loop
+enum-known-arity c = search needs
 
--- src/measure.rt:109:26
 add-words : tie.Need-add-words Inv-loop μ-loop
 add-words c = omega (arith, here c .narrow)
 
--- src/measure.rt:109:17
 add-words-2 : tie.Need-add-words-2 Inv-loop μ-loop
 add-words-2 c = omega (arith, here c .words-fit, c .before .before .before .before .before .before .before .before .pre .1 .1 .1)
 
--- src/measure.rt:110:27
 sub-blanks : tie.Need-sub-blanks Inv-loop μ-loop
 sub-blanks c = here c .fewer
 
--- src/measure.rt:110:17
 add-blanks : tie.Need-add-blanks Inv-loop μ-loop
 add-blanks c = omega (arith, here c .blanks-fit, c .before .before .before .before .before .before .before .before .pre .1 .1 .1)
 
--- src/measure.rt:114:31
 cast-at : tie.Need-cast-at Inv-loop μ-loop
 cast-at c = omega (arith, here (c .before) .narrow, here (c .before) .fewer)
 
--- src/measure.rt:114:27
 mul-at : tie.Need-mul-at Inv-loop μ-loop
 mul-at c = omega (arith, here (c .before) .narrow, here (c .before) .fewer)
 
--- src/measure.rt:114:23
 add-at : tie.Need-add-at Inv-loop μ-loop
 add-at c = omega (arith, here (c .before) .narrow, here (c .before) .fewer)
 
--- src/measure.rt:114:17
 add-at-2 : tie.Need-add-at-2 Inv-loop μ-loop
 add-at-2 c = omega (arith, here (c .before) .in-card)
 
--- src/measure.rt:116:31
-enum-known-one-2 : tie.Need-enum-known-one-2 Inv-loop μ-loop
-enum-known-one-2 c = search needs
+enum-known-why : tie.Need-enum-known-why Inv-loop μ-loop
+enum-known-why c = search needs
 
--- src/measure.rt:117:17
 returns : tie.Need-returns Inv-loop μ-loop
 returns c =
     sym
@@ -130,24 +111,20 @@ returns c =
     (c .before .before .before .before .before .before .loop .inv)
     (c .before .before .before .before .before .loop-test .taken)
     _
-    (sym (measured-here (c .before .before .before)) ∙ c .before .one2 .given .1))
+    (sym (measured-here (c .before .before .before)) ∙ c .before .why .given .1))
 
--- src/measure.rt:120:9
 sub-left : tie.Need-sub-left Inv-loop μ-loop
 sub-left c = search needs
 
--- src/measure.rt:105:5
 loop-less : tie.Need-loop-less Inv-loop μ-loop
 loop-less c = search needs
 
--- src/measure.rt:105:5
 loop-again : tie.Need-loop-again Inv-loop μ-loop
 loop-again c =
-    let top : c .if1 .top ≡ max (c .before .before .before .before .before .before .before .loop .top) (c .before .before .one .given .0 .1 .1 .0) =
-        ⊎-elim (λ w. omega arith) (λ w. omega arith) (c .if1 .came) in
+    let top : c .if1 .top ≡ max (c .before .before .before .before .before .before .before .loop .top) (c .before .before .arity .given .0 .1 .1 .0) =
+    ⊎-elim (λ w. omega arith) (λ w. omega arith) (c .if1 .came) in
     rw top (here (c .before) .then)
 
--- src/measure.rt:86:1
 returns-2 : tie.Need-returns-2 Inv-loop μ-loop
 returns-2 c = sym (measuring-ends _ _ _ _ _ _ _ _ _ _ (c .before .loop .inv) (c .loop-test .left))
 
@@ -162,7 +139,7 @@ measure-spec =
     part-measure-record-start
     part-measure-record-end
     measure-record-requires
-    enum-known-one
+    enum-known-arity
     add-words
     add-words-2
     sub-blanks
@@ -171,7 +148,7 @@ measure-spec =
     mul-at
     add-at
     add-at-2
-    enum-known-one-2
+    enum-known-why
     returns
     sub-left
     loop-less

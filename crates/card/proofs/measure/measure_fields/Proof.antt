@@ -1,23 +1,19 @@
 -- `card::measure::measure_fields` meets its contract. The loop's invariant: the answer of the whole is that of what is left, raised by the
 -- highest null so far. Assumes nothing.
-use Prim.Native.Nat.{ℕ, _+_, _*_, _≤_, _<_, _-_, suc, max}
-use mathlib.Core.Path.{_≡_, refl, sym, ap, _∙_}
+use Prim.Native.Nat.{_+_, _≤_, _-_, suc, max}
+use mathlib.Core.Path.{_≡_, sym}
 use mathlib.Core.Logic.{⊎-elim}
 use native.Mathlib.Omega.{arith}
 use borrow.Author.Needs.{needs}
 use borrow.Author.Tests.{not-true, not-false}
 use mathlib.Core.Bool.{true, false}
-use lib.ListN.{length, drop, getD, length-drop}
+use lib.ListN.{length, drop}
 use Rattle.calculus.specs.Cell.{isCell, markOf}
 use Rattle.card.specs.Format.{fieldAt}
 use Rattle.card.specs.Measure.{readWritten, measuredFields, highestOf}
-use Rattle.card.proofs.Fields.{raised, raised-none, raised-more, fields-more, fields-short, fields-bad}
+use Rattle.card.proofs.Fields.{raised, raised-none, fields-more, fields-short, fields-bad}
 use Rattle.card.proofs.measure.measure_fields.Statement.{statement}
 use Rattle.card.proofs.measure.measure_fields.Tie as tie
-use Rattle.card.proofs.measure.measure_fields.Reads as reads
-use Rattle.card.proofs.measure.measure_fields.Lts as lts
-use Rattle.calculus.proofs.cell.is_cell.Reads as is-cell-reads
-use Rattle.card.proofs.field.field.Reads as field-reads
 
 abbrev Inv-loop : tie.InvT-loop
 Inv-loop bytes written highest₀ left₀ at₀ highest left at =
@@ -28,30 +24,24 @@ Inv-loop bytes written highest₀ left₀ at₀ highest left at =
 abbrev μ-loop : tie.MeasureT-loop
 μ-loop bytes written highest₀ left₀ at₀ highest left at = left
 
--- src/measure.rt:40:5
 loop-holds : tie.Need-loop-holds Inv-loop μ-loop
 loop-holds c = (omega arith, omega arith, sym (raised-none (measuredFields (readWritten (c .before .args .written) (c .before .args .bytes .now)))))
 
--- src/measure.rt:41:12
 sub-if1 : tie.Need-sub-if1 Inv-loop μ-loop
 sub-if1 c = omega arith
 
--- src/measure.rt:42:13
 returns : tie.Need-returns Inv-loop μ-loop
 returns c =
     let l = c .before .before .loop in
     let one : l .left ≡ suc (l .left - 1) = omega arith in
     rw (l .inv .2, fields-short (l .left - 1) (l .left) (l .at) (c .before .before .before .before .args .bytes .now) one (c .if1 .taken))
 
--- src/measure.rt:44:13
 field-requires : tie.Need-field-requires Inv-loop μ-loop
 field-requires c κs = search needs
 
--- src/measure.rt:45:13
 is-cell-requires : tie.Need-is-cell-requires Inv-loop μ-loop
 is-cell-requires c κs = search needs
 
--- src/measure.rt:46:13
 returns-2 : tie.Need-returns-2 Inv-loop μ-loop
 returns-2 c =
     let l = c .before .before .before .before .before .loop in
@@ -59,30 +49,24 @@ returns-2 c =
     let one : l .left ≡ suc (l .left - 1) = omega arith in
     let room : l .at + 3 ≤ length bytes = omega arith in
     let bad : isCell (fieldAt (drop (l .at) bytes)) ≡ false =
-        cc (c .before .is-cell .ensures, c .before .before .field .ensures .0, not-true (c .before .is-cell .result) (c .if2 .taken)) in
+    cc (c .before .is-cell .ensures, c .before .before .field .ensures .0, not-true (c .before .is-cell .result) (c .if2 .taken)) in
     rw (l .inv .2, fields-bad (l .left - 1) (l .left) (l .at) bytes one room bad)
 
--- src/measure.rt:48:12
 add-if3 : tie.Need-add-if3 Inv-loop μ-loop
 add-if3 c = omega arith
 
--- src/measure.rt:49:23
 sub-highest : tie.Need-sub-highest Inv-loop μ-loop
 sub-highest c = omega arith
 
--- src/measure.rt:51:9
 add-at : tie.Need-add-at Inv-loop μ-loop
 add-at c = omega arith
 
--- src/measure.rt:52:9
 sub-left : tie.Need-sub-left Inv-loop μ-loop
 sub-left c = omega arith
 
--- src/measure.rt:40:5
 loop-less : tie.Need-loop-less Inv-loop μ-loop
 loop-less c = omega arith
 
--- src/measure.rt:40:5
 loop-again : tie.Need-loop-again Inv-loop μ-loop
 loop-again c =
     let l = c .before .before .before .before .before .before .loop in
@@ -90,19 +74,17 @@ loop-again c =
     let one : l .left ≡ suc (l .left - 1) = omega arith in
     let room : l .at + 3 ≤ length bytes = omega arith in
     let cell : isCell (fieldAt (drop (l .at) bytes)) ≡ true =
-        cc (c .before .before .is-cell .ensures, c .before .before .before .field .ensures .0, not-false (c .before .before .is-cell .result) (c .before .if2 .left)) in
+    cc (c .before .before .is-cell .ensures, c .before .before .before .field .ensures .0, not-false (c .before .before .is-cell .result) (c .before .if2 .left)) in
     let top : c .if3 .highest ≡ max (l .highest) (markOf (fieldAt (drop (l .at) bytes))) =
-        ⊎-elim
-        (λ w. omega (arith, c .before .before .before .field .ensures .0))
-        (λ w. omega (arith, c .before .before .before .field .ensures .0))
-        (c .if3 .came) in
-    (
+    ⊎-elim
+    (λ w. omega (arith, c .before .before .before .field .ensures .0))
+    (λ w. omega (arith, c .before .before .before .field .ensures .0))
+    (c .if3 .came) in (
       omega arith,
       omega (arith, c .before .before .before .field .ensures),
       rw (l .inv .2, top) (fields-more (l .left - 1) (l .left) (l .at) bytes one (l .highest) room cell),
     )
 
--- src/measure.rt:34:1
 returns-3 : tie.Need-returns-3 Inv-loop μ-loop
 unfolding measuredFields readWritten highestOf
 returns-3 c =

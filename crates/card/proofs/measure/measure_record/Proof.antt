@@ -1,9 +1,9 @@
 -- `card::measure::measure_record` meets its contract: each way through the tests is a law of reading one record. Assumes nothing.
-use Prim.Native.Nat.{ℕ, _+_, _*_, _≤_, _<_, _-_, _^_, suc}
-use mathlib.Core.Path.{_≡_, refl, sym, ap, _∙_}
+use Prim.Native.Nat.{_-_}
+use mathlib.Core.Path.{_≡_, sym, ap, _∙_}
 use native.Mathlib.Omega.{arith}
 use lib.Count.{ones}
-use lib.ListN.{length, take, drop, getD}
+use lib.ListN.{length, take, drop}
 use Rattle.instance.specs.Header.{arityOf}
 use Rattle.card.specs.Format.{readRecord}
 use Rattle.card.specs.Measure.{measuredRecord, measuredFields, readWritten}
@@ -13,56 +13,40 @@ use Rattle.card.proofs.Records.{record-none, record-unknown, record-cut
 use borrow.Author.Needs.{needs}
 use Rattle.card.proofs.measure.measure_record.Statement.{statement}
 use Rattle.card.proofs.measure.measure_record.Tie as tie
-use Rattle.card.proofs.measure.measure_record.Reads as reads
-use Rattle.card.proofs.measure.measure_record.Lts as lts
-use Rattle.card.proofs.field.wide.Reads as wide-reads
-use Rattle.card.proofs.measure.measure_fields.Reads as measure-fields-reads
 
--- src/measure.rt:64:9
 returns : tie.Need-returns
 returns c = sym (record-none _ _ _ (c .if1 .taken))
 
--- src/measure.rt:66:25
 shared-slice-read-wide : tie.Need-shared-slice-read-wide
 shared-slice-read-wide c = search needs
 
--- src/measure.rt:66:9
 wide-requires : tie.Need-wide-requires
 wide-requires c κs = search needs
 
--- src/measure.rt:68:9
 returns-2 : tie.Need-returns-2
 returns-2 c = sym (record-unknown _ _ _ (c .before .before .before .if1 .left) (omega (arith, c .before .wide .ensures)))
 
--- src/measure.rt:71:9
 returns-3 : tie.Need-returns-3
 returns-3 c = sym (record-cut _ _ _ (omega (arith, c .before .before .wide .ensures)) (c .if3 .taken))
 
--- src/measure.rt:73:20
 shared-slice-read-wide-2 : tie.Need-shared-slice-read-wide-2
 shared-slice-read-wide-2 c = search needs
 
--- src/measure.rt:73:9
 wide-requires-2 : tie.Need-wide-requires-2
 wide-requires-2 c κs = search needs
 
--- src/measure.rt:74:25
 cast-arity : tie.Need-cast-arity
 cast-arity c = search needs
 
--- src/measure.rt:74:17
 mul-arity : tie.Need-mul-arity
 mul-arity c = search needs
 
--- src/measure.rt:74:17
 element-copy-out-arity : tie.Need-element-copy-out-arity
 element-copy-out-arity c = search needs
 
--- src/measure.rt:75:34
 sub-if4 : tie.Need-sub-if4
 sub-if4 c = omega (arith, arity-low _ _ (c .before .before .before .before .before .wide .result) (c .before .before .before .before .before .before .before .before .before .pre .1))
 
--- src/measure.rt:76:9
 returns-4 : tie.Need-returns-4
 returns-4 c =
     let x = c .before .before .before .before .before .before .wide in
@@ -77,27 +61,21 @@ returns-4 c =
     (c .before .before .before .before .if3 .left)
     (rw (x .ensures .0, m .ensures .0) at beyond))
 
--- src/measure.rt:79:26
 sub-measure-fields : tie.Need-sub-measure-fields
 sub-measure-fields c = search needs
 
--- src/measure.rt:79:26
 part-measure-fields-start : tie.Need-part-measure-fields-start
 part-measure-fields-start c = search needs
 
--- src/measure.rt:79:26
 part-measure-fields-end : tie.Need-part-measure-fields-end
 part-measure-fields-end c = search needs
 
--- src/measure.rt:79:11
 measure-fields-requires : tie.Need-measure-fields-requires
 measure-fields-requires c κs = search needs
 
--- src/measure.rt:80:22
 enum-known-highest : tie.Need-enum-known-highest
 enum-known-highest c = search needs
 
--- src/measure.rt:81:25
 enum-known-why : tie.Need-enum-known-why
 enum-known-why c = search needs
 
@@ -120,15 +98,15 @@ from-fields d =
     let bytes = d .before .before .before .before .before .before .before .before .before .before .before .before .args .bytes .now in
     let within = leading-within _ (m .result) (omega (arith, m .ensures)) (d .before .before .if4 .left) in
     let fields : d .measure-fields .result ≡ measuredFields (readWritten (ones (m .result)) (take (length bytes - 2) (drop 2 bytes))) =
-        d .measure-fields .ensures in
+    d .measure-fields .ensures in
     let one =
-        record-measured
-        (d .before .before .before .before .before .before .before .before .before .before .before .before .args .relations)
-        (d .before .before .before .before .before .before .before .before .before .before .before .before .args .arities .now)
-        bytes
-        (omega (arith, x .ensures))
-        (d .before .before .before .before .before .before .if3 .left)
-        (rw (x .ensures .0, m .ensures .0) at within) in
+    record-measured
+    (d .before .before .before .before .before .before .before .before .before .before .before .before .args .relations)
+    (d .before .before .before .before .before .before .before .before .before .before .before .before .args .arities .now)
+    bytes
+    (omega (arith, x .ensures))
+    (d .before .before .before .before .before .before .if3 .left)
+    (rw (x .ensures .0, m .ensures .0) at within) in
     one ∙ rw (fields, part-to-end bytes 2, x .ensures .0, m .ensures .0)
 
 returns-5 : tie.Need-returns-5

@@ -93,7 +93,7 @@ part-write-row-end-2 : tie.Need-part-write-row-end-2 Inv-loop μ-loop
 part-write-row-end-2 c = search needs
 
 write-row-requires : tie.Need-write-row-requires Inv-loop μ-loop
-write-row-requires c κs = 
+write-row-requires c κs =
     let h = here (c .before .before .before) in
     let start = c .before .before .before .before .before .before .before .before .before .before .before in
     let at = c .before .before .before .before .before .before .before .before .loop in
@@ -130,7 +130,7 @@ loop-less : tie.Need-loop-less Inv-loop μ-loop
 loop-less c = omega arith
 
 loop-again : tie.Need-loop-again Inv-loop μ-loop
-loop-again c = 
+loop-again c =
     let h = here (c .before .before .before .before .before .before) in
     let at = c .before .before .before .before .before .before .before .before .before .before .before .loop in
     rw (put-to-end (at .plot) (at .used) _ (at .inv .inside)) (h .next-rows (c .before .before .write-row .last .0) (simp part-to-end at (c .before .before .write-row .ensures)))
