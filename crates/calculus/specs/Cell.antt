@@ -1,6 +1,7 @@
 -- Cells: constants and marked nulls. Document 01, "Plot, cells, marks".
 use Prim.Native.Nat.{ℕ, _+_, _-_}
-use mathlib.Core.Bool.{Bool, _&&_, _||_, cond}
+use mathlib.Core.Bool.{Bool, true, _&&_, _||_, cond}
+use mathlib.Core.List.{List, [], _∷_}
 use lib.Dec.{leb, ltb, eqb}
 
 -- "0 to 999,999 is an inked value"
@@ -35,3 +36,8 @@ isCell c = isConstant c || isNull c
 -- a fill (substitution) of null m by c, in one cell
 unfoldable pub put : ℕ → ℕ → ℕ → ℕ
 put m c x = cond (eqb x (null m)) c x
+
+-- a list of cells that holds no null
+unfoldable pub allConstant : List ℕ → Bool
+allConstant [] = true
+allConstant (c ∷ cs) = isConstant c && allConstant cs

@@ -2,3 +2,14 @@ pub mod Answer
 pub mod Cell
 pub mod Refusal
 pub mod Row
+pub mod Kleene
+pub mod Formula
+pub mod Eval
+pub mod Unify
+pub mod Domain
+pub mod Closed
+pub mod TwoValued
+pub mod Order
+pub mod Fill
+pub mod Model
+pub mod Readings

@@ -14,7 +14,8 @@ use Rattle.calculus.specs.Row.{Row}
 use Rattle.instance.specs.declared.header.Header.{Header}
 use Rattle.instance.specs.Header.{isArity, arityOf, aritiesStand, headerStands, maxRelations}
 use Rattle.instance.specs.Rows.{areCells, rowsStand}
-use Rattle.instance.proofs.Rows.{both, row-parts}
+use Rattle.calculus.proofs.Bools.{both}
+use Rattle.instance.proofs.Rows.{row-parts}
 use Rattle.card.specs.Parse.{read, readByte}
 use Rattle.card.specs.Format.{written, Record, readField, readFields, readCount, readArities, readHead, padded, readRecord, readRecords}
 use Rattle.card.specs.Encode.{fieldBytes, fieldsBytes, recordBytes, recordsBytes, headBytes}

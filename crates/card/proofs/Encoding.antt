@@ -15,7 +15,8 @@ use Rattle.instance.specs.declared.header.Header.{Header}
 use Rattle.instance.specs.declared.scan.Scanned.the-variants.{Rows}
 use Rattle.instance.specs.Header.{headerStands, arityOf, maxRelations, maxColumns}
 use Rattle.instance.specs.Sound.{sound, rows, scanned, tally}
-use Rattle.instance.proofs.Rows.{both, headed, parts}
+use Rattle.calculus.proofs.Bools.{both}
+use Rattle.instance.proofs.Rows.{headed, parts}
 use Rattle.card.specs.Encode.{headBytes, recordsBytes, cardBytes, encoded, encodedBytes}
 use Rattle.instance.specs.Header.{aritiesStand}
 use Rattle.card.proofs.Records.{arity-low}

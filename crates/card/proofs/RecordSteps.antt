@@ -10,7 +10,8 @@ use borrow.Author.Tests.{ltb-true, lt-ltb}
 use Rattle.calculus.specs.Cell.{isCell}
 use Rattle.instance.specs.Header.{arityOf}
 use Rattle.instance.specs.Rows.{wordsStand, rowsFrom}
-use Rattle.instance.proofs.Rows.{both, cells-first}
+use Rattle.calculus.proofs.Bools.{both}
+use Rattle.instance.proofs.Rows.{cells-first}
 use Rattle.instance.proofs.ScanSteps.{rest}
 use Rattle.card.specs.Encode.{fieldBytes, fieldsBytes, fullMap, recordsBytes}
 

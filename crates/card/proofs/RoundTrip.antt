@@ -17,7 +17,8 @@ use Rattle.instance.specs.declared.header.Header.{Header}
 use Rattle.instance.specs.Header.{headerStands, maxRelations, maxWords}
 use Rattle.instance.specs.Rows.{areCells, rowsStand, wordsOf, rowsFrom}
 use Rattle.instance.specs.Sound.{sound, rows}
-use Rattle.instance.proofs.Rows.{both, row-parts, words-back, stand-rows, parts}
+use Rattle.calculus.proofs.Bools.{both}
+use Rattle.instance.proofs.Rows.{row-parts, words-back, stand-rows, parts}
 use Rattle.card.specs.Parse.{read}
 use Rattle.card.specs.Format.{written, Card, readCard}
 use Rattle.card.specs.Blanks.{blanksIn, blanks, highestIn, highest, numbered, numberedRows}

@@ -17,7 +17,8 @@ use Rattle.instance.specs.Header.{isArity, arityOf, aritiesStand, headerStands,
 use Rattle.instance.specs.Insert.{hasRoom}
 use Rattle.instance.specs.Rows.{areCells, rowStands, rowsStand}
 use Rattle.instance.specs.Sound.{sound, rows}
-use Rattle.instance.proofs.Rows.{both, rows-back-stand, parts-sound}
+use Rattle.calculus.proofs.Bools.{both}
+use Rattle.instance.proofs.Rows.{rows-back-stand, parts-sound}
 use Rattle.card.specs.Parse.{Parsed, read, refused, andThen, ruled, readByte}
 use Rattle.card.specs.Format.{Field, written, blank, Record, Head, Card, readField, readFields, readCount, readArities, readHead, padded, readRecord, readRecords, readCard}
 use Rattle.card.specs.Blanks.{blanksIn, blanks, highest, numbered, numberedRows, rowsOf}

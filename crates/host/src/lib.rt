@@ -26,8 +26,8 @@ pub extern "C" fn plotask_decode(card: &[u8], header: &mut [u32], plot: &mut [u3
     }
     let stored = card::decode::decode(card, plot);
     let answer = stored.answer;
-    let new = stored.header;
-    put_header(header, answer, new);
+    let read = stored.header;
+    put_header(header, answer, read);
     number(answer)
 }
 
@@ -48,8 +48,8 @@ pub extern "C" fn plotask_insert(
     }
     let stored = instance::insert::insert(read_header(header), plot, relation, cells);
     let answer = stored.answer;
-    let new = stored.header;
-    put_header(header, answer, new);
+    let grown = stored.header;
+    put_header(header, answer, grown);
     number(answer)
 }
 
@@ -89,9 +89,9 @@ pub extern "C" fn plotask_null_counts(
     if header.len() != 10 {
         return UNSOUND;
     }
-    let answer = instance::null_counts::null_counts(read_header(header), plot, counts);
-    *count = value(answer, *count);
-    number(answer)
+    let counted = instance::null_counts::null_counts(read_header(header), plot, counts);
+    *count = value(counted, *count);
+    number(counted)
 }
 
 // Writing a card; count is the number of its bytes.
@@ -109,7 +109,7 @@ pub extern "C" fn plotask_encode(
     if header.len() != 10 {
         return UNSOUND;
     }
-    let answer = card::encode::encode(read_header(header), plot, card);
-    *count = value(answer, *count);
-    number(answer)
+    let written = card::encode::encode(read_header(header), plot, card);
+    *count = value(written, *count);
+    number(written)
 }

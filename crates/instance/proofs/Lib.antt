@@ -6,3 +6,4 @@ pub mod Counts
 pub mod Accepted
 pub mod NullLaws
 pub mod Kept
+pub mod Run

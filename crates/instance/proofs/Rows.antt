@@ -10,6 +10,7 @@ use borrow.Author.Tests.{ltb-true, leb-true, le-leb, eqb-true, eq-eqb}
 use lib.ListN.{length, take, length-take}
 use lib.Seq.{take-append-le, take-append-seam}
 use lib.Dec.{leb, ltb, eqb}
+use Rattle.calculus.proofs.Bools.{both}
 use Rattle.calculus.specs.Cell.{isCell}
 use Rattle.calculus.specs.Row.{Row, mapRow}
 use Rattle.instance.specs.declared.header.Header.{Header}
@@ -19,9 +20,6 @@ use Rattle.instance.specs.declared.scan.Scanned.the-variants.{Rows, Unso
 use Rattle.instance.specs.Sound.{sound, scanned, tally}
 
 -- the two parts of a test that holds
-pub both : (a b : Bool) → (a && b) ≡ true → (a ≡ true) × (b ≡ true)
-both a b e = and-eq-true-iff a b .0 e
-
 columns-of : (n : ℕ) (ars : List ℕ) → aritiesStand n ars ≡ true → (r : ℕ) → r < n → isArity (arityOf ars r) ≡ true
 unfolding aritiesStand
 columns-of zero ars e r l = absurd (not-suc-le-zero l)

@@ -4,3 +4,4 @@ pub mod Sound
 pub mod Insert
 pub mod Substitute
 pub mod NullCounts
+pub mod Run

@@ -10,7 +10,7 @@ use lib.ListN.{length, drop, getD, set, length-set}
 use lib.Seq.{drop-length}
 use Rattle.calculus.specs.Cell.{null, put}
 use Rattle.calculus.proofs.Cells.{put-null, put-other}
-use Rattle.instance.specs.Substitute.{countOf}
+use Rattle.calculus.specs.Fill.{countOf}
 use Rattle.instance.proofs.Passes.{upto, upto-none, upto-all, upto-here, upto-set, upto-kept, count-rest}
 use Rattle.instance.proofs.substitute.replace.Statement.{statement}
 use Rattle.instance.proofs.substitute.replace.Tie as tie

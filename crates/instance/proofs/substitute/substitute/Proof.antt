@@ -12,7 +12,8 @@ use Rattle.calculus.specs.declared.answer.Answer.the-variants.{Done}
 use Rattle.calculus.specs.Cell.{isCell, isMark}
 use Rattle.instance.specs.declared.header.Header.{Header}
 use Rattle.instance.specs.Sound.{sound, rows}
-use Rattle.instance.specs.Substitute.{held, substituted, substitutedWords}
+use Rattle.calculus.specs.Fill.{held}
+use Rattle.instance.specs.Substitute.{substituted, substitutedWords}
 use Rattle.instance.proofs.Rows.{parts, scanned-sound, scanned-unsound}
 use Rattle.instance.proofs.Fills.{held-words, filled-words, absent-same}
 use borrow.Author.Needs.{needs}

@@ -1,0 +1,119 @@
+-- With no null there is no unknown: the truth value is what two-valued logic says. Assumes nothing.
+use Prim.Native.Nat.{ℕ}
+use mathlib.Core.Path.{_≡_, refl, sym, ap, _∙_}
+use mathlib.Core.Bool.{Bool, true, false, _&&_, not, cond}
+use mathlib.Core.List.{List, [], _∷_, _++_, map}
+use lib.ListN.{set}
+use lib.Dec.{eqb}
+use Rattle.calculus.specs.declared.truth.Truth.{Truth}
+use Rattle.calculus.specs.declared.truth.Truth.the-variants.{False, Unknown, True}
+use Rattle.calculus.specs.Cell.{isConstant, allConstant}
+use Rattle.calculus.specs.Row.{Row, cellsOf}
+use Rattle.calculus.specs.Kleene.{Junction, conj, disj, join, negate}
+use Rattle.calculus.specs.Formula.{Term, Formula, atom, equal, negation, junction, quantified, value, values, termInked, inked}
+use Rattle.calculus.specs.Eval.{Outcome, over, eval}
+use Rattle.calculus.specs.Unify.{under, unifies}
+use Rattle.calculus.specs.Domain.{domain, distinct}
+use Rattle.calculus.specs.Closed.{tuples, some, identical, stands, equality, closed}
+use Rattle.calculus.specs.TwoValued.{joinB, overB, says}
+use Rattle.calculus.specs.Order.{ofBool}
+use Rattle.calculus.proofs.Bools.{never, both, and-true}
+use Rattle.calculus.proofs.Valuations.{under-keeps}
+use Rattle.calculus.proofs.Unification.{unifies-agrees}
+use Rattle.calculus.proofs.Tuples.{or-mono, identical-refl}
+use Rattle.calculus.proofs.Constants.{constant-set, constant-distinct, constant-append, keeps-all, constant-value, constant-values}
+
+negate-bool : (b : Bool) → negate (ofBool b) ≡ ofBool (not b)
+negate-bool true = refl
+negate-bool false = refl
+
+join-bool : (j : Junction) (a b : Bool) → join j (ofBool a) (ofBool b) ≡ ofBool (joinB j a b)
+join-bool conj true true = refl
+join-bool conj true false = refl
+join-bool conj false true = refl
+join-bool conj false false = refl
+join-bool disj true true = refl
+join-bool disj true false = refl
+join-bool disj false true = refl
+join-bool disj false false = refl
+
+-- constants unify only where they are the same
+constants-unify : (xs ys : List ℕ) → allConstant xs ≡ true → allConstant ys ≡ true → unifies xs ys ≡ true → identical xs ys ≡ true
+constants-unify xs ys p q e =
+    let u = unifies-agrees xs ys .0 e in
+    let v = u .valuation in
+    let same : xs ≡ ys = sym (keeps-all (under v) (under-keeps v) xs p) ∙ u .equal ∙ keeps-all (under v) (under-keeps v) ys q in
+    rw (← same) (identical-refl xs)
+
+-- every tuple of a relation is a list of constants
+AllKnown : List (List ℕ) → Type 0
+AllKnown [] = Unit
+AllKnown (t ∷ ts) = (allConstant t ≡ true) × AllKnown ts
+
+tuples-known : (r : ℕ) (rs : List Row) → allConstant (cellsOf rs) ≡ true → AllKnown (tuples r rs)
+unfolding AllKnown tuples cellsOf
+tuples-known r [] h = tt
+tuples-known r (row ∷ rs) h =
+    let c = constant-append (row .cells) (cellsOf rs) h in
+    go (eqb (row .relation) r) (c .0) (tuples-known r rs (c .1))
+  where
+    go : (b : Bool) → allConstant (row .cells) ≡ true → AllKnown (tuples r rs) → AllKnown (cond b (row .cells ∷ tuples r rs) (tuples r rs))
+    go true k ks = (k, ks)
+    go false k ks = ks
+
+only-identical : (row : List ℕ) (ts : List (List ℕ)) → allConstant row ≡ true → AllKnown ts → some (unifies row) ts ≡ true → some (identical row) ts ≡ true
+unfolding some AllKnown
+only-identical row [] known all e = e
+only-identical row (t ∷ ts) known all e =
+    or-mono (unifies row t) (some (unifies row) ts) (identical row t) (some (identical row) ts)
+    (constants-unify row t known (all .0)) (only-identical row ts known (all .1)) e
+
+stands-bool : (row : List ℕ) (ts : List (List ℕ)) → allConstant row ≡ true → AllKnown ts → stands ts row ≡ ofBool (some (identical row) ts)
+unfolding stands
+stands-bool row ts known all = go (some (identical row) ts) (some (unifies row) ts) (only-identical row ts known all)
+  where
+    go : (a b : Bool) → (b ≡ true → a ≡ true) → cond a True (cond b Unknown False) ≡ ofBool a
+    go true b f = refl
+    go false true f = never (f refl)
+    go false false f = refl
+
+pub equality-bool : (a b : ℕ) → isConstant a ≡ true → isConstant b ≡ true → equality a b ≡ ofBool (eqb a b)
+unfolding equality
+equality-bool a b p q = rw (and-true p q) (go (eqb a b))
+  where
+    go : (t : Bool) → cond t True False ≡ ofBool t
+    go true = refl
+    go false = refl
+
+over-bool :
+    (j : Junction) (f : ℕ → Outcome) (g : ℕ → Bool) (cs : List ℕ) → allConstant cs ≡ true →
+    ((c : ℕ) → isConstant c ≡ true → f c .truth ≡ ofBool (g c)) →
+    over j f cs .truth ≡ ofBool (overB j g cs)
+unfolding allConstant
+over-bool conj f g [] k each = refl
+over-bool disj f g [] k each = refl
+over-bool j f g (c ∷ cs) k each =
+    let b = both (isConstant c) (allConstant cs) k in
+    ap (λ (t : Truth). join j t (over j f cs .truth)) (each c (b .0)) ∙
+    ap (λ (t : Truth). join j (ofBool (g c)) t) (over-bool j f g cs (b .1) each) ∙
+    join-bool j (g c) (overB j g cs)
+
+module _ (rs : List Row) (plain : allConstant (cellsOf rs) ≡ true) where
+  -- the verdict is true exactly where two-valued logic says yes, and false exactly where it says no
+  pub two-valued :
+      (f : Formula) → inked f ≡ true → (e : List ℕ) → allConstant e ≡ true →
+      eval (closed rs) f e .truth ≡ ofBool (says rs f e)
+  unfolding eval says inked
+  two-valued (atom r ts) k e known = stands-bool (values e ts) (tuples r rs) (constant-values e known ts k) (tuples-known r rs plain)
+  two-valued (equal s t) k e known =
+      let b = both (termInked s) (termInked t) k in
+      equality-bool (value e s) (value e t) (constant-value e known s (b .0)) (constant-value e known t (b .1))
+  two-valued (negation f) k e known = ap negate (two-valued f k e known) ∙ negate-bool (says rs f e)
+  two-valued (junction j f g) k e known =
+      let b = both (inked f) (inked g) k in
+      ap (λ (t : Truth). join j t (eval (closed rs) g e .truth)) (two-valued f (b .0) e known) ∙
+      ap (λ (t : Truth). join j (ofBool (says rs f e)) t) (two-valued g (b .1) e known) ∙
+      join-bool j (says rs f e) (says rs g e)
+  two-valued (quantified j v f) k e known =
+      over-bool j (λ c. eval (closed rs) f (set e v c)) (λ c. says rs f (set e v c)) (domain rs) (constant-distinct (cellsOf rs) plain)
+      (λ c m. two-valued f k (set e v c) (constant-set e v c known m))

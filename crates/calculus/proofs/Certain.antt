@@ -1,0 +1,95 @@
+-- What a true or a false verdict means, and what runs A and B share. Assumes nothing.
+use Prim.Native.Nat.{ℕ, zero, suc, _-_}
+use mathlib.Core.Path.{_≡_, refl, sym, ap, _∙_}
+use mathlib.Core.Bool.{Bool, true, false}
+use mathlib.Core.List.{List, [], _∷_, _++_, map}
+use native.Mathlib.Omega.{arith}
+use lib.ListN.{length, replicate}
+use Rattle.calculus.specs.declared.truth.Truth.{Truth}
+use Rattle.calculus.specs.declared.truth.Truth.the-variants.{False, Unknown, True}
+use Rattle.calculus.specs.Cell.{isConstant, isCell, allConstant}
+use Rattle.calculus.specs.Row.{mapRow, cellsOf}
+use Rattle.calculus.specs.Formula.{Formula, inked, assignment, variables}
+use Rattle.calculus.specs.Unify.{Valuation, under}
+use Rattle.calculus.specs.Order.{_⊑_, unknown, alike, _⊑ₒ_, ofBool}
+use Rattle.calculus.specs.Model.{Fill, Model, run, asked, saysYes, plain, valued, Shared}
+use Rattle.calculus.proofs.Bools.{both, and-true}
+use Rattle.calculus.proofs.Rows.{cells-map}
+use Rattle.calculus.proofs.Valuations.{under-keeps, under-constant}
+use Rattle.calculus.proofs.Agreement.{two-valued}
+use Rattle.calculus.proofs.Fills.{Mapped, mapped-kept, fills-kept}
+
+-- ---- constants of rows and candidate
+
+append-constant : (xs ys : List ℕ) → allConstant xs ≡ true → allConstant ys ≡ true → allConstant (xs ++ ys) ≡ true
+unfolding allConstant
+append-constant [] ys p q = q
+append-constant (x ∷ xs) ys p q =
+    let b = both (isConstant x) (allConstant xs) p in
+    and-true (b .0) (append-constant xs ys (b .1) q)
+
+zeros-constant : (n : ℕ) → allConstant (replicate n 0) ≡ true
+unfolding allConstant
+zeros-constant zero = refl
+zeros-constant (suc n) = zeros-constant n
+
+valued-constant : (v : Valuation) (cs : List ℕ) → allConstant (map (under v) cs) ≡ true
+unfolding allConstant
+valued-constant v [] = refl
+valued-constant v (c ∷ cs) = and-true (under-constant v c) (valued-constant v cs)
+
+-- with no null, the verdict is two-valued logic's
+pub plain-verdict : (b : Model) (f : Formula) → inked f ≡ true → plain b ≡ true → asked b f .truth ≡ ofBool (saysYes b f)
+plain-verdict b f k p =
+    let c = both (allConstant (cellsOf (b .rows))) (allConstant (b .candidate)) p in
+    two-valued (b .rows) (c .0) f k (assignment (b .candidate))
+    (append-constant (b .candidate) (replicate (variables - length (b .candidate)) 0) (c .1) (zeros-constant (variables - length (b .candidate))))
+
+-- ---- every valuation
+
+pub valued-plain : (v : Valuation) (b : Model) → plain (valued v b) ≡ true
+valued-plain v b =
+    and-true
+    (ap allConstant (cells-map (under v) (b .rows)) ∙ valued-constant v (cellsOf (b .rows)))
+    (valued-constant v (b .candidate))
+
+constant-cell : (c : ℕ) → isConstant c ≡ true → isCell c ≡ true
+unfolding isCell
+constant-cell c k = rw k
+
+-- every valuation of all nulls keeps a true and a false verdict
+pub valuation-kept : (v : Valuation) (b : Model) (f : Formula) → inked f ≡ true → asked b f ⊑ₒ asked (valued v b) f
+valuation-kept v b f k =
+    mapped-kept {b = b} {b′ = valued v b}
+    (record { by = under v; keeps = under-keeps v; cells = λ c h. constant-cell (under v c) (under-constant v c); rows = refl; candidate = refl })
+    f k
+
+zero-not-one : _≡_ {A = ℕ} 0 1 → ⊥
+zero-not-one z = omega arith
+
+settled : {a b : Truth} (t : Bool) → a ⊑ b → a ≡ ofBool t → b ≡ ofBool t
+settled true unknown e = let z : _≡_ {A = ℕ} 0 1 = cc in absurd (zero-not-one z)
+settled false unknown e = let z : _≡_ {A = ℕ} 0 1 = cc in absurd (zero-not-one z)
+settled t alike e = e
+
+of-bool : (a b : Bool) → ofBool a ≡ ofBool b → a ≡ b
+of-bool true true e = refl
+of-bool true false e = let z : _≡_ {A = Bool} true false = cc in z
+of-bool false true e = let z : _≡_ {A = Bool} false true = cc in z
+of-bool false false e = refl
+
+-- a true verdict is a yes of two-valued logic under every valuation, and a false one a no
+pub certain :
+    (v : Valuation) (b : Model) (f : Formula) (t : Bool) → inked f ≡ true → asked b f .truth ≡ ofBool t → saysYes (valued v b) f ≡ t
+certain v b f t k e =
+    of-bool (saysYes (valued v b) f) t
+    (sym (plain-verdict (valued v b) f k (valued-plain v b)) ∙ settled t (valuation-kept v b f k .truth) e)
+
+-- ---- runs A and B
+
+pub runs-share : (fs : List Fill) (b : Model) (f : Formula) → inked f ≡ true → Shared fs b f
+runs-share fs b f k = record { kept = fills-kept fs b f k; two-valued = plain-verdict (run fs b) f k }
+
+-- a true or a false verdict of A is B's too
+pub verdict-kept : (fs : List Fill) (b : Model) (f : Formula) (t : Bool) → inked f ≡ true → asked b f .truth ≡ ofBool t → asked (run fs b) f .truth ≡ ofBool t
+verdict-kept fs b f t k e = settled t (fills-kept fs b f k .truth) e

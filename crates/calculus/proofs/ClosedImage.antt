@@ -1,0 +1,98 @@
+-- A map of cells that leaves constants as they are makes of a closed instance an image: rows that stood still stand, rows that did not unify
+-- still do not, and the values are the images of the values. Assumes nothing.
+use Prim.Native.Nat.{ℕ, _+_, _≤_}
+use native.Mathlib.Nat.{le-of-eq}
+use mathlib.Core.Path.{_≡_, refl, sym, ap, _∙_, subst}
+use mathlib.Core.Bool.{Bool, true, false, _&&_, cond}
+use mathlib.Core.List.{List, [], _∷_, map, map-map}
+use lib.ListN.{length, length-map}
+use lib.Dec.{eqb}
+use borrow.Author.Tests.{eqb-true, eq-eqb}
+use Rattle.calculus.specs.declared.truth.Truth.{Truth}
+use Rattle.calculus.specs.declared.truth.Truth.the-variants.{False, Unknown, True}
+use Rattle.calculus.specs.Cell.{isConstant}
+use Rattle.calculus.specs.Row.{Row, mapRow, cellsOf}
+use Rattle.calculus.specs.Unify.{Unify, under, unifies}
+use Rattle.calculus.specs.Formula.{Formula, inked}
+use Rattle.calculus.specs.Eval.{eval}
+use Rattle.calculus.specs.Domain.{distinct, domain}
+use Rattle.calculus.specs.Closed.{tuples, some, identical, stands, equality, closed}
+use Rattle.calculus.proofs.Bools.{never, both}
+use Rattle.calculus.specs.Order.{_⊑_, unknown, alike, _⊑ₒ_, Keeps}
+use Rattle.calculus.proofs.Image.{Image, eval-image}
+use Rattle.calculus.proofs.Rows.{cells-map}
+use Rattle.calculus.proofs.Valuations.{map-same, after, after-is}
+use Rattle.calculus.proofs.Unification.{unifies-agrees}
+use Rattle.calculus.proofs.Distinct.{distinct-map}
+use Rattle.calculus.proofs.Tuples.{tuples-map, some-mono, some-of-map, identical-refl, identical-is}
+
+-- the same list unifies
+pub identical-unifies : (xs ys : List ℕ) → identical xs ys ≡ true → unifies xs ys ≡ true
+identical-unifies xs ys e =
+    unifies-agrees xs ys .1
+    (record { valuation = record { value = λ c. 0; constant = λ c. refl }; equal = ap (map _) (identical-is xs ys e) })
+
+module _ (h : ℕ → ℕ) (keeps : Keeps h) where
+  identical-map : (xs ys : List ℕ) → identical xs ys ≡ true → identical (map h xs) (map h ys) ≡ true
+  identical-map xs ys e = subst (λ (l : List ℕ). identical (map h xs) (map h l) ≡ true) (identical-is xs ys e) (identical-refl (map h xs))
+
+  -- a valuation after h is a valuation
+  unifies-unmap : (xs ys : List ℕ) → unifies (map h xs) (map h ys) ≡ true → unifies xs ys ≡ true
+  unifies-unmap xs ys e =
+      let u = unifies-agrees (map h xs) (map h ys) .0 e in
+      let v = u .valuation in
+      let through : (l : List ℕ) → map (under (after v h)) l ≡ map (under v) (map h l) =
+      λ l. map-same (under (after v h)) (λ c. under v (h c)) (after-is v h keeps) l ∙ sym (map-map (under v) h l)
+      in
+      unifies-agrees xs ys .1 (record { valuation = after v h; equal = through xs ∙ u .equal ∙ sym (through ys) })
+
+  stands-map : (ts : List (List ℕ)) (row : List ℕ) → stands ts row ⊑ stands (map (map h) ts) (map h row)
+  unfolding stands
+  stands-map ts row =
+      go (some (identical row) ts) (some (unifies row) ts) (some (identical (map h row)) (map (map h) ts)) (some (unifies (map h row)) (map (map h) ts))
+      (λ e. some-of-map (identical (map h row)) (map h) ts ∙ some-mono (identical row) (λ t. identical (map h row) (map h t)) (identical-map row) ts e)
+      (λ e. some-mono (λ t. unifies (map h row) (map h t)) (unifies row) (unifies-unmap row) ts (sym (some-of-map (unifies (map h row)) (map h) ts) ∙ e))
+      (some-mono (identical (map h row)) (unifies (map h row)) (identical-unifies (map h row)) (map (map h) ts))
+    where
+      go :
+          (a b a′ b′ : Bool) → (a ≡ true → a′ ≡ true) → (b′ ≡ true → b ≡ true) → (a′ ≡ true → b′ ≡ true) →
+          cond a True (cond b Unknown False) ⊑ cond a′ True (cond b′ Unknown False)
+      go true b true b′ f g k = alike
+      go true b false b′ f g k = never (f refl)
+      go false true a′ b′ f g k = unknown
+      go false false true b′ f g k = never (g (k refl))
+      go false false false true f g k = never (g refl)
+      go false false false false f g k = alike
+
+  equality-map : (a b : ℕ) → equality a b ⊑ equality (h a) (h b)
+  unfolding equality
+  equality-map a b = go (eqb a b) refl (isConstant a && isConstant b) refl
+    where
+      go :
+          (p : Bool) → eqb a b ≡ p → (q : Bool) → (isConstant a && isConstant b) ≡ q →
+          cond p True (cond q False Unknown) ⊑ equality (h a) (h b)
+      go true e q k = rw (eq-eqb (h a) (h b) (ap h (eqb-true a b e))) alike
+      go false e true k = let c = both (isConstant a) (isConstant b) k in rw (keeps a (c .0), keeps b (c .1), e, k) alike
+      go false e false k = unknown
+
+  -- the range of the mapped rows is the mapped range, each value once where it first stands
+  pub domain-map : (rs : List Row) → domain (map (mapRow h) rs) ≡ distinct (map h (domain rs))
+  domain-map rs = ap distinct (cells-map h rs) ∙ distinct-map h (cellsOf rs)
+
+  -- the rows after the map are an image of the rows before it
+  pub closed-image : (rs : List Row) → Image h (closed rs) (closed (map (mapRow h) rs))
+  closed-image rs = record {
+    keeps = keeps;
+    atoms = λ r row. record {
+      truth = subst (λ (ts : List (List ℕ)). stands (tuples r rs) row ⊑ stands ts (map h row)) (sym (tuples-map h r rs)) (stands-map (tuples r rs) row);
+      cost = le-of-eq (ap (λ (ts : List (List ℕ)). 1 + length ts) (tuples-map h r rs) ∙ ap (λ (n : ℕ). 1 + n) (length-map (tuples r rs) (map h)));
+    };
+    equals = equality-map;
+    ranges = domain-map rs;
+  }
+
+  -- a map of cells that leaves constants as they are unsettles no verdict and raises no cost, for every formula, list of rows and assignment
+  pub closed-kept :
+      (f : Formula) → inked f ≡ true → (rs : List Row) (e : List ℕ) →
+      eval (closed rs) f e ⊑ₒ eval (closed (map (mapRow h) rs)) f (map h e)
+  closed-kept f k rs e = eval-image h (closed rs) (closed (map (mapRow h) rs)) (closed-image rs) f k e

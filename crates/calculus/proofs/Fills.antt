@@ -1,0 +1,125 @@
+-- What a list of fills does to a verdict and its cost: one map of cells stands for the whole list, a refused fill for the identity. Assumes
+-- nothing.
+use Prim.Native.Nat.{ℕ, zero, suc, _-_}
+use mathlib.Core.Path.{_≡_, refl, sym, ap, _∙_, subst}
+use mathlib.Core.Bool.{true}
+use mathlib.Core.List.{List, [], _∷_, _++_, map, map-map}
+use native.Mathlib.Omega.{arith}
+use lib.ListN.{length, length-map, replicate}
+use borrow.Author.Tests.{ltb-true, leb-true}
+use Rattle.calculus.specs.declared.answer.Answer.{Answer}
+use Rattle.calculus.specs.declared.answer.Answer.the-variants.{Done, Refused}
+use Rattle.calculus.specs.Answer.{after}
+use Rattle.calculus.specs.Cell.{constants, isCell, isMark, put}
+use Rattle.calculus.specs.Row.{Row, mapRow}
+use Rattle.calculus.specs.Formula.{Formula, inked, assignment, variables}
+use Rattle.calculus.specs.Eval.{eval}
+use Rattle.calculus.specs.Closed.{closed}
+use Rattle.calculus.specs.Order.{_⊑ₒ_, Keeps}
+use Rattle.calculus.specs.Fill.{substitute}
+use Rattle.calculus.specs.Model.{Fill, Model, asked, answerOf, next, run}
+use Rattle.calculus.proofs.Answers.{demand-done}
+use Rattle.calculus.proofs.Bools.{both}
+use Rattle.calculus.proofs.Cells.{put-other, put-cell}
+use Rattle.calculus.proofs.ClosedImage.{closed-kept}
+
+-- ---- the assignment of a candidate
+
+map-append : (h : ℕ → ℕ) (xs ys : List ℕ) → map h (xs ++ ys) ≡ map h xs ++ map h ys
+map-append h [] ys = refl
+map-append h (x ∷ xs) ys = ap (λ (l : List ℕ). h x ∷ l) (map-append h xs ys)
+
+zeros-kept : (h : ℕ → ℕ) → Keeps h → (n : ℕ) → map h (replicate n 0) ≡ replicate n 0
+zeros-kept h keeps zero = refl
+zeros-kept h keeps (suc n) = rw (keeps 0 refl, zeros-kept h keeps n) refl
+
+pub assignment-map : (h : ℕ → ℕ) → Keeps h → (cs : List ℕ) → map h (assignment cs) ≡ assignment (map h cs)
+assignment-map h keeps cs =
+    map-append h cs (replicate (variables - length cs) 0) ∙
+    ap (λ (l : List ℕ). map h cs ++ l) (zeros-kept h keeps (variables - length cs)) ∙
+    ap (λ (n : ℕ). map h cs ++ replicate (variables - n) 0) (sym (length-map cs h))
+
+-- ---- a map of rows and candidate
+
+-- b′ is b under a map of cells that leaves constants as they are, and makes cells of cells
+pub record Mapped (b b′ : Model) : Type 0 where
+  pub by : ℕ → ℕ
+  pub keeps : Keeps by
+  pub cells : (c : ℕ) → isCell c ≡ true → isCell (by c) ≡ true
+  pub rows : b′ .rows ≡ map (mapRow by) (b .rows)
+  pub candidate : b′ .candidate ≡ map by (b .candidate)
+
+pub mapped-kept : {b b′ : Model} → Mapped b b′ → (f : Formula) → inked f ≡ true → asked b f ⊑ₒ asked b′ f
+mapped-kept {b} {b′} m f k =
+    rw (m .rows, m .candidate)
+    (subst (λ (e : List ℕ). asked b f ⊑ₒ eval (closed (map (mapRow (m .by)) (b .rows))) f e) (assignment-map (m .by) (m .keeps) (b .candidate))
+    (closed-kept (m .by) (m .keeps) f k (b .rows) (assignment (b .candidate))))
+
+map-none : (cs : List ℕ) → map (λ c. c) cs ≡ cs
+map-none [] = refl
+map-none (c ∷ cs) = ap (λ (l : List ℕ). c ∷ l) (map-none cs)
+
+rows-none : (rs : List Row) → map (mapRow (λ c. c)) rs ≡ rs
+rows-none [] = refl
+rows-none (r ∷ rs) = rw (map-none (r .cells), rows-none rs) refl
+
+rows-twice : (g h : ℕ → ℕ) (rs : List Row) → map (mapRow g) (map (mapRow h) rs) ≡ map (mapRow (λ c. g (h c))) rs
+rows-twice g h [] = refl
+rows-twice g h (r ∷ rs) = rw (map-map g h (r .cells), rows-twice g h rs) refl
+
+mapped-none : (b : Model) → Mapped b b
+mapped-none b = record {
+  by = λ c. c;
+  keeps = λ c k. refl;
+  cells = λ c k. k;
+  rows = sym (rows-none (b .rows));
+  candidate = sym (map-none (b .candidate));
+}
+
+mapped-twice : {a b c : Model} → Mapped a b → Mapped b c → Mapped a c
+mapped-twice {a} {b} {c} m n = record {
+  by = λ x. n .by (m .by x);
+  keeps = λ x k. ap (n .by) (m .keeps x k) ∙ n .keeps x k;
+  cells = λ x k. n .cells (m .by x) (m .cells x k);
+  rows = n .rows ∙ ap (map (mapRow (n .by))) (m .rows) ∙ rows-twice (n .by) (m .by) (a .rows);
+  candidate = n .candidate ∙ ap (map (n .by)) (m .candidate) ∙ map-map (n .by) (m .by) (a .candidate);
+}
+
+-- ---- one fill, and a list of them
+
+pub put-keeps : (m c : ℕ) → isMark m ≡ true → Keeps (put m c)
+put-keeps m c mark x k =
+    let b = both _ _ mark in
+    put-other m c x (λ e. omega (arith, ltb-true x constants k, leb-true 1 m (b .0)))
+
+pub mapped-next : (f : Fill) (b : Model) → Mapped b (next f b)
+mapped-next f b = go (answerOf f b) refl
+  where
+    filledModel : Model
+    filledModel = record { rows = substitute (f .mark) (f .cell) (b .rows); candidate = map (put (f .mark) (f .cell)) (b .candidate) }
+
+    go : (a : Answer) → answerOf f b ≡ a → Mapped b (after a filledModel b)
+    go (Done n) e =
+        let mark = demand-done (isMark (f .mark)) _ _ n e in
+        let cell = demand-done (isCell (f .cell)) _ _ n (mark .1) in
+        record {
+          by = put (f .mark) (f .cell);
+          keeps = put-keeps (f .mark) (f .cell) (mark .0);
+          cells = λ x k. put-cell (f .mark) (f .cell) x (cell .0) k;
+          rows = refl;
+          candidate = refl;
+        }
+    go (Refused r) e = mapped-none b
+
+pub mapped-run : (fs : List Fill) (b : Model) → Mapped b (run fs b)
+unfolding run
+mapped-run [] b = mapped-none b
+mapped-run (f ∷ fs) b = mapped-twice (mapped-next f b) (mapped-run fs (next f b))
+
+-- one fill, refused or not
+pub fill-kept : (f : Fill) (b : Model) (g : Formula) → inked g ≡ true → asked b g ⊑ₒ asked (next f b) g
+fill-kept f b = mapped-kept (mapped-next f b)
+
+-- the whole list, refused fills included: no verdict is unsettled, and no cost rises
+pub fills-kept : (fs : List Fill) (b : Model) (g : Formula) → inked g ≡ true → asked b g ⊑ₒ asked (run fs b) g
+fills-kept fs b = mapped-kept (mapped-run fs b)

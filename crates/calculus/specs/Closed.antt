@@ -1,0 +1,45 @@
+-- The closed instance as a structure: what document 01, "Verdicts and looks", says of kinds 1 and 2.
+use Prim.Native.Nat.{ℕ, _+_}
+use mathlib.Core.Bool.{Bool, true, false, _&&_, _||_, cond}
+use mathlib.Core.List.{List, [], _∷_}
+use lib.ListN.{length}
+use lib.Dec.{eqb}
+use Rattle.calculus.specs.declared.truth.Truth.{Truth}
+use Rattle.calculus.specs.declared.truth.Truth.the-variants.{False, Unknown, True}
+use Rattle.calculus.specs.Cell.{isConstant}
+use Rattle.calculus.specs.Row.{Row}
+use Rattle.calculus.specs.Unify.{unifies}
+use Rattle.calculus.specs.Domain.{domain}
+use Rattle.calculus.specs.Eval.{Outcome, Structure}
+
+-- the tuples of relation r, in the order of their rows
+unfoldable pub tuples : ℕ → List Row → List (List ℕ)
+tuples r [] = []
+tuples r (row ∷ rs) = cond (eqb (row .relation) r) (row .cells ∷ tuples r rs) (tuples r rs)
+
+-- some tuple passes the test
+unfoldable pub some : (List ℕ → Bool) → List (List ℕ) → Bool
+some test [] = false
+some test (t ∷ ts) = test t || some test ts
+
+unfoldable pub identical : List ℕ → List ℕ → Bool
+identical [] [] = true
+identical [] (y ∷ ys) = false
+identical (x ∷ xs) [] = false
+identical (x ∷ xs) (y ∷ ys) = eqb x y && identical xs ys
+
+-- "Kind 1: true if the very row stands in the sheet; false if no row of the sheet unifies with it; else unknown."
+unfoldable pub stands : List (List ℕ) → List ℕ → Truth
+stands ts row = cond (some (identical row) ts) True (cond (some (unifies row) ts) Unknown False)
+
+-- "Kind 2: true for the same cell, false for two different inked values, else unknown."
+unfoldable pub equality : ℕ → ℕ → Truth
+equality a b = cond (eqb a b) True (cond (isConstant a && isConstant b) False Unknown)
+
+-- "kind 1 costs 1 plus the number of rows of that sheet"
+abbrev pub closed : List Row → Structure
+closed rs = record {
+  holds = λ r row. record { truth = stands (tuples r rs) row; cost = 1 + length (tuples r rs) };
+  equals = equality;
+  range = domain rs;
+}

@@ -1,0 +1,51 @@
+-- The relational calculus (document 01: questions, as trees). A variable is bound by a quantifier or by the candidate row.
+use Prim.Native.Nat.{ℕ, _-_}
+use mathlib.Core.Bool.{Bool, true, _&&_}
+use mathlib.Core.List.{List, [], _∷_, _++_, map}
+use lib.ListN.{length, getD, replicate}
+use Rattle.calculus.specs.Cell.{isConstant}
+use Rattle.calculus.specs.Kleene.{Junction}
+
+-- "A term is an inked value, or 2,000,000 + v for variable v"
+pub data Term : Type 0 where
+  const var : ℕ → Term
+
+-- kinds 1, 2, 3, 4 and 5, 6 and 7: some is or over the values, every is and over them
+pub data Formula : Type 0 where
+  atom : ℕ → List Term → Formula
+  equal : Term → Term → Formula
+  negation : Formula → Formula
+  junction : Junction → Formula → Formula → Formula
+  quantified : Junction → ℕ → Formula → Formula
+
+-- An assignment is the list of the variables' cells. A variable past its end counts as 0; a checked question has none.
+abbrev pub value : List ℕ → Term → ℕ
+value e (const c) = c
+value e (var v) = getD e v 0
+
+abbrev pub values : List ℕ → List Term → List ℕ
+values e ts = map (value e) ts
+
+-- "variables 0 to 15"
+abbrev pub variables : ℕ
+variables = 16
+
+-- "The candidate row has k cells, 0 to 6, for variables 0 to k − 1."
+abbrev pub assignment : List ℕ → List ℕ
+assignment candidate = candidate ++ replicate (variables - length candidate) 0
+
+-- every constant of a formula is an inked value
+abbrev pub termInked : Term → Bool
+termInked (const c) = isConstant c
+termInked (var v) = true
+
+abbrev pub termsInked : List Term → Bool
+termsInked [] = true
+termsInked (t ∷ ts) = termInked t && termsInked ts
+
+unfoldable pub inked : Formula → Bool
+inked (atom r ts) = termsInked ts
+inked (equal s t) = termInked s && termInked t
+inked (negation f) = inked f
+inked (junction j f g) = inked f && inked g
+inked (quantified j v f) = inked f

@@ -1,0 +1,64 @@
+-- The model of a run (document 01, "Run A and run B": the book). "It starts with A's rows, in plot order, and A's candidate. A fill that the
+-- tables refuse, asked of the book's rows, leaves it as it is and answers that refusal .. Any other puts c in every cell of rows and
+-- candidate that held m, and answers how many of those were in rows."
+use Prim.Native.Nat.{ℕ}
+use mathlib.Core.Path.{_≡_}
+use mathlib.Core.Bool.{Bool, true, _&&_}
+use mathlib.Core.List.{List, [], _∷_, map}
+use Rattle.calculus.specs.declared.answer.Answer.{Answer}
+use Rattle.calculus.specs.Answer.{after}
+use Rattle.calculus.specs.Cell.{put, allConstant}
+use Rattle.calculus.specs.Row.{Row, mapRow, cellsOf}
+use Rattle.calculus.specs.Formula.{Formula, assignment}
+use Rattle.calculus.specs.Eval.{Outcome, eval}
+use Rattle.calculus.specs.Closed.{closed}
+use Rattle.calculus.specs.TwoValued.{says}
+use Rattle.calculus.specs.Unify.{Valuation, under}
+use Rattle.calculus.specs.Order.{_⊑ₒ_, ofBool}
+use Rattle.calculus.specs.Fill.{substitute, filled}
+
+-- "fed each one's mark and cell alone"
+pub record Fill : Type 0 where
+  pub mark : ℕ
+  pub cell : ℕ
+
+pub record Model : Type 0 where
+  pub rows : List Row
+  pub candidate : List ℕ
+
+-- a question of the model, by the three-valued rules and by two-valued logic
+abbrev pub asked : Model → Formula → Outcome
+asked b f = eval (closed (b .rows)) f (assignment (b .candidate))
+
+abbrev pub saysYes : Model → Formula → Bool
+saysYes b f = says (b .rows) f (assignment (b .candidate))
+
+-- no cell of rows and candidate holds a null
+abbrev pub plain : Model → Bool
+plain b = allConstant (cellsOf (b .rows)) && allConstant (b .candidate)
+
+abbrev pub answerOf : Fill → Model → Answer
+answerOf f b = filled (f .mark) (f .cell) (b .rows)
+
+abbrev pub next : Fill → Model → Model
+next f b = after (answerOf f b) (record { rows = substitute (f .mark) (f .cell) (b .rows); candidate = map (put (f .mark) (f .cell)) (b .candidate) }) b
+
+-- the model after a list of fills, and what each of them answers
+unfoldable pub run : List Fill → Model → Model
+run [] b = b
+run (f ∷ fs) b = run fs (next f b)
+
+unfoldable pub answers : List Fill → Model → List Answer
+answers [] b = []
+answers (f ∷ fs) b = answerOf f b ∷ answers fs (next f b)
+
+-- the model with every null valued
+abbrev pub valued : Valuation → Model → Model
+valued v b = record { rows = map (mapRow (under v)) (b .rows); candidate = map (under v) (b .candidate) }
+
+-- What run A and run B share, for one question and a whole list of fills. "if A's verdict is true or false, B's is the same .. the looks it
+-- answers are at most those that A answered. If B's plot and candidate hold no mark, B's verdict is true exactly when ordinary two-valued
+-- logic .. says yes, and false exactly when it says no."
+pub record Shared (fs : List Fill) (b : Model) (f : Formula) : Type 0 where
+  pub kept : asked b f ⊑ₒ asked (run fs b) f
+  pub two-valued : plain (run fs b) ≡ true → asked (run fs b) f .truth ≡ ofBool (saysYes (run fs b) f)

@@ -1,0 +1,31 @@
+-- Ordinary two-valued logic, as document 01, "Run A and run B", writes it out. Nothing stops early.
+use Prim.Native.Nat.{ℕ}
+use mathlib.Core.Bool.{Bool, true, false, not, _&&_, _||_}
+use mathlib.Core.List.{List, [], _∷_}
+use lib.ListN.{set}
+use lib.Dec.{eqb}
+use Rattle.calculus.specs.Row.{Row}
+use Rattle.calculus.specs.Kleene.{Junction, conj, disj}
+use Rattle.calculus.specs.Formula.{Formula, atom, equal, negation, junction, quantified, value, values}
+use Rattle.calculus.specs.Domain.{domain}
+use Rattle.calculus.specs.Closed.{tuples, some, identical}
+
+abbrev pub joinB : Junction → Bool → Bool → Bool
+joinB conj a b = a && b
+joinB disj a b = a || b
+
+-- "over none, some is no and every yes"
+abbrev pub unitB : Junction → Bool
+unitB conj = true
+unitB disj = false
+
+abbrev pub overB : Junction → (ℕ → Bool) → List ℕ → Bool
+overB j f [] = unitB j
+overB j f (c ∷ cs) = joinB j (f c) (overB j f cs)
+
+unfoldable pub says : List Row → Formula → List ℕ → Bool
+says rs (atom r ts) e = some (identical (values e ts)) (tuples r rs)
+says rs (equal s t) e = eqb (value e s) (value e t)
+says rs (negation f) e = not (says rs f e)
+says rs (junction j f g) e = joinB j (says rs f e) (says rs g e)
+says rs (quantified j v f) e = overB j (λ c. says rs f (set e v c)) (domain rs)
