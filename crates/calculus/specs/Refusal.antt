@@ -1,6 +1,10 @@
--- The numbers of the refusals. Document 01, "Numbers that come from the input" (11 to 29) and "Numbers that come from the state"
--- (41 to 44).
+-- The numbers of the refusals. Document 01, "Numbers that come from the input" (10 to 29) and "Numbers that come from the state"
+-- (41 to 46).
 use Prim.Native.Nat.{ℕ}
+
+-- "the program's input is over 16,384 bytes"
+abbrev pub input-too-long : ℕ
+input-too-long = 10
 
 -- "card or program input ends too soon"
 abbrev pub cut-short : ℕ
@@ -34,6 +38,30 @@ nulls-exhausted = 17
 abbrev pub bytes-left-over : ℕ
 bytes-left-over = 18
 
+-- "question not 8 to 800 words, or no multiple of 8"
+abbrev pub bad-query-length : ℕ
+bad-query-length = 21
+
+-- "kind not 1 to 7, an unnamed word not 0, or a term neither value nor variable"
+abbrev pub bad-node : ℕ
+bad-node = 22
+
+-- "child number not above its parent's, not below the node count, or named already; or a node above 0 that no earlier node names"
+abbrev pub bad-child : ℕ
+bad-child = 23
+
+-- "quantifier variable above 15, or a variable bound by nothing"
+abbrev pub unbound-variable : ℕ
+unbound-variable = 24
+
+-- "kind 1 names a sheet that the head lacks"
+abbrev pub no-such-query-relation : ℕ
+no-such-query-relation = 25
+
+-- "candidate over 6 cells, or holds a number that is no cell"
+abbrev pub bad-candidate : ℕ
+bad-candidate = 26
+
 -- "entered row's length is not the sheet's column count"
 abbrev pub wrong-row-length : ℕ
 wrong-row-length = 27
@@ -57,3 +85,11 @@ null-absent = 43
 -- "output shorter than the card, or census output under 200 words"
 abbrev pub output-too-short : ℕ
 output-too-short = 44
+
+-- "working list shorter than the plot's cells"
+abbrev pub buffer-too-short : ℕ
+buffer-too-short = 45
+
+-- "the question's looks exceed the allowance (32 bits)"
+abbrev pub budget-spent : ℕ
+budget-spent = 46

@@ -23,15 +23,6 @@ use Rattle.card.proofs.Records.{arity-low}
 use Rattle.card.proofs.Parts.{part-to-end, put-to-end}
 use Rattle.card.proofs.RecordSteps.{records-bytes, records-size}
 
--- the number of rows that a scan answers
-pub scanned-rows : (h : Header) (ws : List ℕ) (k : ℕ) → scanned h ws ≡ Rows k → length (rows h ws) ≡ k
-unfolding scanned
-scanned-rows h ws k e = go (sound h ws) e
-  where
-    go : (b : Bool) → tally b (length (rows h ws)) ≡ Rows k → length (rows h ws) ≡ k
-    go true q = cc
-    go false q = cc
-
 -- no relation has more columns than 6
 pub narrow : (n : ℕ) (ars : List ℕ) → headerStands n ars ≡ true → (r : ℕ) → arityOf ars r ≤ maxColumns
 unfolding headerStands

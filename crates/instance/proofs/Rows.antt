@@ -17,7 +17,7 @@ use Rattle.instance.specs.declared.header.Header.{Header}
 use Rattle.instance.specs.Header.{aritiesStand, headerStands, isArity, arityOf, maxRelations, maxColumns, maxWords}
 use Rattle.instance.specs.Rows.{areCells, rowStands, rowsStand, wordsStand, rowsFrom, wordsOf}
 use Rattle.instance.specs.declared.scan.Scanned.the-variants.{Rows, Unsound}
-use Rattle.instance.specs.Sound.{sound, scanned, tally}
+use Rattle.instance.specs.Sound.{sound, scanned, tally, rows}
 
 -- the two parts of a test that holds
 columns-of : (n : ℕ) (ars : List ℕ) → aritiesStand n ars ≡ true → (r : ℕ) → r < n → isArity (arityOf ars r) ≡ true
@@ -210,3 +210,12 @@ scanned-unsound h ws e = go (sound h ws) _ e
     go : (b : Bool) (n : ℕ) → tally b n ≡ Unsound → b ≡ false
     go true n q = cc
     go false n q = refl
+
+-- the number of rows that a scan answers
+pub scanned-rows : (h : Header) (ws : List ℕ) (k : ℕ) → scanned h ws ≡ Rows k → length (rows h ws) ≡ k
+unfolding scanned
+scanned-rows h ws k e = go (sound h ws) e
+  where
+    go : (b : Bool) → tally b (length (rows h ws)) ≡ Rows k → length (rows h ws) ≡ k
+    go true q = cc
+    go false q = cc

@@ -18,7 +18,7 @@ use calculus::refusal::NOT_A_CELL;
 use calculus::refusal::UNSOUND;
 use calculus::refusal::WRONG_ROW_LENGTH;
 
-fn are_cells(cells: &[u32]) -> bool
+pub fn are_cells(cells: &[u32]) -> bool
     ensures { λ r. ⌜ r ≡ areCells (now (cells .entry)) ⌝ }
 {
     let mut i = 0;

@@ -11,10 +11,10 @@ use lib.Seq.{length-take-le}
 use Rattle.instance.specs.declared.header.Header.{Header}
 use Rattle.instance.specs.Header.{maxRelations}
 use Rattle.instance.specs.Sound.{sound, rows}
-use Rattle.instance.proofs.Rows.{headed, parts, scanned-sound, scanned-unsound}
+use Rattle.instance.proofs.Rows.{headed, parts, scanned-sound, scanned-unsound, scanned-rows}
 use Rattle.card.specs.Encode.{cardBytes}
 use Rattle.card.proofs.RecordSteps.{more-stand}
-use Rattle.card.proofs.Encoding.{scanned-rows, narrow, all-written, record-size, card-size, refused-unsound, refused-short, done}
+use Rattle.card.proofs.Encoding.{narrow, all-written, record-size, card-size, refused-unsound, refused-short, done}
 use Rattle.card.proofs.encode.encode.Statement.{statement}
 use Rattle.card.proofs.encode.encode.Tie as tie
 

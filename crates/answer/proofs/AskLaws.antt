@@ -1,0 +1,150 @@
+-- What a question answers at each of its refusals, and where there is none. Assumes nothing.
+use Prim.Native.Nat.{ℕ, _+_, _-_, _≤_, _<_}
+use mathlib.Core.Path.{_≡_, refl, sym, ap, _∙_}
+use mathlib.Core.Bool.{Bool, true, false}
+use mathlib.Core.List.{List, [], _∷_, _++_}
+use native.Mathlib.Omega.{arith}
+use lib.ListN.{length, drop, take, length-append}
+use lib.Seq.{length-take-le, take-at}
+use lib.Dec.{leb}
+use borrow.Author.Tests.{lt-leb}
+use Rattle.calculus.specs.declared.answer.Answer.{Answer}
+use Rattle.calculus.specs.declared.answer.Answer.the-variants as answer
+use Rattle.calculus.specs.Answer.{after}
+use Rattle.calculus.specs.Refusal.{unsound, buffer-too-short, budget-spent}
+use Rattle.calculus.specs.Row.{Row, cellsOf}
+use Rattle.calculus.specs.Domain.{domain}
+use Rattle.calculus.specs.Model.{asked}
+use Rattle.calculus.specs.Eval.{eval}
+use Rattle.calculus.specs.Closed.{closed}
+use Rattle.calculus.specs.Formula.{assignment, variables}
+use Rattle.instance.specs.declared.header.Header.{Header}
+use Rattle.instance.specs.Header.{maxRelations}
+use Rattle.instance.specs.Rows.{wordsOf, rowsFrom}
+use Rattle.instance.specs.Sound.{sound, rows}
+use Rattle.instance.specs.Run.{modelOf}
+use Rattle.instance.proofs.Rows.{headed, parts}
+use Rattle.instance.proofs.Kept.{sound-words}
+use Rattle.query.specs.Words.{nodeCount}
+use Rattle.query.specs.Tree.{formulaOf}
+use Rattle.query.specs.Scope.{Scopes}
+use Rattle.query.specs.Check.{Checked, passed, refused, checkQuery, checkNumber}
+use Rattle.query.proofs.Passed.{few-cells, count-within, node-stands}
+use Rattle.lookup.specs.Counts.{rowCounts}
+use Rattle.lookup.proofs.Tally.{row-count-at, row-counts-size}
+use Rattle.lookup.proofs.Entry.{sound-standing}
+use Rattle.answer.specs.declared.asked.Asked.{Asked}
+use Rattle.answer.specs.declared.asked.Asked.the-variants.{Verdict, Refused}
+use Rattle.answer.specs.declared.evaluated.Evaluated.{Evaluated}
+use Rattle.answer.specs.Within.{within}
+use Rattle.answer.specs.Ready.{Ready}
+use Rattle.answer.specs.Ask.{ifPassed, evaluatedAs, answeredBy, askable, ask, askedBuffer}
+use Rattle.answer.proofs.RerunLaws.{Asks, askable-done}
+
+-- a row is one word and its cells
+words-cells : (rs : List Row) → length (wordsOf rs) ≡ length rs + length (cellsOf rs)
+unfolding wordsOf cellsOf
+words-cells [] = refl
+words-cells (r ∷ rs) =
+    let a = length-append (r .cells) (wordsOf rs) in
+    let b = length-append (r .cells) (cellsOf rs) in
+    omega (arith, a, b, words-cells rs)
+
+module _ (h : Header) (ws : List ℕ) (e : sound h ws ≡ true) where
+  -- the words in use are as many as rows and cells
+  pub cells-count : h .used ≡ length (rows h ws) + length (cellsOf (rows h ws))
+  cells-count =
+      sym (length-take-le (h .used) ws (parts h ws e .within)) ∙ ap length (sym (sound-words h ws e)) ∙ words-cells (rows h ws)
+
+-- the refusals before the evaluation, in their order
+module _ (h : Header) (ws qs cs buffer : List ℕ) where
+  unsound-first : sound h ws ≡ false → askable h ws qs cs buffer ≡ answer.Refused unsound
+  unfolding askable
+  unsound-first e = rw e
+
+  check-second : sound h ws ≡ true → (r : ℕ) → r ≡ checkNumber (checkQuery (h .relations) (h .arities) qs cs) → (r ≡ 0 → ⊥) → askable h ws qs cs buffer ≡ answer.Refused r
+  unfolding askable
+  check-second e r is some = rw e (go (checkQuery (h .relations) (h .arities) qs cs) _ is)
+    where
+      go : (c : Checked) (a : Answer) → r ≡ checkNumber c → ifPassed c a ≡ answer.Refused r
+      go (passed s) a p = absurd (some p)
+      go (refused q) a p = ap answer.Refused (sym p)
+
+  buffer-third : sound h ws ≡ true → (s : Scopes) → checkQuery (h .relations) (h .arities) qs cs ≡ passed s → length buffer < length (cellsOf (rows h ws)) → askable h ws qs cs buffer ≡ answer.Refused buffer-too-short
+  unfolding askable
+  buffer-third e s p short = rw (e, p, lt-leb (length (cellsOf (rows h ws))) (length buffer) short) refl
+
+module _ (h : Header) (ws qs cs buffer : List ℕ) (budget : ℕ) where
+  refused-by : (r : ℕ) → askable h ws qs cs buffer ≡ answer.Refused r → (Refused r ≡ ask h ws qs cs buffer budget) × (buffer ≡ askedBuffer h ws qs cs buffer)
+  unfolding ask askedBuffer
+  refused-by r e = (
+    sym (ap (λ (x : Answer). answeredBy x (within budget (asked (modelOf h ws cs) (formulaOf (h .arities) qs)))) e),
+    sym (ap (λ (x : Answer). after x (domain (rows h ws) ++ drop (length (domain (rows h ws))) buffer) buffer) e),
+  )
+
+  pub unsound-asked : sound h ws ≡ false → (Refused unsound ≡ ask h ws qs cs buffer budget) × (buffer ≡ askedBuffer h ws qs cs buffer)
+  unsound-asked e = refused-by unsound (unsound-first h ws qs cs buffer e)
+
+  pub check-asked :
+      sound h ws ≡ true → (r : ℕ) → r ≡ checkNumber (checkQuery (h .relations) (h .arities) qs cs) → (r ≡ 0 → ⊥) →
+      (Refused r ≡ ask h ws qs cs buffer budget) × (buffer ≡ askedBuffer h ws qs cs buffer)
+  check-asked e r is some = refused-by r (check-second h ws qs cs buffer e r is some)
+
+  pub buffer-asked :
+      sound h ws ≡ true → (s : Scopes) → checkQuery (h .relations) (h .arities) qs cs ≡ passed s → length buffer < length (cellsOf (rows h ws)) →
+      (Refused buffer-too-short ≡ ask h ws qs cs buffer budget) × (buffer ≡ askedBuffer h ws qs cs buffer)
+  buffer-asked e s p short = refused-by buffer-too-short (buffer-third h ws qs cs buffer e s p short)
+
+  pub evaluated-asked :
+      Asks h ws qs cs buffer →
+      (evaluatedAs (within budget (asked (modelOf h ws cs) (formulaOf (h .arities) qs))) ≡ ask h ws qs cs buffer budget) ×
+      (domain (rows h ws) ++ drop (length (domain (rows h ws))) buffer ≡ askedBuffer h ws qs cs buffer)
+  unfolding ask askedBuffer
+  evaluated-asked a =
+      let e = askable-done h ws qs cs buffer a in (
+        sym (ap (λ (x : Answer). answeredBy x (within budget (asked (modelOf h ws cs) (formulaOf (h .arities) qs)))) e),
+        sym (ap (λ (x : Answer). after x (domain (rows h ws) ++ drop (length (domain (rows h ws))) buffer) buffer) e),
+      )
+
+-- a sound instance and a question that passed are ready to be evaluated
+module _ (h : Header) (ws qs cs : List ℕ) (e : sound h ws ≡ true) (eight : length (h .arities) ≡ maxRelations) (s : Scopes) (p : checkQuery (h .relations) (h .arities) qs cs ≡ passed s) where
+  pub made-ready :
+      (counts values : List ℕ) → counts ≡ rowCounts (rowsFrom (h .arities) 0 (take (h .used) ws)) →
+      values ≡ domain (rowsFrom (h .arities) 0 (take (h .used) ws)) →
+      Ready (h .relations) (h .arities) (take (h .used) ws) qs counts values × ((0 < nodeCount qs) × (length cs ≤ variables))
+  made-ready counts values is-counted is-listed =
+      let rs = rowsFrom (h .arities) 0 (take (h .used) ws) in
+      let st = sound-standing h ws e in
+      let within = count-within (h .relations) (h .arities) qs cs s p in
+      let few = headed (h .relations) (h .arities) (st .header) .few in (
+        record {
+          header = st .header;
+          eight = eight;
+          words = st .words;
+          few = st .few;
+          whole = within .2;
+          nodes-few = within .1;
+          nodes = node-stands (h .relations) (h .arities) qs cs s p;
+          counted = λ r l. rw is-counted (row-count-at rs r (omega (arith, l, few)));
+          eight-counts = rw is-counted (row-counts-size rs);
+          listed = is-listed;
+        },
+        (within .0, omega (arith, few-cells (h .relations) (h .arities) qs cs s p)),
+      )
+
+-- what is answered where nothing is refused before the evaluation
+module _ (h : Header) (ws qs cs buffer : List ℕ) (budget : ℕ) (a : Asks h ws qs cs buffer) where
+  pub answered :
+      (r : Evaluated) → r ≡ within budget (eval (closed (rowsFrom (h .arities) 0 (take (h .used) ws))) (formulaOf (h .arities) qs) (assignment cs)) →
+      (left : List ℕ) →
+      left ≡ domain (rowsFrom (h .arities) 0 (take (h .used) ws)) ++ drop (length (domain (rowsFrom (h .arities) 0 (take (h .used) ws)))) buffer →
+      (evaluatedAs r ≡ ask h ws qs cs buffer budget) × (left ≡ askedBuffer h ws qs cs buffer)
+  unfolding rows
+  answered r is left holds =
+      let e = evaluated-asked h ws qs cs buffer budget a in
+      (ap evaluatedAs is ∙ e .0, holds ∙ e .1)
+
+-- the values are the first words of the buffer that they were listed in
+pub listed-part : (vs buffer left : List ℕ) (n : ℕ) → n ≡ length vs → left ≡ vs ++ drop (length vs) buffer → (n ≤ length left) × (take n left ≡ vs)
+listed-part vs buffer left n long is =
+    (omega (arith, long, ap length is, length-append vs (drop (length vs) buffer)), ap (take n) is ∙ take-at vs (drop (length vs) buffer) n (sym long))

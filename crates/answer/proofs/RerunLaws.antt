@@ -1,0 +1,138 @@
+-- Demand 3: what run B answers. Assumes nothing.
+use Prim.Native.Nat.{ℕ, _≤_}
+use mathlib.Core.Path.{_≡_, refl, sym, ap, _∙_, subst}
+use mathlib.Core.Bool.{Bool, true, false}
+use mathlib.Core.List.{List, map}
+use native.Mathlib.Omega.{arith}
+use lib.ListN.{length, length-map}
+use lib.Dec.{leb}
+use borrow.Author.Tests.{le-leb, leb-true}
+use Rattle.calculus.specs.declared.answer.Answer.{Answer}
+use Rattle.calculus.specs.declared.answer.Answer.the-variants as answer
+use Rattle.calculus.specs.declared.truth.Truth.{Truth}
+use Rattle.calculus.specs.Answer.{demand}
+use Rattle.calculus.specs.Refusal.{unsound, buffer-too-short, budget-spent}
+use Rattle.calculus.specs.Row.{Row, mapRow, cellsOf}
+use Rattle.calculus.specs.Formula.{inked}
+use Rattle.calculus.specs.Eval.{Outcome}
+use Rattle.calculus.specs.Order.{_⊑_}
+use Rattle.calculus.specs.Model.{Fill, Model, run, asked, plain}
+use Rattle.calculus.proofs.Answers.{demand-done}
+use Rattle.calculus.proofs.Rows.{cells-map}
+use Rattle.calculus.proofs.Fills.{mapped-run}
+use Rattle.calculus.proofs.Certain.{runs-share}
+use Rattle.instance.specs.declared.header.Header.{Header}
+use Rattle.instance.specs.Rows.{areCells}
+use Rattle.instance.specs.Sound.{sound, rows}
+use Rattle.instance.specs.Run.{filledWords, modelOf}
+use Rattle.instance.proofs.Run.{ran, candidate-stands}
+use Rattle.query.specs.Words.{nodeCount}
+use Rattle.query.specs.Tree.{formulaOf}
+use Rattle.query.specs.Scope.{Scopes}
+use Rattle.query.specs.Check.{Checked, passed, refused, checkQuery}
+use Rattle.query.proofs.Passed.{passed-inked, count-within, are-cells, same-candidate}
+use Rattle.answer.specs.declared.asked.Asked.{Asked}
+use Rattle.answer.specs.declared.asked.Asked.the-variants.{Verdict, Refused}
+use Rattle.answer.specs.declared.evaluated.Evaluated.{Evaluated}
+use Rattle.answer.specs.declared.evaluated.Evaluated.the-variants as evaluated
+use Rattle.answer.specs.Within.{within}
+use Rattle.answer.specs.Ask.{ifPassed, evaluatedAs, answeredBy, askable, ask}
+use Rattle.answer.specs.Rerun.{Rerun, DemandThree}
+use Rattle.answer.proofs.Budget.{verdict, was-verdict}
+
+zero-not-one : _≡_ {A = ℕ} 0 1 → ⊥
+zero-not-one z = omega arith
+
+-- what a verdict says of the refusals before it
+pub record Asks (h : Header) (ws qs candidate buffer : List ℕ) : Type 0 where
+  pub stands : sound h ws ≡ true
+  pub scopes : Scopes
+  pub passes : checkQuery (h .relations) (h .arities) qs candidate ≡ passed scopes
+  pub room : length (cellsOf (rows h ws)) ≤ length buffer
+
+pub asks-done : (h : Header) (ws qs candidate buffer : List ℕ) (k : ℕ) → askable h ws qs candidate buffer ≡ answer.Done k → Asks h ws qs candidate buffer
+unfolding askable
+asks-done h ws qs candidate buffer k e =
+    let a = demand-done (sound h ws) unsound _ k e in
+    go (checkQuery (h .relations) (h .arities) qs candidate) refl (a .0) (a .1)
+  where
+    go :
+        (c : Checked) → checkQuery (h .relations) (h .arities) qs candidate ≡ c → sound h ws ≡ true →
+        ifPassed c (demand (leb (length (cellsOf (rows h ws))) (length buffer)) buffer-too-short (answer.Done 0)) ≡ answer.Done k →
+        Asks h ws qs candidate buffer
+    go (passed s) p stands d =
+        let r = demand-done (leb (length (cellsOf (rows h ws))) (length buffer)) buffer-too-short (answer.Done 0) k d in
+        record { stands = stands; scopes = s; passes = p; room = leb-true (length (cellsOf (rows h ws))) (length buffer) (r .0) }
+    go (refused r) p stands d = let z : _≡_ {A = ℕ} 0 1 = cc in absurd (zero-not-one z)
+
+pub askable-done : (h : Header) (ws qs candidate buffer : List ℕ) → Asks h ws qs candidate buffer → askable h ws qs candidate buffer ≡ answer.Done 0
+unfolding askable
+askable-done h ws qs candidate buffer a =
+    rw (a .stands, a .passes, le-leb (length (cellsOf (rows h ws))) (length buffer) (a .room)) refl
+
+-- a verdict: nothing is refused, and the outcome is within the budget
+pub verdict-asked :
+    (h : Header) (ws qs candidate buffer : List ℕ) (budget : ℕ) (t : Truth) (n : ℕ) → ask h ws qs candidate buffer budget ≡ Verdict t n →
+    Asks h ws qs candidate buffer × (within budget (asked (modelOf h ws candidate) (formulaOf (h .arities) qs)) ≡ evaluated.Verdict t n)
+unfolding ask
+verdict-asked h ws qs candidate buffer budget t n =
+    go (askable h ws qs candidate buffer) refl (within budget (asked (modelOf h ws candidate) (formulaOf (h .arities) qs))) refl
+  where
+    go :
+        (a : Answer) → askable h ws qs candidate buffer ≡ a →
+        (e : Evaluated) → within budget (asked (modelOf h ws candidate) (formulaOf (h .arities) qs)) ≡ e →
+        answeredBy a e ≡ Verdict t n →
+        Asks h ws qs candidate buffer × (within budget (asked (modelOf h ws candidate) (formulaOf (h .arities) qs)) ≡ evaluated.Verdict t n)
+    go (answer.Done k) p (evaluated.Verdict u m) q r =
+        let truths : u ≡ t = cc in
+        let costs : m ≡ n = cc in
+        (asks-done h ws qs candidate buffer k p, q ∙ ap (λ (x : Truth). evaluated.Verdict x m) truths ∙ ap (evaluated.Verdict t) costs)
+    go (answer.Done k) p evaluated.Spent q r = let z : _≡_ {A = ℕ} 0 1 = cc in absurd (zero-not-one z)
+    go (answer.Refused k) p e q r = let z : _≡_ {A = ℕ} 0 1 = cc in absurd (zero-not-one z)
+
+-- and back: where nothing is refused and the cost fits, the question gets its verdict
+pub asked-verdict :
+    (h : Header) (ws qs candidate buffer : List ℕ) (budget : ℕ) → Asks h ws qs candidate buffer →
+    asked (modelOf h ws candidate) (formulaOf (h .arities) qs) .cost ≤ budget →
+    ask h ws qs candidate buffer budget ≡
+    Verdict (asked (modelOf h ws candidate) (formulaOf (h .arities) qs) .truth) (asked (modelOf h ws candidate) (formulaOf (h .arities) qs) .cost)
+unfolding ask
+asked-verdict h ws qs candidate buffer budget a fits =
+    let o = asked (modelOf h ws candidate) (formulaOf (h .arities) qs) in
+    ap (λ (x : Answer). answeredBy x (within budget o)) (askable-done h ws qs candidate buffer a) ∙ ap evaluatedAs (verdict budget o fits)
+
+-- the checks of run B are those of run A: a check turns on the candidate's length and cells alone, and fills keep both
+pub demand-three : DemandThree
+demand-three h ws qs candidate buffer budget fs buffer′ budget′ longer larger t n e =
+    let a = verdict-asked h ws qs candidate buffer budget t n e in
+    let b = modelOf h ws candidate in
+    let was = was-verdict budget (asked b (formulaOf (h .arities) qs)) t n (a .1) in
+    let r = ran h fs ws candidate (a .0 .stands) in
+    let m = mapped-run fs b in
+    let shared = runs-share fs b (formulaOf (h .arities) qs) (passed-inked (h .relations) (h .arities) qs candidate (a .0 .scopes) (a .0 .passes) (nodeCount qs) 0 (count-within (h .relations) (h .arities) qs candidate (a .0 .scopes) (a .0 .passes) .0)) in
+    let after = run fs b in
+    let ws′ = filledWords h fs ws in
+    let cells = are-cells (h .relations) (h .arities) qs candidate (a .0 .scopes) (a .0 .passes) in
+    let long : length (after .candidate) ≡ length candidate = ap length (m .candidate) ∙ length-map candidate (m .by) in
+    let passes = same-candidate (h .relations) (h .arities) qs (after .candidate) candidate long (candidate-stands fs b cells ∙ sym cells) ∙ a .0 .passes in
+    let same-cells : length (cellsOf (rows h ws′)) ≡ length (cellsOf (rows h ws)) =
+    ap (λ (rs : List Row). length (cellsOf rs)) (r .holds ∙ m .rows) ∙ ap length (cells-map (m .by) (rows h ws)) ∙ length-map (cellsOf (rows h ws)) (m .by)
+    in
+    let room : length (cellsOf (rows h ws′)) ≤ length buffer′ = omega (arith, same-cells, a .0 .room) in
+    let o = asked after (formulaOf (h .arities) qs) in
+    let same-model : modelOf h ws′ (after .candidate) ≡ after = ap (λ (rs : List Row). record { rows = rs; candidate = after .candidate }) (r .holds) in
+    let same-outcome : asked (modelOf h ws′ (after .candidate)) (formulaOf (h .arities) qs) ≡ o = ap (λ (x : Model). asked x (formulaOf (h .arities) qs)) same-model in
+    let fits : asked (modelOf h ws′ (after .candidate)) (formulaOf (h .arities) qs) .cost ≤ budget′ =
+    omega (arith, ap (λ (x : Outcome). x .cost) same-outcome, shared .kept .cost, was .cost, was .fits)
+    in
+    record {
+      ran = r;
+      truth = o .truth;
+      cost = o .cost;
+      answers =
+          asked-verdict h ws′ qs (after .candidate) buffer′ budget′ (record { stands = r .stands; scopes = a .0 .scopes; passes = passes; room = room }) fits ∙
+          ap (λ (x : Outcome). Verdict (x .truth) (x .cost)) same-outcome;
+      kept = subst (λ (x : Truth). x ⊑ o .truth) (was .truth) (shared .kept .truth);
+      no-more = omega (arith, shared .kept .cost, was .cost);
+      two-valued = shared .two-valued;
+    }

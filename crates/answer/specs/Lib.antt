@@ -1,0 +1,4 @@
+pub mod Within
+pub mod Ready
+pub mod Ask
+pub mod Rerun

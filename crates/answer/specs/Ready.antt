@@ -1,0 +1,57 @@
+-- What evaluation is handed: a sound instance's words, a question that passed its check, the instance's values, and the rows of each relation
+-- counted.
+use Prim.Native.Nat.{ℕ, _+_, _*_, _<_, _≤_}
+use mathlib.Core.Path.{_≡_}
+use mathlib.Core.Bool.{Bool, true, false}
+use mathlib.Core.List.{List}
+use lib.ListN.{length, getD}
+use Rattle.calculus.specs.Kleene.{Junction, conj, disj}
+use Rattle.calculus.specs.Formula.{variables}
+use Rattle.calculus.specs.Eval.{Outcome, eval}
+use Rattle.calculus.specs.Closed.{closed, tuples}
+use Rattle.calculus.specs.Domain.{domain}
+use Rattle.instance.specs.Header.{headerStands, maxRelations, maxColumns, maxWords}
+use Rattle.instance.specs.Rows.{wordsStand, rowsFrom}
+use Rattle.query.specs.Words.{nodeCount, nodeWords, maxNodes, wordAt}
+use Rattle.query.specs.Tree.{formulaAt}
+use Rattle.query.specs.Check.{isTerm}
+use Rattle.query.specs.Passed.{NodeStands}
+use Rattle.answer.specs.declared.evaluated.Evaluated.{Evaluated}
+use Rattle.answer.specs.Within.{within}
+
+pub record Ready (n : ℕ) (ars ws qs counts values : List ℕ) : Type 0 where
+  pub header : headerStands n ars ≡ true
+  pub eight : length ars ≡ maxRelations
+  pub words : wordsStand n ars 0 ws ≡ true
+  pub few : length ws ≤ maxWords
+  pub whole : nodeCount qs * nodeWords ≡ length qs
+  pub nodes-few : nodeCount qs ≤ maxNodes
+  pub nodes : (i : ℕ) → i < nodeCount qs → NodeStands n ars qs i
+  pub counted : (r : ℕ) → r < n → getD counts r 0 ≡ length (tuples r (rowsFrom ars 0 ws))
+  pub eight-counts : length counts ≡ maxRelations
+  pub listed : values ≡ domain (rowsFrom ars 0 ws)
+
+-- the outcome of node i, with k nodes left, under an assignment
+abbrev pub outcomeAt : List ℕ → List ℕ → List ℕ → ℕ → ℕ → List ℕ → Outcome
+outcomeAt ars ws qs k i e = eval (closed (rowsFrom ars 0 ws)) (formulaAt ars qs k i) e
+
+pub record Evaluable (n : ℕ) (ars ws qs counts values : List ℕ) (i : ℕ) (e : List ℕ) : Type 0 where
+  pub ready : Ready n ars ws qs counts values
+  pub known : i < nodeCount qs
+  pub sixteen : length e ≡ variables
+
+-- an answer is right for node i: with as many nodes left as there are, the outcome within the budget
+abbrev pub Right : List ℕ → List ℕ → List ℕ → ℕ → List ℕ → ℕ → Evaluated → Type 0
+Right ars ws qs i e budget r = (k : ℕ) → nodeCount qs ≤ i + k → r ≡ within budget (outcomeAt ars ws qs k i e)
+
+-- every is and, some is or
+abbrev pub junctionOf : Bool → Junction
+junctionOf true = conj
+junctionOf false = disj
+
+-- the terms in so many words of node i, from word 2 on, stand
+pub record TermsStand (qs : List ℕ) (i arity : ℕ) (e : List ℕ) : Type 0 where
+  pub known : i < nodeCount qs
+  pub narrow : arity ≤ maxColumns
+  pub terms : (j : ℕ) → j < arity → isTerm (wordAt qs i (2 + j)) ≡ true
+  pub sixteen : length e ≡ variables

@@ -1,0 +1,36 @@
+-- Runs A and B of a question, with a list of fills between them. Document 00, demand 3, and document 01, "Run A and run B".
+use Prim.Native.Nat.{ℕ, _≤_}
+use mathlib.Core.Path.{_≡_}
+use mathlib.Core.Bool.{true}
+use mathlib.Core.List.{List}
+use lib.ListN.{length}
+use Rattle.calculus.specs.declared.truth.Truth.{Truth}
+use Rattle.calculus.specs.Order.{_⊑_, ofBool}
+use Rattle.calculus.specs.Model.{Fill, Model, run, plain, saysYes}
+use Rattle.instance.specs.declared.header.Header.{Header}
+use Rattle.instance.specs.Run.{filledWords, modelOf, Ran}
+use Rattle.query.specs.Tree.{formulaOf}
+use Rattle.answer.specs.declared.asked.Asked.{Asked}
+use Rattle.answer.specs.declared.asked.Asked.the-variants.{Verdict}
+use Rattle.answer.specs.Ask.{ask}
+
+-- What run B answers, after the fills, where run A answered the verdict t with n looks: it is not refused; it says at least what A said; it costs
+-- no more; and where no null is left, it is two-valued logic's.
+pub record Rerun (h : Header) (ws qs candidate : List ℕ) (fs : List Fill) (t : Truth) (n : ℕ) (b : Asked) : Type 0 where
+  pub ran : Ran h fs ws candidate
+  pub truth : Truth
+  pub cost : ℕ
+  pub answers : b ≡ Verdict truth cost
+  pub kept : t ⊑ truth
+  pub no-more : cost ≤ n
+  pub two-valued :
+      plain (run fs (modelOf h ws candidate)) ≡ true →
+      truth ≡ ofBool (saysYes (run fs (modelOf h ws candidate)) (formulaOf (h .arities) qs))
+
+-- the whole of demand 3: every plot, question, candidate, budget, working list and list of fills
+abbrev pub DemandThree : Type 0
+DemandThree =
+    (h : Header) (ws qs candidate buffer : List ℕ) (budget : ℕ) (fs : List Fill) (buffer′ : List ℕ) (budget′ : ℕ) →
+    length buffer ≤ length buffer′ → budget ≤ budget′ →
+    (t : Truth) (n : ℕ) → ask h ws qs candidate buffer budget ≡ Verdict t n →
+    Rerun h ws qs candidate fs t n (ask h (filledWords h fs ws) qs (run fs (modelOf h ws candidate) .candidate) buffer′ budget′)

@@ -1,0 +1,109 @@
+// Asking a question of an instance.
+ghost use mathlib.Core.Path.{_≡_};
+ghost use Prim.Native.Nat.{_<_, _≤_};
+ghost use lib.ListN.{length};
+ghost use Rattle.calculus.specs.Eval.{eval};
+ghost use Rattle.calculus.specs.Closed.{closed};
+ghost use Rattle.calculus.specs.Formula.{assignment, variables};
+ghost use Rattle.instance.specs.Rows.{rowsFrom};
+ghost use Rattle.query.specs.Words.{nodeCount};
+ghost use Rattle.query.specs.Tree.{formulaOf};
+ghost use Rattle.answer.specs.Within.{within};
+ghost use Rattle.answer.specs.Ready.{Ready};
+ghost use Rattle.answer.specs.Ask.{ask as askOf, askedBuffer};
+use super::asked::Asked;
+use super::evaluated::Evaluated;
+use super::nodes::evaluate;
+use calculus::refusal::BUDGET_SPENT;
+use calculus::refusal::BUFFER_TOO_SHORT;
+use calculus::refusal::UNSOUND;
+use instance::header::Header;
+use instance::scan::Scanned;
+use instance::scan::scan;
+use lookup::counts::row_counts;
+use lookup::domain::list_values;
+use query::check::check;
+
+// The candidate's cells for the first variables, 0 for the others.
+fn assigned(candidate: &[u32]) -> [u32; 16]
+    requires { ⌜ length (now candidate) ≤ variables ⌝ }
+    ensures { λ r. ⌜ r ≡ assignment (now (candidate .entry)) ⌝ }
+{
+    let mut env = [0u32; 16];
+    let mut i = 0;
+    while i < candidate.len() {
+        env[i] = candidate[i];
+        i += 1;
+    }
+    env
+}
+
+// The top node.
+fn evaluate_top(
+    relations: u32,
+    arities: &[u32; 8],
+    words: &[u32],
+    query: &[u32],
+    counts: &[u32; 8],
+    values: &[u32],
+    candidate: &[u32],
+    budget: u32,
+) -> Evaluated
+    requires { ⌜ Ready relations (now arities) (now words) (now query) (now counts) (now values) ⌝ }
+    requires { ⌜ (0 < nodeCount (now query)) × (length (now candidate) ≤ variables) ⌝ }
+    ensures { λ r. ⌜ r ≡ within budget (eval (closed (rowsFrom (now (arities .entry)) 0 (now (words .entry)))) (formulaOf (now (arities .entry)) (now (query .entry))) (assignment (now (candidate .entry)))) ⌝ }
+{
+    let mut env = assigned(candidate);
+    evaluate(
+        relations,
+        arities,
+        words,
+        query,
+        counts,
+        values,
+        0,
+        &mut env,
+        budget,
+    )
+}
+
+pub fn ask(
+    header: Header,
+    plot: &[u32],
+    query: &[u32],
+    candidate: &[u32],
+    buffer: &mut [u32],
+    budget: u32,
+) -> Asked
+    ensures answer { λ r. ⌜ r ≡ askOf header (now (plot .entry)) (now (query .entry)) (now (candidate .entry)) (now (buffer .entry)) budget ⌝ }
+    ensures buffer { λ r. ⌜ now (buffer .exit) ≡ askedBuffer header (now (plot .entry)) (now (query .entry)) (now (candidate .entry)) (now (buffer .entry)) ⌝ }
+{
+    let Scanned::Rows(count) = scan(header, plot) else {
+        return Asked::Refused(UNSOUND);
+    };
+    let relations = header.relations;
+    let arities = header.arities;
+    let used = header.used as usize;
+    let refusal = check(relations, &arities, query, candidate);
+    if refusal != 0 {
+        return Asked::Refused(refusal);
+    }
+    if buffer.len() < used - count as usize {
+        return Asked::Refused(BUFFER_TOO_SHORT);
+    }
+    let n = list_values(&plot[..used], &arities, relations, buffer);
+    let counts = row_counts(&plot[..used], &arities, relations);
+    match evaluate_top(
+        relations,
+        &arities,
+        &plot[..used],
+        query,
+        &counts,
+        &buffer[..n],
+        candidate,
+        budget,
+    ) {
+        Evaluated::Verdict(truth, cost) => Asked::Verdict(truth, cost),
+        Evaluated::Spent => Asked::Refused(BUDGET_SPENT),
+    }
+}

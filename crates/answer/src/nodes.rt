@@ -1,0 +1,348 @@
+// Evaluation of a question's nodes. The stack grows with the question's depth alone: the walk over values is a loop.
+ghost use mathlib.Core.Path.{_≡_};
+ghost use Rattle.calculus.specs.Eval.{settles as settlesOf};
+ghost use Rattle.calculus.specs.Kleene.{join as joinOf, unit as unitOf};
+ghost use Prim.Native.Nat.{_<_};
+ghost use lib.ListN.{length, set};
+ghost use Rattle.calculus.specs.Formula.{variables};
+ghost use Rattle.query.specs.Words.{nodeCount, nodeWords, wordAt, kindOf, rowStands, equals, negates, joins, ranges};
+ghost use Rattle.answer.specs.Ready.{Evaluable, Right, junctionOf};
+use super::evaluated::Evaluated;
+use super::terms::asked_row;
+use super::terms::same;
+use super::terms::term;
+use calculus::truth::Truth;
+use calculus::truth::and;
+use calculus::truth::not;
+use calculus::truth::or;
+use lookup::relation::stands;
+
+// Word j of a node.
+fn word(query: &[u32], node: usize, j: usize) -> usize
+    requires { ⌜ (node < nodeCount (now query)) × (j < nodeWords) ⌝ }
+    ensures { λ r. ⌜ r ≡ wordAt (now (query .entry)) node j ⌝ }
+{
+    query[node * 8 + j] as usize
+}
+
+// Gives a variable a cell.
+fn assign(env: &mut [u32; 16], variable: usize, cell: u32)
+    requires { ⌜ (variable < variables) × (length (now env) ≡ variables) ⌝ }
+    ensures { λ _. ⌜ now (env .exit) ≡ set (now (env .entry)) variable cell ⌝ }
+{
+    env[variable] = cell;
+}
+
+// An atom.
+fn atom(
+    relations: u32,
+    arities: &[u32; 8],
+    words: &[u32],
+    query: &[u32],
+    counts: &[u32; 8],
+    values: &[u32],
+    node: usize,
+    env: &[u32; 16],
+    budget: u32,
+) -> Evaluated
+    requires { ⌜ Evaluable relations (now arities) (now words) (now query) (now counts) (now values) node (now env) ⌝ }
+    requires { ⌜ kindOf (wordAt (now query) node 0) ≡ rowStands ⌝ }
+    ensures right { λ r. ⌜ Right (now (arities .entry)) (now (words .entry)) (now (query .entry)) node (now (env .entry)) budget r ⌝ }
+{
+    let relation = word(query, node, 1);
+    let cost = 1 + counts[relation];
+    if budget < cost {
+        return Evaluated::Spent;
+    }
+    let arity = arities[relation] as usize;
+    let row = asked_row(query, node, arity, env);
+    Evaluated::Verdict(
+        stands(words, arities, relations, relation as u32, &row),
+        cost,
+    )
+}
+
+// An equality.
+fn equality(
+    relations: u32,
+    arities: &[u32; 8],
+    words: &[u32],
+    query: &[u32],
+    counts: &[u32; 8],
+    values: &[u32],
+    node: usize,
+    env: &[u32; 16],
+    budget: u32,
+) -> Evaluated
+    requires { ⌜ Evaluable relations (now arities) (now words) (now query) (now counts) (now values) node (now env) ⌝ }
+    requires { ⌜ kindOf (wordAt (now query) node 0) ≡ equals ⌝ }
+    ensures right { λ r. ⌜ Right (now (arities .entry)) (now (words .entry)) (now (query .entry)) node (now (env .entry)) budget r ⌝ }
+{
+    if budget < 1 {
+        return Evaluated::Spent;
+    }
+    let a = term(query, node, 1, env);
+    let b = term(query, node, 2, env);
+    Evaluated::Verdict(same(a, b), 1)
+}
+
+// And where every, or where not.
+fn join(every: bool, a: Truth, b: Truth) -> Truth
+    ensures { λ r. ⌜ r ≡ joinOf (junctionOf every) a b ⌝ }
+{
+    if every { and(a, b) } else { or(a, b) }
+}
+
+fn settles(every: bool, a: Truth) -> bool
+    ensures { λ r. ⌜ r ≡ settlesOf (junctionOf every) a ⌝ }
+{
+    match a {
+        Truth::False => every,
+        Truth::Unknown => false,
+        Truth::True => !every,
+    }
+}
+
+// What joining none gives.
+fn unit(every: bool) -> Truth
+    ensures { λ r. ⌜ r ≡ unitOf (junctionOf every) ⌝ }
+{
+    if every { Truth::True } else { Truth::False }
+}
+
+fn negated(
+    relations: u32,
+    arities: &[u32; 8],
+    words: &[u32],
+    query: &[u32],
+    counts: &[u32; 8],
+    values: &[u32],
+    node: usize,
+    env: &mut [u32; 16],
+    budget: u32,
+) -> Evaluated
+    requires { ⌜ Evaluable relations (now arities) (now words) (now query) (now counts) (now values) node (now env) ⌝ }
+    requires { ⌜ kindOf (wordAt (now query) node 0) ≡ negates ⌝ }
+    ensures kept { λ r. ⌜ now (env .exit) ≡ now (env .entry) ⌝ }
+    ensures right { λ r. ⌜ Right (now (arities .entry)) (now (words .entry)) (now (query .entry)) node (now (env .entry)) budget r ⌝ }
+{
+    let child = word(query, node, 1);
+    let Evaluated::Verdict(truth, cost) = evaluate(
+        relations,
+        arities,
+        words,
+        query,
+        counts,
+        values,
+        child,
+        env,
+        budget,
+    ) else {
+        return Evaluated::Spent;
+    };
+    Evaluated::Verdict(not(truth), cost)
+}
+
+fn both(
+    relations: u32,
+    arities: &[u32; 8],
+    words: &[u32],
+    query: &[u32],
+    counts: &[u32; 8],
+    values: &[u32],
+    node: usize,
+    every: bool,
+    env: &mut [u32; 16],
+    budget: u32,
+) -> Evaluated
+    requires { ⌜ Evaluable relations (now arities) (now words) (now query) (now counts) (now values) node (now env) ⌝ }
+    requires { ⌜ kindOf (wordAt (now query) node 0) ≡ joins (junctionOf every) ⌝ }
+    ensures kept { λ r. ⌜ now (env .exit) ≡ now (env .entry) ⌝ }
+    ensures right { λ r. ⌜ Right (now (arities .entry)) (now (words .entry)) (now (query .entry)) node (now (env .entry)) budget r ⌝ }
+{
+    let left = word(query, node, 1);
+    let right = word(query, node, 2);
+    let Evaluated::Verdict(a, paid) = evaluate(
+        relations,
+        arities,
+        words,
+        query,
+        counts,
+        values,
+        left,
+        env,
+        budget,
+    ) else {
+        return Evaluated::Spent;
+    };
+    if settles(every, a) {
+        return Evaluated::Verdict(a, paid);
+    }
+    let Evaluated::Verdict(b, more) = evaluate(
+        relations,
+        arities,
+        words,
+        query,
+        counts,
+        values,
+        right,
+        env,
+        budget - paid,
+    ) else {
+        return Evaluated::Spent;
+    };
+    Evaluated::Verdict(join(every, a, b), paid + more)
+}
+
+fn walk(
+    relations: u32,
+    arities: &[u32; 8],
+    words: &[u32],
+    query: &[u32],
+    counts: &[u32; 8],
+    values: &[u32],
+    node: usize,
+    every: bool,
+    env: &mut [u32; 16],
+    budget: u32,
+) -> Evaluated
+    requires { ⌜ Evaluable relations (now arities) (now words) (now query) (now counts) (now values) node (now env) ⌝ }
+    requires { ⌜ kindOf (wordAt (now query) node 0) ≡ ranges (junctionOf every) ⌝ }
+    ensures kept { λ r. ⌜ now (env .exit) ≡ now (env .entry) ⌝ }
+    ensures right { λ r. ⌜ Right (now (arities .entry)) (now (words .entry)) (now (query .entry)) node (now (env .entry)) budget r ⌝ }
+{
+    let variable = word(query, node, 1);
+    let child = word(query, node, 2);
+    let old = env[variable];
+    let mut truth = unit(every);
+    let mut cost: u32 = 0;
+    let mut i = 0;
+    while i < values.len() {
+        assign(env, variable, values[i]);
+        let Evaluated::Verdict(one, paid) = evaluate(
+            relations,
+            arities,
+            words,
+            query,
+            counts,
+            values,
+            child,
+            env,
+            budget - cost,
+        ) else {
+            assign(env, variable, old);
+            return Evaluated::Spent;
+        };
+        cost += paid;
+        truth = join(every, truth, one);
+        if settles(every, one) {
+            assign(env, variable, old);
+            return Evaluated::Verdict(truth, cost);
+        }
+        i += 1;
+    }
+    assign(env, variable, old);
+    Evaluated::Verdict(truth, cost)
+}
+
+pub fn evaluate(
+    relations: u32,
+    arities: &[u32; 8],
+    words: &[u32],
+    query: &[u32],
+    counts: &[u32; 8],
+    values: &[u32],
+    node: usize,
+    env: &mut [u32; 16],
+    budget: u32,
+) -> Evaluated
+    requires { ⌜ Evaluable relations (now arities) (now words) (now query) (now counts) (now values) node (now env) ⌝ }
+    ensures kept { λ r. ⌜ now (env .exit) ≡ now (env .entry) ⌝ }
+    ensures right { λ r. ⌜ Right (now (arities .entry)) (now (words .entry)) (now (query .entry)) node (now (env .entry)) budget r ⌝ }
+{
+    let kind = word(query, node, 0);
+    match kind {
+        1 => atom(
+            relations,
+            arities,
+            words,
+            query,
+            counts,
+            values,
+            node,
+            env,
+            budget,
+        ),
+        2 => equality(
+            relations,
+            arities,
+            words,
+            query,
+            counts,
+            values,
+            node,
+            env,
+            budget,
+        ),
+        3 => negated(
+            relations,
+            arities,
+            words,
+            query,
+            counts,
+            values,
+            node,
+            env,
+            budget,
+        ),
+        4 => both(
+            relations,
+            arities,
+            words,
+            query,
+            counts,
+            values,
+            node,
+            true,
+            env,
+            budget,
+        ),
+        5 => both(
+            relations,
+            arities,
+            words,
+            query,
+            counts,
+            values,
+            node,
+            false,
+            env,
+            budget,
+        ),
+        6 => walk(
+            relations,
+            arities,
+            words,
+            query,
+            counts,
+            values,
+            node,
+            false,
+            env,
+            budget,
+        ),
+        7 => walk(
+            relations,
+            arities,
+            words,
+            query,
+            counts,
+            values,
+            node,
+            true,
+            env,
+            budget,
+        ),
+        _ => Evaluated::Spent,
+    }
+}

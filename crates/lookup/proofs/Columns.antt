@@ -1,0 +1,24 @@
+-- The first n elements of a list, or those from a place on, one by one. Assumes nothing.
+use Prim.Native.Nat.{ℕ, _+_, _≤_, _<_}
+use mathlib.Core.Path.{_≡_, ap, _∙_}
+use mathlib.Core.List.{List, [], _∷_}
+use native.Mathlib.Omega.{arith}
+use lib.ListN.{length, getD, take, drop, length-take, length-drop, drop-of-length-le}
+use lib.Seq.{getD-take, getD-drop, length-take-le}
+use Rattle.instance.proofs.ScanSteps.{rest}
+
+-- from element i on: that element, and those from the next on
+pub first-step : (xs : List ℕ) (n i : ℕ) → n ≤ length xs → i < n → drop i (take n xs) ≡ getD xs i 0 ∷ drop (i + 1) (take n xs)
+first-step xs n i m l =
+    rest (take n xs) i (omega (arith, length-take-le n xs m)) ∙ ap (λ (x : ℕ). x ∷ drop (i + 1) (take n xs)) (getD-take n xs i 0 l)
+
+-- from the last on, none
+pub first-end : (xs : List ℕ) (n i : ℕ) → n ≤ i → drop i (take n xs) ≡ []
+first-end xs n i l = drop-of-length-le (take n xs) {i = i} (omega (arith, length-take n xs))
+
+-- the same of the elements from place at on
+pub part-step :
+    (xs : List ℕ) (at n i : ℕ) → at + n ≤ length xs → i < n →
+    drop i (take n (drop at xs)) ≡ getD xs (at + i) 0 ∷ drop (i + 1) (take n (drop at xs))
+part-step xs at n i m l =
+    first-step (drop at xs) n i (omega (arith, length-drop at xs)) l ∙ ap (λ (x : ℕ). x ∷ drop (i + 1) (take n (drop at xs))) (getD-drop at xs i 0)

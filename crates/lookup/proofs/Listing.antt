@@ -1,0 +1,191 @@
+-- The values of a list of cells, listed from the left: a cell that is not listed yet is put behind those that are. Assumes nothing.
+use Prim.Native.Nat.{ℕ, suc, _+_, _-_, _≤_, _<_}
+use mathlib.Core.Path.{_≡_, refl, sym, ap, subst, _∙_}
+use mathlib.Core.Bool.{Bool, true, false, _||_, cond, false≢true, true≢false}
+use mathlib.Core.List.{List, [], _∷_, _++_, append-nil, append-assoc}
+use native.Mathlib.Numerals.{add-one}
+use native.Mathlib.Omega.{arith}
+use borrow.Author.Tests.{ltb-true, eqb-true, eqb-false, eq-eqb, ne-eqb}
+use lib.ListN.{length, set, take, drop, length-set, take-append-drop}
+use lib.Seq.{take-suc-set, drop-set-lt, drop-drop, length-take-le, take-nil}
+use lib.Dec.{eqb}
+use Rattle.calculus.specs.Row.{cellsOf}
+use Rattle.calculus.specs.Domain.{without, distinct}
+use Rattle.calculus.proofs.Distinct.{without-skip, without-keep, without-comm, without-again}
+use Rattle.instance.specs.Header.{arityOf}
+use Rattle.instance.specs.Rows.{wordsStand, rowsFrom}
+use Rattle.instance.proofs.Rows.{at-row, at-cell}
+use Rattle.lookup.specs.Listed.{listed}
+
+-- the values vs, and behind them the new ones of the cells
+unfoldable pub listing : List ℕ → List ℕ → List ℕ
+listing vs [] = vs
+listing vs (c ∷ cs) = listing (cond (listed c vs) vs (vs ++ c ∷ [])) cs
+
+module _ (vs : List ℕ) (c : ℕ) (cs : List ℕ) where
+  listing-skips : listed c vs ≡ true → listing vs (c ∷ cs) ≡ listing vs cs
+  unfolding listing
+  listing-skips e = ap (λ (b : Bool). listing (cond b vs (vs ++ c ∷ [])) cs) e
+
+  listing-puts : listed c vs ≡ false → listing vs (c ∷ cs) ≡ listing (vs ++ c ∷ []) cs
+  unfolding listing
+  listing-puts e = ap (λ (b : Bool). listing (cond b vs (vs ++ c ∷ [])) cs) e
+
+-- a list with every value of vs left out
+unfoldable withoutAll : List ℕ → List ℕ → List ℕ
+withoutAll [] l = l
+withoutAll (v ∷ vs) l = withoutAll vs (without v l)
+
+all-nil : (vs : List ℕ) → withoutAll vs [] ≡ []
+unfolding withoutAll without
+all-nil [] = refl
+all-nil (v ∷ vs) = all-nil vs
+
+all-comm : (x : ℕ) (vs l : List ℕ) → without x (withoutAll vs l) ≡ withoutAll vs (without x l)
+unfolding withoutAll
+all-comm x [] l = refl
+all-comm x (v ∷ vs) l = all-comm x vs (without v l) ∙ ap (withoutAll vs) (without-comm x v l)
+
+all-snoc : (x : ℕ) (vs l : List ℕ) → withoutAll (vs ++ x ∷ []) l ≡ without x (withoutAll vs l)
+unfolding withoutAll
+all-snoc x [] l = refl
+all-snoc x (v ∷ vs) l = all-snoc x vs (without v l)
+
+-- a value that is listed makes no difference
+module _ (x : ℕ) where
+  all-again : (vs l : List ℕ) → listed x vs ≡ true → withoutAll vs (without x l) ≡ withoutAll vs l
+  unfolding withoutAll listed
+  all-again [] l e = absurd (false≢true e)
+  all-again (v ∷ vs) l e = go (eqb v x) refl e (all-again vs (without v l))
+    where
+      go :
+          (b : Bool) → eqb v x ≡ b → (b || listed x vs) ≡ true →
+          (listed x vs ≡ true → withoutAll vs (without x (without v l)) ≡ withoutAll vs (without v l)) →
+          withoutAll vs (without v (without x l)) ≡ withoutAll vs (without v l)
+      go true p q ih = rw (eqb-true v x p, without-again)
+      go false p q ih = ap (withoutAll vs) (without-comm v x l) ∙ ih q
+
+  all-skip : (vs l : List ℕ) → listed x vs ≡ true → withoutAll vs (x ∷ l) ≡ withoutAll vs l
+  unfolding withoutAll listed
+  all-skip [] l e = absurd (false≢true e)
+  all-skip (v ∷ vs) l e = go (eqb v x) refl e (all-skip vs (without v l))
+    where
+      go :
+          (b : Bool) → eqb v x ≡ b → (b || listed x vs) ≡ true →
+          (listed x vs ≡ true → withoutAll vs (x ∷ without v l) ≡ withoutAll vs (without v l)) →
+          withoutAll vs (without v (x ∷ l)) ≡ withoutAll vs (without v l)
+      go true p q ih = ap (withoutAll vs) (without-skip v x l (eq-eqb x v (sym (eqb-true v x p))))
+      go false p q ih = ap (withoutAll vs) (without-keep v x l (ne-eqb x v (λ h. eqb-false v x p (sym h)))) ∙ ih q
+
+  -- and one that is not stays first
+  all-keep : (vs l : List ℕ) → listed x vs ≡ false → withoutAll vs (x ∷ l) ≡ x ∷ withoutAll vs l
+  unfolding withoutAll listed
+  all-keep [] l e = refl
+  all-keep (v ∷ vs) l e = go (eqb v x) refl e (all-keep vs (without v l))
+    where
+      go :
+          (b : Bool) → eqb v x ≡ b → (b || listed x vs) ≡ false →
+          (listed x vs ≡ false → withoutAll vs (x ∷ without v l) ≡ x ∷ withoutAll vs (without v l)) →
+          withoutAll vs (without v (x ∷ l)) ≡ x ∷ withoutAll vs (without v l)
+      go true p q ih = absurd (true≢false q)
+      go false p q ih = ap (withoutAll vs) (without-keep v x l (ne-eqb x v (λ h. eqb-false v x p (sym h)))) ∙ ih q
+
+listing-adds : (vs cs : List ℕ) → listing vs cs ≡ vs ++ withoutAll vs (distinct cs)
+unfolding listing distinct
+listing-adds vs [] = rw (all-nil vs) (sym (append-nil vs))
+listing-adds vs (c ∷ cs) = go (listed c vs) refl (λ us. listing-adds us cs)
+  where
+    go :
+        (b : Bool) → listed c vs ≡ b → ((us : List ℕ) → listing us cs ≡ us ++ withoutAll us (distinct cs)) →
+        listing (cond b vs (vs ++ c ∷ [])) cs ≡ vs ++ withoutAll vs (c ∷ without c (distinct cs))
+    go true e ih = ih vs ∙ ap (λ (l : List ℕ). vs ++ l) (sym (all-skip c vs (without c (distinct cs)) e ∙ all-again c vs (distinct cs) e))
+    go false e ih =
+        ih (vs ++ c ∷ []) ∙ append-assoc vs (c ∷ []) (withoutAll (vs ++ c ∷ []) (distinct cs)) ∙
+        ap (λ (l : List ℕ). vs ++ c ∷ l) (all-snoc c vs (distinct cs) ∙ all-comm c vs (distinct cs)) ∙
+        ap (λ (l : List ℕ). vs ++ l) (sym (all-keep c vs (without c (distinct cs)) e))
+
+-- listing from nothing gives each value once, where it first stands
+pub listing-distinct : (cs : List ℕ) → listing [] cs ≡ distinct cs
+unfolding withoutAll
+listing-distinct cs = listing-adds [] cs
+
+-- the cells that words have still to give, where `left` cells of a row are still to come
+unfoldable pub toCome : List ℕ → ℕ → List ℕ → List ℕ
+toCome ars left ws = take left ws ++ cellsOf (rowsFrom ars left ws)
+
+-- n values listed in a buffer, of all cells of an instance with rel relations, with `left` cells of a row and the words rest still to come
+pub record Listing (rel : ℕ) (ars all before buffer : List ℕ) (n left : ℕ) (rest : List ℕ) : Type 0 where
+  pub stands : wordsStand rel ars left rest ≡ true
+  pub long : length buffer ≡ length before
+  pub room : n + length (toCome ars left rest) ≤ length before
+  pub values : listing (take n buffer) (toCome ars left rest) ≡ distinct all
+  pub kept : drop n buffer ≡ drop n before
+
+pub listing-starts :
+    (rel : ℕ) (ars ws buffer : List ℕ) → wordsStand rel ars 0 ws ≡ true → length (cellsOf (rowsFrom ars 0 ws)) ≤ length buffer →
+    Listing rel ars (cellsOf (rowsFrom ars 0 ws)) buffer buffer 0 0 ws
+unfolding toCome
+listing-starts rel ars ws buffer e l = record { stands = e; long = refl; room = omega arith; values = listing-distinct (cellsOf (rowsFrom ars 0 ws)); kept = refl }
+
+module _ (rel : ℕ) (ars all before buffer : List ℕ) (n left w : ℕ) (rest : List ℕ) where
+  -- a row starts
+  pub listing-relation : left ≡ 0 → Listing rel ars all before buffer n left (w ∷ rest) → w < rel
+  listing-relation e s = ltb-true w rel (at-row rel ars w rest (rw e at (s .stands)) .0)
+
+  pub listing-row : left ≡ 0 → Listing rel ars all before buffer n left (w ∷ rest) → Listing rel ars all before buffer n (arityOf ars w) rest
+  unfolding toCome rowsFrom cellsOf
+  listing-row e s = record {
+    stands = at-row rel ars w rest (rw e at (s .stands)) .1;
+    long = s .long;
+    room = rw e at (s .room);
+    values = rw e at (s .values);
+    kept = s .kept;
+  }
+
+  -- a cell
+  pub listing-cell : (left ≡ 0 → ⊥) → Listing rel ars all before buffer n left (w ∷ rest) → Listing rel ars all before buffer n (suc (left - 1)) (w ∷ rest)
+  listing-cell ne s =
+      let e : left ≡ suc (left - 1) = omega arith in
+      subst (λ (k : ℕ). Listing rel ars all before buffer n k (w ∷ rest)) e s
+
+module _ (rel : ℕ) (ars all before buffer : List ℕ) (n left w : ℕ) (rest : List ℕ) (s : Listing rel ars all before buffer n (suc left) (w ∷ rest)) where
+  pub listing-room : n < length buffer
+  unfolding toCome rowsFrom
+  listing-room = omega (arith, s .room, s .long)
+
+  -- that is listed already
+  pub listing-old : listed w (take n buffer) ≡ true → Listing rel ars all before buffer n left rest
+  unfolding toCome rowsFrom
+  listing-old e = record {
+    stands = at-cell rel ars left w rest (s .stands) .1;
+    long = s .long;
+    room = omega (arith, s .room);
+    values = sym (listing-skips (take n buffer) w (toCome ars left rest) e) ∙ s .values;
+    kept = s .kept;
+  }
+
+  -- that is new
+  pub listing-new : listed w (take n buffer) ≡ false → Listing rel ars all before (set buffer n w) (n + 1) left rest
+  unfolding toCome rowsFrom
+  listing-new e =
+      let put : take (n + 1) (set buffer n w) ≡ take n buffer ++ w ∷ [] = rw add-one (take-suc-set buffer n w listing-room) in
+      record {
+        stands = at-cell rel ars left w rest (s .stands) .1;
+        long = length-set buffer n w ∙ s .long;
+        room = omega (arith, s .room);
+        values = ap (λ (vs : List ℕ). listing vs (toCome ars left rest)) put ∙ sym (listing-puts (take n buffer) w (toCome ars left rest) e) ∙ s .values;
+        kept =
+            drop-set-lt (n + 1) buffer n w (omega arith) ∙
+            sym (drop-drop 1 n buffer) ∙ ap (drop 1) (s .kept) ∙ drop-drop 1 n before;
+      }
+
+-- all listed: the values stand first, and the rest of the buffer is as it was
+pub listing-ends :
+    (rel : ℕ) (ars all before buffer : List ℕ) (n left : ℕ) → Listing rel ars all before buffer n left [] →
+    (n ≡ length (distinct all)) × (buffer ≡ distinct all ++ drop (length (distinct all)) before)
+unfolding toCome rowsFrom cellsOf listing
+listing-ends rel ars all before buffer n left s =
+    let v : take n buffer ≡ distinct all = rw take-nil at (s .values) in
+    let l : n ≤ length buffer = omega (arith, s .room, s .long) in
+    let e : n ≡ length (distinct all) = sym (length-take-le n buffer l) ∙ ap length v in
+    (e, sym (take-append-drop n buffer) ∙ rw (v, s .kept, e) refl)

@@ -1,0 +1,21 @@
+-- How two lists of cells compare, and what was put for nulls on the way, as a list of bindings.
+use Prim.Native.Nat.{ℕ, zero, suc}
+use mathlib.Core.Bool.{Bool, cond}
+use mathlib.Core.List.{List}
+use lib.ListN.{getD}
+use Rattle.calculus.specs.Closed.{identical}
+use Rattle.calculus.specs.Unify.{bind, unifies}
+use Rattle.lookup.specs.declared.row.Match.{Match}
+use Rattle.lookup.specs.declared.row.Match.the-variants.{Identical, Unifies, Apart}
+
+abbrev pub unified : Bool → Match
+unified b = cond b Unifies Apart
+
+-- "true if the very row stands in the sheet; false if no row of the sheet unifies with it; else unknown": what one row of the sheet says
+unfoldable pub matching : List ℕ → List ℕ → Match
+matching xs ys = cond (identical xs ys) Identical (unified (unifies xs ys))
+
+-- a cell sent through the first n bindings, in order: the kth puts the kth cell of `to` for the kth of `from`
+unfoldable pub through : List ℕ → List ℕ → ℕ → ℕ → ℕ
+through from to zero c = c
+through from to (suc n) c = bind (getD from n 0) (getD to n 0) (through from to n c)

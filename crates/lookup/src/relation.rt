@@ -1,0 +1,47 @@
+// What an atom says of a row: whether it stands in a relation.
+ghost use mathlib.Core.Path.{_≡_};
+ghost use Prim.Native.Nat.{_<_};
+ghost use lib.ListN.{length, take};
+ghost use Rattle.calculus.specs.Closed.{stands, tuples};
+ghost use Rattle.instance.specs.Header.{arityOf, maxColumns};
+ghost use Rattle.instance.specs.Rows.{rowsFrom};
+ghost use Rattle.lookup.specs.Standing.{Standing};
+use super::row::Match;
+use super::row::compare;
+use calculus::truth::Truth;
+
+// Row by row; a row of another relation costs one step, and an identical row ends the walk.
+pub fn stands(
+    words: &[u32],
+    arities: &[u32; 8],
+    relations: u32,
+    relation: u32,
+    row: &[u32; 6],
+) -> Truth
+    requires { ⌜ Standing relations (now arities) (now words) ⌝ }
+    requires { ⌜ (relation < relations) × (length (now row) ≡ maxColumns) ⌝ }
+    ensures { λ r. ⌜ r ≡ stands (tuples relation (rowsFrom (now (arities .entry)) 0 (now (words .entry)))) (take (arityOf (now (arities .entry)) relation) (now (row .entry))) ⌝ }
+{
+    let arity = arities[relation as usize] as usize;
+    let mut possible = false;
+    let mut i = 0;
+    while i < words.len() {
+        let w = words[i];
+        if w == relation {
+            match compare(words, i + 1, row, arity) {
+                Match::Identical => {
+                    return Truth::True;
+                }
+                Match::Unifies => {
+                    possible = true;
+                }
+                Match::Apart => {}
+            }
+        }
+        i += 1 + arities[w as usize] as usize;
+    }
+    if possible {
+        return Truth::Unknown;
+    }
+    Truth::False
+}

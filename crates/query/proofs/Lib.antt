@@ -1,0 +1,5 @@
+pub mod Masks
+pub mod Steps
+pub mod Parts
+pub mod Trees
+pub mod Passed

@@ -1,0 +1,206 @@
+-- What a check that is passed says of each node: its tests hold, and its children are named, each with its scope. Assumes nothing.
+use Prim.Native.Nat.{ℕ, zero, suc, _+_, _<_, _≤_}
+use mathlib.Core.Path.{_≡_, refl, _∙_}
+use mathlib.Core.Bool.{Bool, true, false, _&&_}
+use mathlib.Core.List.{List}
+use native.Mathlib.Nat.{add-zero}
+use native.Mathlib.Omega.{arith}
+use borrow.Author.Tests.{ltb-true, eqb-true, eqb-false}
+use lib.ListN.{length-set, getD}
+use lib.Seq.{getD-set-same, getD-set-other}
+use lib.Dec.{ltb, eqb}
+use Rattle.calculus.proofs.Bools.{both}
+use Rattle.calculus.specs.Formula.{variables}
+use Rattle.instance.specs.Header.{arityOf}
+use Rattle.query.specs.Words.{Kind, rowStands, equals, negates, noKind, joins, ranges, kindOf, wordAt, nodeCount, maxNodes}
+use Rattle.query.specs.Scope.{Scopes, naming, binding}
+use Rattle.query.specs.Answers.{Long}
+use Rattle.query.specs.Check.{Checked, passed, refused, andThen, unless, restIsZero, isTerm, isBound, isChild, checkTerms, checkChild, checkBy, checkNode, checkNodes}
+
+refused-passed : {A : Type 0} {r : ℕ} {t : Scopes} → refused r ≡ passed t → A
+refused-passed e = let z : _≡_ {A = ℕ} 0 1 = cc in absurd (omega arith)
+
+pub unless-passed : (b : Bool) (r : ℕ) (k : Checked) {t : Scopes} → unless b r k ≡ passed t → (b ≡ true) × (k ≡ passed t)
+unless-passed true r k e = (refl, e)
+unless-passed false r k e = refused-passed e
+
+-- what is known between two steps
+record Between (k : Checked) (f : Scopes → Checked) (t : Scopes) : Type 0 where
+  known : Scopes
+  first : k ≡ passed known
+  second : f known ≡ passed t
+
+then-passed : (k : Checked) (f : Scopes → Checked) {t : Scopes} → andThen k f ≡ passed t → Between k f t
+then-passed (passed s) f e = record { known = s; first = refl; second = e }
+then-passed (refused r) f e = refused-passed e
+
+-- node i is named, in a scope
+pub record NamedIn (s : Scopes) (i mask : ℕ) : Type 0 where
+  pub named : getD (s .named) i 0 ≡ 1
+  pub scope : getD (s .masks) i 0 ≡ mask
+
+-- a node that is named stays so, in its scope
+abbrev pub Kept : Scopes → Scopes → Type 0
+Kept s t = (i mask : ℕ) → NamedIn s i mask → NamedIn t i mask
+
+-- a child of node i, in a scope
+pub record ChildIn (count : ℕ) (s : Scopes) (i child mask : ℕ) : Type 0 where
+  pub above : i < child
+  pub below : child < count
+  pub named : NamedIn s child mask
+
+child-kept : {count : ℕ} {s t : Scopes} {i child mask : ℕ} → Kept s t → ChildIn count s i child mask → ChildIn count t i child mask
+child-kept k c = record { above = c .above; below = c .below; named = k _ _ (c .named) }
+
+-- what a child's check that is passed says
+pub record ChildPassed (count mask i child : ℕ) (s t : Scopes) : Type 0 where
+  pub named : ChildIn count t i child mask
+  pub kept : Kept s t
+  pub long : Long t
+
+module _ (count : ℕ) (few : count ≤ maxNodes) (mask i child : ℕ) (s : Scopes) (l : Long s) where
+  naming-long : Long (naming s child mask)
+  naming-long = record { named = rw length-set (l .named); masks = rw length-set (l .masks) }
+
+  naming-kept : getD (s .named) child 0 ≡ 0 → Kept s (naming s child mask)
+  naming-kept z j m k =
+      let other : (j ≡ child → ⊥) = λ e. let o : getD (s .named) child 0 ≡ 1 = rw (← e) (k .named) in omega arith in
+      record {
+        named = getD-set-other (s .named) child j 1 0 other ∙ k .named;
+        scope = getD-set-other (s .masks) child j mask 0 other ∙ k .scope;
+      }
+
+  pub child-passed : {t : Scopes} → checkChild count mask i child s ≡ passed t → ChildPassed count mask i child s t
+  unfolding checkChild
+  child-passed {t} e =
+      let p = unless-passed (isChild count i child s) _ _ e in
+      let q = both (ltb i child && ltb child count) (eqb (getD (s .named) child 0) 0) (p .0) in
+      let o = both (ltb i child) (ltb child count) (q .0) in
+      let b = ltb-true i child (o .0) in
+      let a = ltb-true child count (o .1) in
+      let z = eqb-true (getD (s .named) child 0) 0 (q .1) in
+      let m : t ≡ naming s child mask = cc in
+      rw m
+      (record {
+        named = record {
+          above = b;
+          below = a;
+          named = record {
+            named = getD-set-same (s .named) child 1 0 (omega (arith, l .named));
+            scope = getD-set-same (s .masks) child mask 0 (omega (arith, l .masks));
+          };
+        };
+        kept = naming-kept z;
+        long = naming-long;
+      })
+
+-- k words from word j of node i on are terms, of values or of variables that are bound
+abbrev pub BoundTerms : List ℕ → ℕ → ℕ → ℕ → ℕ → Type 0
+BoundTerms qs mask i j k = (m : ℕ) → m < k → (isTerm (wordAt qs i (j + m)) ≡ true) × (isBound mask (wordAt qs i (j + m)) ≡ true)
+
+terms-more : (qs : List ℕ) (mask i j k : ℕ) → isTerm (wordAt qs i j) ≡ true → isBound mask (wordAt qs i j) ≡ true → BoundTerms qs mask i (suc j) k
+    → BoundTerms qs mask i j (suc k)
+terms-more qs mask i j k p q r zero l = rw add-zero (p, q)
+terms-more qs mask i j k p q r (suc m) l = let f : suc j + m ≡ j + suc m = omega arith in rw f at (r m (omega arith))
+
+terms-passed : (qs : List ℕ) (mask i j k : ℕ) (s : Scopes) {t : Scopes} → checkTerms qs mask i j k s ≡ passed t → BoundTerms qs mask i j k × (t ≡ s)
+unfolding checkTerms
+terms-passed qs mask i j zero s e = (λ m l. absurd (omega arith), cc)
+terms-passed qs mask i j (suc k) s {t} e =
+    let p = unless-passed (isTerm (wordAt qs i j)) _ _ e in
+    let q = unless-passed (isBound mask (wordAt qs i j)) _ _ (p .1) in
+    let r = terms-passed qs mask i (suc j) k s (q .1) in
+    (terms-more qs mask i j k (p .0) (q .0) (r .0), r .1)
+
+module _ (n : ℕ) (ars qs : List ℕ) where
+  -- what stands at node i in its scope, by its kind, where the nodes in s are named
+  abbrev pub StandsIn : Scopes → ℕ → ℕ → Kind → Type 0
+  StandsIn s i mask rowStands = (wordAt qs i 1 < n) × BoundTerms qs mask i 2 (arityOf ars (wordAt qs i 1))
+  StandsIn s i mask equals = BoundTerms qs mask i 1 2
+  StandsIn s i mask negates = ChildIn (nodeCount qs) s i (wordAt qs i 1) mask
+  StandsIn s i mask (joins j) = ChildIn (nodeCount qs) s i (wordAt qs i 1) mask × ChildIn (nodeCount qs) s i (wordAt qs i 2) mask
+  StandsIn s i mask (ranges j) = (wordAt qs i 1 < variables) × ChildIn (nodeCount qs) s i (wordAt qs i 2) (binding mask (wordAt qs i 1))
+  StandsIn s i mask noKind = ⊥
+
+  stands-kept : {s t : Scopes} (i mask : ℕ) (k : Kind) → Kept s t → StandsIn s i mask k → StandsIn t i mask k
+  stands-kept i mask rowStands κ p = p
+  stands-kept i mask equals κ p = p
+  stands-kept i mask negates κ p = child-kept κ p
+  stands-kept i mask (joins j) κ p = (child-kept κ (p .0), child-kept κ (p .1))
+  stands-kept i mask (ranges j) κ p = (p .0, child-kept κ (p .1))
+  stands-kept i mask noKind κ p = p
+
+  -- what a node's check that is passed says
+  pub record NodePassed (s : Scopes) (i mask : ℕ) (k : Kind) (t : Scopes) : Type 0 where
+    pub stands : StandsIn t i mask k
+    pub kept : Kept s t
+    pub long : Long t
+
+  module _ (few : nodeCount qs ≤ maxNodes) (s : Scopes) (l : Long s) where
+    unchanged : {t : Scopes} (i mask : ℕ) (k : Kind) → StandsIn s i mask k → t ≡ s → NodePassed s i mask k t
+    unchanged i mask k p e = rw e (record { stands = p; kept = λ j m h. h; long = l })
+
+    by-passed : {t : Scopes} (i mask : ℕ) (k : Kind) → checkBy n ars qs i mask s k ≡ passed t → NodePassed s i mask k t
+    by-passed i mask rowStands e =
+        let p = unless-passed (ltb (wordAt qs i 1) n) _ _ e in
+        let q = unless-passed (restIsZero qs i (2 + arityOf ars (wordAt qs i 1))) _ _ (p .1) in
+        let r = terms-passed qs mask i 2 (arityOf ars (wordAt qs i 1)) s (q .1) in
+        unchanged i mask rowStands (ltb-true _ _ (p .0), r .0) (r .1)
+    by-passed i mask equals e =
+        let p = unless-passed (restIsZero qs i 3) _ _ e in
+        let r = terms-passed qs mask i 1 2 s (p .1) in
+        unchanged i mask equals (r .0) (r .1)
+    by-passed i mask negates e =
+        let p = unless-passed (restIsZero qs i 2) _ _ e in
+        let c = child-passed (nodeCount qs) few mask i (wordAt qs i 1) s l (p .1) in
+        record { stands = c .named; kept = c .kept; long = c .long }
+    by-passed i mask (joins j) e =
+        let p = unless-passed (restIsZero qs i 3) _ _ e in
+        let b = then-passed (checkChild (nodeCount qs) mask i (wordAt qs i 1) s) (checkChild (nodeCount qs) mask i (wordAt qs i 2)) (p .1) in
+        let c = child-passed (nodeCount qs) few mask i (wordAt qs i 1) s l (b .first) in
+        let d = child-passed (nodeCount qs) few mask i (wordAt qs i 2) (b .known) (c .long) (b .second) in
+        record {
+          stands = (child-kept (d .kept) (c .named), d .named);
+          kept = λ j m h. d .kept j m (c .kept j m h);
+          long = d .long;
+        }
+    by-passed i mask (ranges j) e =
+        let p = unless-passed (restIsZero qs i 3) _ _ e in
+        let q = unless-passed (ltb (wordAt qs i 1) variables) _ _ (p .1) in
+        let c = child-passed (nodeCount qs) few (binding mask (wordAt qs i 1)) i (wordAt qs i 2) s l (q .1) in
+        record { stands = (ltb-true _ _ (q .0), c .named); kept = c .kept; long = c .long }
+    by-passed i mask noKind e = refused-passed e
+
+    -- the node is named, and stands by its kind in its scope
+    pub node-passed : {t : Scopes} (i : ℕ) → checkNode n ars qs i s ≡ passed t
+        → (getD (s .named) i 0 ≡ 1) × NodePassed s i (getD (s .masks) i 0) (kindOf (wordAt qs i 0)) t
+    unfolding checkNode
+    node-passed i e =
+        let p = unless-passed (eqb (getD (s .named) i 0) 1) _ _ e in
+        (eqb-true _ _ (p .0), by-passed i (getD (s .masks) i 0) (kindOf (wordAt qs i 0)) (p .1))
+
+  -- every node from i on, k of them, stands in its scope
+  abbrev pub AllStand : Scopes → ℕ → ℕ → Type 0
+  AllStand t i k = (j : ℕ) → i ≤ j → j < i + k → StandsIn t j (getD (t .masks) j 0) (kindOf (wordAt qs j 0))
+
+  one-more : {s t : Scopes} (i k : ℕ) → getD (s .named) i 0 ≡ 1 → NodePassed s i (getD (s .masks) i 0) (kindOf (wordAt qs i 0)) t → (u : Scopes) → Kept t u
+      → AllStand u (suc i) k → AllStand u i (suc k)
+  one-more {s} {t} i k named p u κ all j l m = go (eqb j i) refl
+    where
+      go : (b : Bool) → eqb j i ≡ b → StandsIn u j (getD (u .masks) j 0) (kindOf (wordAt qs j 0))
+      go true e =
+          let f = eqb-true j i e in
+          let same = κ i _ (p .kept i (getD (s .masks) i 0) (record { named = named; scope = refl })) .scope in
+          rw (f, same) (stands-kept i (getD (s .masks) i 0) (kindOf (wordAt qs i 0)) κ (p .stands))
+      go false e = let n = eqb-false j i e in all j (omega arith) (omega arith)
+
+  -- nodes that are passed: those that were named stay so, and each stands
+  pub nodes-passed : nodeCount qs ≤ maxNodes → (i k : ℕ) (s : Scopes) {t : Scopes} → Long s → checkNodes n ars qs i k s ≡ passed t
+      → Kept s t × AllStand t i k
+  unfolding checkNodes
+  nodes-passed few i zero s {t} l e = let z : t ≡ s = cc in (λ j m h. rw z h, λ j a b. absurd (omega arith))
+  nodes-passed few i (suc k) s {t} l e =
+      let b = then-passed (checkNode n ars qs i s) (checkNodes n ars qs (suc i) k) e in
+      let p = node-passed few s l i (b .first) in
+      let r = nodes-passed few (suc i) k (b .known) (p .1 .long) (b .second) in
+      (λ j m h. r .0 j m (p .1 .kept j m h), one-more i k (p .0) (p .1) t (r .0) (r .1))

@@ -1,0 +1,6 @@
+pub mod Words
+pub mod Tree
+pub mod Scope
+pub mod Check
+pub mod Answers
+pub mod Passed

@@ -1,0 +1,66 @@
+// The check of a question and its candidate.
+ghost use mathlib.Core.Path.{_≡_};
+ghost use mathlib.Core.Bool.{true};
+ghost use Prim.Native.Nat.{_≤_};
+ghost use lib.ListN.{length};
+ghost use Rattle.instance.specs.Header.{headerStands, maxRelations};
+ghost use Rattle.query.specs.Words.{nodeCount, maxNodes};
+ghost use Rattle.query.specs.Check.{checkNodes, checkQuery, checkNumber};
+ghost use Rattle.query.specs.Answers.{scopes, Long, Answers};
+use super::node::check_node;
+use calculus::refusal::BAD_CANDIDATE;
+use calculus::refusal::BAD_QUERY_LENGTH;
+use instance::insert::are_cells;
+
+// The nodes by number, up to the first refusal.
+fn check_nodes(
+    relations: u32,
+    arities: &[u32; 8],
+    query: &[u32],
+    named: &mut [u32; 100],
+    masks: &mut [u32; 100],
+) -> u32
+    requires { ⌜ (headerStands relations (now arities) ≡ true) × (length (now arities) ≡ maxRelations) × (nodeCount (now query) ≤ maxNodes)
+        × Long (scopes (now named) (now masks)) ⌝ }
+    ensures { λ r. ⌜ Answers (checkNodes relations (now (arities .entry)) (now (query .entry)) 0 (nodeCount (now (query .entry)))
+        (scopes (now (named .entry)) (now (masks .entry))))
+        r (scopes (now (named .exit)) (now (masks .exit))) ⌝ }
+{
+    let count = query.len() / 8;
+    let mut node = 0;
+    while node < count {
+        let refusal = check_node(relations, arities, query, node, named, masks);
+        if refusal != 0 {
+            return refusal;
+        }
+        node += 1;
+    }
+    0
+}
+
+// The number of the first refusal that a question and its candidate meet, and 0 where they meet none.
+pub fn check(relations: u32, arities: &[u32; 8], query: &[u32], candidate: &[u32]) -> u32
+    requires { ⌜ (headerStands relations (now arities) ≡ true) × (length (now arities) ≡ maxRelations) ⌝ }
+    ensures { λ r. ⌜ r ≡ checkNumber (checkQuery relations (now (arities .entry)) (now (query .entry)) (now (candidate .entry))) ⌝ }
+{
+    if query.len() < 8 {
+        return BAD_QUERY_LENGTH;
+    }
+    if 800 < query.len() {
+        return BAD_QUERY_LENGTH;
+    }
+    if query.len() % 8 != 0 {
+        return BAD_QUERY_LENGTH;
+    }
+    if 6 < candidate.len() {
+        return BAD_CANDIDATE;
+    }
+    if !are_cells(candidate) {
+        return BAD_CANDIDATE;
+    }
+    let mut named = [0u32; 100];
+    let mut masks = [0u32; 100];
+    named[0] = 1;
+    masks[0] = (1u32 << candidate.len() as u32) - 1;
+    check_nodes(relations, arities, query, &mut named, &mut masks)
+}

@@ -1,0 +1,4 @@
+// The question: the check of its words.
+pub mod check;
+mod node;
+mod term;
