@@ -1,8 +1,10 @@
 // Worked inputs through the calls; what they answer is compared with the file stdout.
+mod asking;
 mod decoding;
 mod encoding;
 mod entering;
 mod filling;
+mod limits;
 mod show;
 
 fn main() {
@@ -20,4 +22,14 @@ fn main() {
     filling::census();
     encoding::round_trip();
     encoding::refused();
+    asking::in_one_sheet_only();
+    asking::without_twice();
+    asking::excluded_middle();
+    asking::no_rows();
+    asking::every_is_seven();
+    asking::whole_rows();
+    asking::bound_again();
+    asking::refused();
+    limits::deepest();
+    limits::full();
 }

@@ -1,5 +1,7 @@
 // What the calls answer, as lines of text.
+use answer::asked::Asked;
 use calculus::answer::Answer;
+use calculus::truth::Truth;
 use instance::header::Header;
 
 fn text(bytes: &[u8]) {
@@ -71,5 +73,24 @@ pub fn header(h: Header) {
     items(&arities);
     text(b" used");
     item(h.used);
+    text(b"\n");
+}
+
+pub fn asked(name: &[u8], a: Asked) {
+    text(name);
+    match a {
+        Asked::Verdict(truth, looks) => {
+            match truth {
+                Truth::False => text(b": false"),
+                Truth::Unknown => text(b": unknown"),
+                Truth::True => text(b": true"),
+            }
+            item(looks);
+        }
+        Asked::Refused(why) => {
+            text(b": refused");
+            item(why);
+        }
+    }
     text(b"\n");
 }
