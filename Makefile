@@ -1,4 +1,9 @@
-.PHONY: test fmt
+.PHONY: run test fmt
+
+# proves and builds what plotask needs, and puts document 01's whole case through it: it prints `unknown 4`
+run:
+	rt check plotask
+	@target/bin/plotask < crates/plotask/stdin
 
 # the gate
 test:

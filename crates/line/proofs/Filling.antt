@@ -1,0 +1,59 @@
+-- Filling a list with the numbers that are read from a place on. Assumes nothing.
+use Prim.Native.Nat.{ℕ, suc, _+_, _-_, _≤_, _<_}
+use mathlib.Core.Path.{_≡_, refl}
+use mathlib.Core.Bool.{true}
+use mathlib.Core.List.{List, _++_}
+use native.Mathlib.Nat.{sub-zero}
+use native.Mathlib.Omega.{arith}
+use lib.ListN.{length, drop, set, length-drop}
+use Rattle.card.specs.Parse.{read, isRead}
+use Rattle.card.proofs.Stores.{Written, begin, store, finish}
+use Rattle.line.specs.Number.{readNumber, readNumbers, numbersOf}
+use Rattle.line.proofs.Reading.{numbers-room, numbers-more, numbers-length}
+
+-- the first i numbers stand in `out`, which was `out₀`, and the next is read at place `next`
+pub record Filling (width count at : ℕ) (bytes out₀ out : List ℕ) (next i : ℕ) : Type 0 where
+  pub few : i ≤ count
+  pub within : next ≤ length bytes
+  pub whole : length (numbersOf width count (drop at bytes)) ≡ count
+  pub reads : isRead (readNumbers width (count - i) (drop next bytes)) ≡ true
+  pub written : Written (numbersOf width count (drop at bytes)) (numbersOf width (count - i) (drop next bytes)) out₀ out i
+
+pub fill-start : (width count at : ℕ) (bytes out : List ℕ) → at ≤ length bytes → isRead (readNumbers width count (drop at bytes)) ≡ true → count ≤ length out
+    → Filling width count at bytes out out at 0
+fill-start width count at bytes out within reads room =
+    let long : length (numbersOf width count (drop at bytes)) ≡ count = numbers-length width count (drop at bytes) reads in
+    record {
+      few = omega arith;
+      within = within;
+      whole = long;
+      reads = rw (sub-zero count) reads;
+      written = rw (sub-zero count) (begin (numbersOf width count (drop at bytes)) out (omega arith));
+    }
+
+module _ {width count at : ℕ} {bytes out₀ out : List ℕ} {next i : ℕ} (f : Filling width count at bytes out₀ out next i) where
+  left : i < count → count - i ≡ suc (count - (i + 1))
+  left l = omega arith
+
+  pub fill-room : i < count → next + width ≤ length bytes
+  fill-room l =
+      let one : width ≤ length (drop next bytes) = numbers-room width (count - (i + 1)) (drop next bytes) (rw (left l) at (f .reads)) in
+      omega (arith, length-drop next bytes)
+
+  pub fill-more : {x : ℕ} → i < count → readNumber width (drop next bytes) ≡ read x (drop (next + width) bytes)
+      → Filling width count at bytes out₀ (set out i x) (next + width) (i + 1)
+  fill-more {x} l number =
+      let m = numbers-more width (count - (i + 1)) x (drop next bytes) (drop (next + width) bytes) number (rw (left l) at (f .reads)) in
+      record {
+        few = omega arith;
+        within = fill-room l;
+        whole = f .whole;
+        reads = m .0;
+        written = store (i + 1) refl (rw (left l, m .1) at (f .written));
+      }
+
+  pub fill-end : count ≤ i → out ≡ numbersOf width count (drop at bytes) ++ drop count out₀
+  unfolding readNumbers
+  fill-end l =
+      let none : count - i ≡ 0 = omega arith in
+      rw (f .whole) at (finish (rw none at (f .written)))

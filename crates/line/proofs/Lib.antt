@@ -1,0 +1,9 @@
+pub mod Reading
+pub mod Filling
+pub mod Finding
+pub mod Writing
+pub mod Digits
+pub mod Lines
+pub mod Shown
+pub mod Answering
+pub mod Fits

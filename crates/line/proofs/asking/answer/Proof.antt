@@ -1,0 +1,39 @@
+-- `line::asking::answer` meets its contract: the fields are found, or the input is refused. Assumes nothing.
+use mathlib.Core.Path.{_≡_, _∙_}
+use Rattle.card.specs.Parse.{refused}
+use Rattle.line.specs.Fields.{Standing, readInput}
+use Rattle.line.specs.Line.{answered}
+use borrow.Author.Needs.{needs}
+use Rattle.line.proofs.asking.answer.Statement.{statement}
+use Rattle.line.proofs.asking.answer.Tie as tie
+
+-- the fields stand at the places that were found
+standing : (c : tie.After-known-told) → Standing (c .before .before .before .before .before .args .input .now) (c .before .places .given .0 .0)
+standing c = rw (c .before .places .given .1) at (c .before .before .before .find .ensures)
+
+find-requires : tie.Need-find-requires
+find-requires c κs = search needs
+
+enum-known-places : tie.Need-enum-known-places
+enum-known-places c = search needs
+
+ask-card-requires : tie.Need-ask-card-requires
+ask-card-requires c κs = standing c
+
+enum-known-why : tie.Need-enum-known-why
+enum-known-why c = search needs
+
+returns : tie.Need-returns
+unfolding answered
+returns c = c .ask-card .ensures ∙ rw (standing (c .before) .fields)
+
+returns-2 : tie.Need-returns-2
+unfolding answered
+returns-2 c =
+    let refused : readInput (c .before .before .before .before .before .args .input .now) ≡ refused (c .before .why .given .0 .0) = rw (c .before .why .given .1) at (c .before .before .before .find .ensures) in
+    rw refused
+
+pub answer-spec : {M : Type 1} → statement M
+answer-spec =
+    tie.close
+    (tie.spec find-requires enum-known-places ask-card-requires enum-known-why returns returns-2)

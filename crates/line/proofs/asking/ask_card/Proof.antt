@@ -1,0 +1,80 @@
+-- `line::asking::ask_card` meets its contract: a card that is refused says so, and any other is asked. Assumes nothing.
+use Prim.Native.Nat.{_+_, _-_}
+use mathlib.Core.Path.{_≡_, _∙_}
+use native.Mathlib.Omega.{arith}
+use lib.ListN.{take, drop}
+use Rattle.card.specs.Decode.{decoded}
+use Rattle.line.specs.Fields.{fieldsAt}
+use Rattle.line.specs.Line.{blank, askedCard}
+use Rattle.line.proofs.Answering.{card-refused, card-read}
+use borrow.Author.Needs.{needs}
+use Rattle.line.proofs.asking.ask_card.Statement.{statement}
+use Rattle.line.proofs.asking.ask_card.Tie as tie
+
+add-end : tie.Need-add-end
+add-end c = search needs
+
+sub-decode : tie.Need-sub-decode
+sub-decode c = search needs
+
+part-decode-start : tie.Need-part-decode-start
+part-decode-start c = search needs
+
+part-decode-end : tie.Need-part-decode-end
+part-decode-end c = search needs
+
+slice-aggregate-decode : tie.Need-slice-aggregate-decode
+slice-aggregate-decode c = search needs
+
+decode-requires : tie.Need-decode-requires
+decode-requires c κs = search needs
+
+enum-told : tie.Need-enum-told
+enum-told c = search needs
+
+slice-aggregate-ask-plot : tie.Need-slice-aggregate-ask-plot
+slice-aggregate-ask-plot c = search needs
+
+ask-plot-requires : tie.Need-ask-plot-requires
+ask-plot-requires c κs = search needs
+
+enum-known-answer : tie.Need-enum-known-answer
+enum-known-answer c = search needs
+
+returns : tie.Need-returns
+unfolding blank askedCard
+returns c =
+    let start = c .before .before .before .before .before .before .before .before .before .before .before in
+    let size = start .args .places .size in
+    let input = start .args .input .now in
+    let card = c .before .before .before .before .before .before .decode in
+    let same : 2 + size - 2 ≡ size = omega arith in
+    c .ask-plot .ensures
+    ∙ rw same at (card-read (fieldsAt input (start .args .places)) (decoded (take (2 + size - 2) (drop 2 input)) blank) (card .ensures .0) (c .before .before .enum-told .given .1) (card .ensures .1 .0) (card .ensures .1 .1))
+
+returns-2 : tie.Need-returns-2
+unfolding blank askedCard
+returns-2 c =
+    let start = c .before .before .before .before .before .before .before .before .before .before in
+    let size = start .args .places .size in
+    let input = start .args .input .now in
+    let card = c .before .before .before .before .before .decode in
+    let same : 2 + size - 2 ≡ size = omega arith in
+    rw same at (card-refused (fieldsAt input (start .args .places)) (decoded (take (2 + size - 2) (drop 2 input)) blank) (card .ensures .0) (c .before .answer .given .1))
+
+pub ask-card-spec : {M : Type 1} → statement M
+ask-card-spec =
+    tie.close
+    (tie.spec
+    add-end
+    sub-decode
+    part-decode-start
+    part-decode-end
+    slice-aggregate-decode
+    decode-requires
+    enum-told
+    slice-aggregate-ask-plot
+    ask-plot-requires
+    enum-known-answer
+    returns
+    returns-2)

@@ -1,0 +1,18 @@
+-- Decimal digits. Document 01, "The program": the looks and the number of a refusal are printed in decimal.
+use Prim.Native.Nat.{ℕ, zero, suc, _+_, _/_, _%_}
+use mathlib.Core.Bool.{cond}
+use mathlib.Core.List.{List, [], _∷_, _++_}
+use lib.Dec.{ltb}
+
+-- the character of a digit: 48 is "0"
+abbrev pub digit : ℕ → ℕ
+digit d = 48 + d
+
+-- the digits of n, the last one behind those of n / 10; no number has more digits than it counts, so n steps suffice
+unfoldable pub digitsIn : ℕ → ℕ → List ℕ
+digitsIn zero n = digit n ∷ []
+digitsIn (suc steps) n = cond (ltb n 10) (digit n ∷ []) (digitsIn steps (n / 10) ++ digit (n % 10) ∷ [])
+
+-- without leading zeros; those of 0 are "0"
+abbrev pub digits : ℕ → List ℕ
+digits n = digitsIn n n

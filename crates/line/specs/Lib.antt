@@ -1,0 +1,5 @@
+pub mod Number
+pub mod Fields
+pub mod Decimal
+pub mod Text
+pub mod Line

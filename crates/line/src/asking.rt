@@ -1,0 +1,68 @@
+// Asking what the input asks.
+ghost use mathlib.Core.Path.{_≡_};
+ghost use Prim.Native.Nat.{min};
+ghost use Rattle.line.specs.Fields.{Standing, fieldsAt};
+ghost use Rattle.line.specs.Line.{askedPlot, askedCard, answered};
+use super::fields::Found;
+use super::fields::Places;
+use super::fields::find;
+use super::number::numbers;
+use answer::ask::ask;
+use answer::asked::Asked;
+use calculus::answer::Answer;
+use card::decode::decode;
+use instance::header::Header;
+
+// No question may have so many words, so that the first of them stand for a longer one.
+fn looked_at(count: usize) -> usize
+    ensures { λ r. ⌜ r ≡ min count 808 ⌝ }
+{
+    if count < 808 { count } else { 808 }
+}
+
+// Asks the question that stands at the places, of a plot.
+fn ask_plot(input: &[u8], places: Places, header: Header, plot: &[u32]) -> Asked
+    requires { ⌜ Standing (now input) places ⌝ }
+    ensures { λ r. ⌜ r ≡ askedPlot (fieldsAt (now (input .entry)) places) header (now (plot .entry)) ⌝ }
+{
+    let mut words = [0u32; 808];
+    let count = looked_at(places.count);
+    numbers(&mut words, input, places.words, 4, count);
+    let mut cells = [0u32; 255];
+    let arity = places.arity;
+    numbers(&mut cells, input, places.cells, 3, arity);
+    let mut list = [0u32; 4096];
+    ask(
+        header,
+        plot,
+        &words[..count],
+        &cells[..arity],
+        &mut list,
+        places.budget,
+    )
+}
+
+// Reads the card that stands at its place, and asks.
+fn ask_card(input: &[u8], places: Places) -> Asked
+    requires { ⌜ Standing (now input) places ⌝ }
+    ensures { λ r. ⌜ r ≡ askedCard (fieldsAt (now (input .entry)) places) ⌝ }
+{
+    let end = 2 + places.size;
+    let mut plot = [0u32; 4096];
+    let stored = decode(&input[2..end], &mut plot);
+    let answer = stored.answer;
+    let header = stored.header;
+    match answer {
+        Answer::Done(_) => ask_plot(input, places, header, &plot),
+        Answer::Refused(why) => Asked::Refused(why),
+    }
+}
+
+pub fn answer(input: &[u8]) -> Asked
+    ensures { λ r. ⌜ r ≡ answered (now (input .entry)) ⌝ }
+{
+    match find(input) {
+        Found::Fields(places) => ask_card(input, places),
+        Found::Refused(why) => Asked::Refused(why),
+    }
+}

@@ -1,0 +1,28 @@
+// The line that plotask prints.
+ghost use mathlib.Core.Path.{_≡_};
+ghost use Rattle.line.specs.Line.{lineLength, lineOut};
+use answer::asked::Asked;
+use asking::answer;
+use text::LINE;
+use text::write_refused;
+use text::write_verdict;
+
+mod asking;
+mod decimal;
+mod fields;
+mod number;
+mod text;
+
+// Writes the line of an input, and answers its length; nothing is written to fewer bytes than a line may have.
+pub fn line(input: &[u8], out: &mut [u8]) -> usize
+    ensures length { λ r. ⌜ r ≡ lineLength (now (input .entry)) (now (out .entry)) ⌝ }
+    ensures bytes { λ r. ⌜ now (out .exit) ≡ lineOut (now (input .entry)) (now (out .entry)) ⌝ }
+{
+    if out.len() < LINE {
+        return 0;
+    }
+    match answer(input) {
+        Asked::Verdict(truth, looks) => write_verdict(out, truth, looks),
+        Asked::Refused(why) => write_refused(out, why),
+    }
+}

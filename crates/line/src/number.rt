@@ -1,0 +1,42 @@
+// Numbers in bytes, high byte first.
+ghost use mathlib.Core.Path.{_≡_};
+ghost use mathlib.Core.Bool.{true};
+ghost use mathlib.Core.List.{_++_};
+ghost use Prim.Native.Nat.{_+_, _^_, _≤_, _<_};
+ghost use lib.ListN.{length, drop};
+ghost use Rattle.card.specs.Parse.{read, isRead};
+ghost use Rattle.line.specs.Number.{readNumber, readNumbers, numbersOf};
+
+// The number in so many bytes from a place on.
+pub fn number(bytes: &[u8], at: usize, width: usize) -> u32
+    requires narrow { ⌜ width ≤ 4 ⌝ }
+    requires within { ⌜ at + width ≤ length (now bytes) ⌝ }
+    ensures read { λ r. ⌜ readNumber width (drop at (now (bytes .entry))) ≡ read r (drop (at + width) (now (bytes .entry))) ⌝ }
+    ensures small { λ r. ⌜ r < 256 ^ width ⌝ }
+{
+    let mut number: u32 = 0;
+    let mut left = width;
+    while 0 < left {
+        let next = at + (width - left);
+        number = number * 256 + bytes[next] as u32;
+        left -= 1;
+    }
+    number
+}
+
+// Writes so many numbers, read from a place on, to the front of a list.
+pub fn numbers(out: &mut [u32], bytes: &[u8], at: usize, width: usize, count: usize)
+    requires narrow { ⌜ width ≤ 4 ⌝ }
+    requires within { ⌜ at ≤ length (now bytes) ⌝ }
+    requires reads { ⌜ isRead (readNumbers width count (drop at (now bytes))) ≡ true ⌝ }
+    requires room { ⌜ count ≤ length (now out) ⌝ }
+    ensures { λ _. ⌜ now (out .exit) ≡ numbersOf width count (drop at (now (bytes .entry))) ++ drop count (now (out .entry)) ⌝ }
+{
+    let mut next = at;
+    let mut i = 0;
+    while i < count {
+        out[i] = number(bytes, next, width);
+        next += width;
+        i += 1;
+    }
+}

@@ -1,0 +1,10 @@
+// The program: the input's bytes in, the line's bytes out. One byte more than an input may have is read, so that a longer one is told.
+use line::line;
+
+fn main() {
+    let mut input = [0u8; 16385];
+    let n = io::read_full(0, &mut input);
+    let mut out = [0u8; 20];
+    let end = line(&input[..n], &mut out);
+    io::write_all(1, &out[..end]);
+}
