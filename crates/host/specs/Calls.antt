@@ -1,4 +1,4 @@
--- The exported calls: those of `instance` and `card`, of a header that is ten words of a slice.
+-- The exported calls: those of `instance`, `card` and `answer`, of a header that is ten words of a slice.
 use Prim.Native.Nat.{ℕ}
 use mathlib.Core.List.{List}
 use Rattle.calculus.specs.declared.answer.Answer.{Answer}
@@ -8,6 +8,10 @@ use Rattle.instance.specs.Substitute.{substituted, substitutedWords}
 use Rattle.instance.specs.NullCounts.{counted, countedWords}
 use Rattle.card.specs.Decode.{decoded}
 use Rattle.card.specs.Encode.{encoded, encodedBytes}
+use Rattle.calculus.specs.Refusal.{unsound}
+use Rattle.answer.specs.declared.asked.Asked.{Asked}
+use Rattle.answer.specs.declared.asked.Asked.the-variants as asked
+use Rattle.answer.specs.Ask.{ask, askedBuffer}
 use Rattle.host.specs.Words.{headed, ifHeaded, headerOf, headerWords}
 
 module _ (card hs ws : List ℕ) where
@@ -51,3 +55,10 @@ module _ (hs ws out : List ℕ) where
 
   unfoldable pub encodeBytes : List ℕ
   encodeBytes = ifHeaded hs (encodedBytes (headerOf hs) ws out) out
+
+module _ (hs ws qs candidate list : List ℕ) where
+  unfoldable pub askAnswer : ℕ → Asked
+  askAnswer budget = ifHeaded hs (ask (headerOf hs) ws qs candidate list budget) (asked.Refused unsound)
+
+  unfoldable pub askList : List ℕ
+  askList = ifHeaded hs (askedBuffer (headerOf hs) ws qs candidate list) list

@@ -8,6 +8,10 @@ use Rattle.calculus.specs.declared.answer.Answer.{Answer}
 use Rattle.calculus.specs.declared.answer.Answer.the-variants.{Done, Refused}
 use Rattle.calculus.specs.Answer.{demand}
 use Rattle.calculus.specs.Refusal.{unsound}
+use Rattle.calculus.specs.declared.truth.Truth.{Truth}
+use Rattle.calculus.specs.declared.truth.Truth.the-variants.{False, Unknown, True}
+use Rattle.answer.specs.declared.asked.Asked.{Asked}
+use Rattle.answer.specs.declared.asked.Asked.the-variants as asked
 use Rattle.instance.specs.declared.header.Header.{Header}
 use Rattle.instance.specs.Header.{maxRelations}
 
@@ -32,3 +36,23 @@ ifHeaded hs new old = cond (eqb (length hs) headerLength) new old
 abbrev pub valueOf : Answer → ℕ → ℕ
 valueOf (Done n) old = n
 valueOf (Refused r) old = old
+
+-- a verdict's number: 0 false, 1 unknown, 2 true
+abbrev pub truthNumber : Truth → ℕ
+truthNumber False = 0
+truthNumber Unknown = 1
+truthNumber True = 2
+
+-- 0 where the question was answered
+abbrev pub askedNumber : Asked → ℕ
+askedNumber (asked.Verdict t looks) = 0
+askedNumber (asked.Refused r) = r
+
+-- the verdict and the looks; what stood there where the question is refused
+abbrev pub verdictOf : Asked → ℕ → ℕ
+verdictOf (asked.Verdict t looks) old = truthNumber t
+verdictOf (asked.Refused r) old = old
+
+abbrev pub looksOf : Asked → ℕ → ℕ
+looksOf (asked.Verdict t looks) old = looks
+looksOf (asked.Refused r) old = old

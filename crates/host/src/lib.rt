@@ -1,18 +1,22 @@
 // The calls for a host in C, on numbers and slices: each answers 0 where it is accepted, else the number of the refusal.
 ghost use mathlib.Core.Path.{_≡_};
 ghost use Rattle.calculus.specs.Answer.{numberOf};
-ghost use Rattle.host.specs.Words.{valueOf};
+ghost use Rattle.host.specs.Words.{valueOf, askedNumber, verdictOf, looksOf};
 ghost use Rattle.host.specs.Calls.{decodeAnswer, decodeHeader, decodeWords};
 ghost use Rattle.host.specs.Calls.{insertAnswer, insertHeader, insertWords};
 ghost use Rattle.host.specs.Calls.{substituteAnswer, substituteWords, countsAnswer, countsWords, encodeAnswer, encodeBytes};
+ghost use Rattle.host.specs.Calls.{askAnswer, askList};
 
 mod words;
 
 use calculus::refusal::UNSOUND;
+use words::asked_number;
+use words::looks;
 use words::number;
 use words::put_header;
 use words::read_header;
 use words::value;
+use words::verdict;
 
 // Reading a card.
 #[no_mangle]
@@ -112,4 +116,30 @@ pub extern "C" fn plotask_encode(
     let written = card::encode::encode(read_header(header), plot, card);
     *count = value(written, *count);
     number(written)
+}
+
+// Asking; truth is 0 for false, 1 for unknown and 2 for true, and cost the looks.
+#[no_mangle]
+pub extern "C" fn plotask_ask(
+    header: &[u32],
+    plot: &[u32],
+    query: &[u32],
+    candidate: &[u32],
+    list: &mut [u32],
+    budget: u32,
+    truth: &mut u32,
+    cost: &mut u32,
+) -> u32
+    ensures number { λ r. ⌜ r ≡ askedNumber (askAnswer (now (header .entry)) (now (plot .entry)) (now (query .entry)) (now (candidate .entry)) (now (list .entry)) budget) ⌝ }
+    ensures list { λ r. ⌜ now (list .exit) ≡ askList (now (header .entry)) (now (plot .entry)) (now (query .entry)) (now (candidate .entry)) (now (list .entry)) ⌝ }
+    ensures truth { λ r. ⌜ now (truth .exit) ≡ verdictOf (askAnswer (now (header .entry)) (now (plot .entry)) (now (query .entry)) (now (candidate .entry)) (now (list .entry)) budget) (now (truth .entry)) ⌝ }
+    ensures cost { λ r. ⌜ now (cost .exit) ≡ looksOf (askAnswer (now (header .entry)) (now (plot .entry)) (now (query .entry)) (now (candidate .entry)) (now (list .entry)) budget) (now (cost .entry)) ⌝ }
+{
+    if header.len() != 10 {
+        return UNSOUND;
+    }
+    let asked = answer::ask::ask(read_header(header), plot, query, candidate, list, budget);
+    *truth = verdict(asked, *truth);
+    *cost = looks(asked, *cost);
+    asked_number(asked)
 }

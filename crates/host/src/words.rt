@@ -2,8 +2,10 @@
 ghost use mathlib.Core.Path.{_≡_};
 ghost use lib.ListN.{length};
 ghost use Rattle.calculus.specs.Answer.{after, numberOf};
-ghost use Rattle.host.specs.Words.{valueOf, headerOf, headerWords};
+ghost use Rattle.host.specs.Words.{valueOf, headerOf, headerWords, truthNumber, askedNumber, verdictOf, looksOf};
+use answer::asked::Asked;
 use calculus::answer::Answer;
+use calculus::truth::Truth;
 use instance::header::Header;
 
 pub fn read_header(words: &[u32]) -> Header
@@ -68,5 +70,42 @@ pub fn value(answer: Answer, old: u32) -> u32
     match answer {
         Answer::Done(n) => n,
         Answer::Refused(_) => old,
+    }
+}
+
+fn truth_number(truth: Truth) -> u32
+    ensures { λ r. ⌜ r ≡ truthNumber truth ⌝ }
+{
+    match truth {
+        Truth::False => 0,
+        Truth::Unknown => 1,
+        Truth::True => 2,
+    }
+}
+
+pub fn asked_number(asked: Asked) -> u32
+    ensures { λ r. ⌜ r ≡ askedNumber asked ⌝ }
+{
+    match asked {
+        Asked::Verdict(_, _) => 0,
+        Asked::Refused(why) => why,
+    }
+}
+
+pub fn verdict(asked: Asked, old: u32) -> u32
+    ensures { λ r. ⌜ r ≡ verdictOf asked old ⌝ }
+{
+    match asked {
+        Asked::Verdict(truth, _) => truth_number(truth),
+        Asked::Refused(_) => old,
+    }
+}
+
+pub fn looks(asked: Asked, old: u32) -> u32
+    ensures { λ r. ⌜ r ≡ looksOf asked old ⌝ }
+{
+    match asked {
+        Asked::Verdict(_, n) => n,
+        Asked::Refused(_) => old,
     }
 }

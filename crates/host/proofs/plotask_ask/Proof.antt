@@ -1,0 +1,68 @@
+-- `host::plotask_ask` meets its contract: a header slice of another length is refused, and any other makes the library's call. Assumes nothing.
+use mathlib.Core.Path.{_≡_, sym, ap, _∙_}
+use Rattle.answer.specs.declared.asked.Asked.{Asked}
+use Rattle.answer.specs.declared.asked.Asked.the-variants.{Refused}
+use Rattle.answer.specs.Ask.{ask, askedBuffer}
+use Rattle.host.specs.Words.{askedNumber, verdictOf, looksOf}
+use Rattle.host.specs.Calls.{askAnswer, askList}
+use Rattle.host.proofs.Headed.{kept-no, left}
+use borrow.Author.Needs.{needs}
+use Rattle.host.proofs.plotask_ask.Statement.{statement}
+use Rattle.host.proofs.plotask_ask.Tie as tie
+
+returns : tie.Need-returns
+unfolding askAnswer askList
+returns c =
+    let args = c .before .before .before .before .before .before .args in
+    let a = sym (kept-no (args .header .now) (c .if1 .taken) _ (Refused 41)) in
+    (ap askedNumber a, (sym (kept-no (args .header .now) (c .if1 .taken) _ _), (ap (λ (x : Asked). verdictOf x (args .truth .now)) a, ap (λ (x : Asked). looksOf x (args .cost .now)) a)))
+
+read-header-requires : tie.Need-read-header-requires
+read-header-requires c κs = search needs
+
+ask-requires : tie.Need-ask-requires
+ask-requires c κs = search needs
+
+verdict-requires : tie.Need-verdict-requires
+verdict-requires c κs = search needs
+
+looks-requires : tie.Need-looks-requires
+looks-requires c κs = search needs
+
+asked-number-requires : tie.Need-asked-number-requires
+asked-number-requires c κs = search needs
+
+same-length : tie.Need-same-length
+same-length c = search needs
+
+returns-2 : tie.Need-returns-2
+unfolding askAnswer askList
+returns-2 c =
+    let args = c .before .before .before .before .before .before .before .before .before .before .before .before .before .before .before .before .args in
+    let hs = args .header .now in
+    let ten = c .before .before .before .before .before .before .before .before .before .before .if1 .left in
+    let is = c .before .before .before .before .before .before .before .before .before .read-header .ensures in
+    let made = c .before .before .before .before .before .before .before .ask .ensures in
+    let a = left hs ten is (λ h. ask h (args .plot .now) (args .query .now) (args .candidate .now) (args .list .now) (args .budget)) (Refused 41) (made .0) in (
+      c .asked-number .ensures ∙ ap askedNumber a,
+      (
+        left hs ten is (λ h. askedBuffer h (args .plot .now) (args .query .now) (args .candidate .now) (args .list .now)) _ (made .1),
+        (
+          c .before .before .before .verdict .ensures ∙ ap (λ (x : Asked). verdictOf x (args .truth .now)) a,
+          c .before .looks .ensures ∙ ap (λ (x : Asked). looksOf x (args .cost .now)) a,
+        ),
+      ),
+    )
+
+pub plotask-ask-spec : {M : Type 1} → statement M
+plotask-ask-spec =
+    tie.close
+    (tie.spec
+    returns
+    read-header-requires
+    ask-requires
+    verdict-requires
+    looks-requires
+    asked-number-requires
+    same-length
+    returns-2)
