@@ -6,4 +6,5 @@ pub mod Digits
 pub mod Lines
 pub mod Shown
 pub mod Answering
+pub mod WholeCase
 pub mod Fits

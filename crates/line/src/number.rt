@@ -3,9 +3,16 @@ ghost use mathlib.Core.Path.{_≡_};
 ghost use mathlib.Core.Bool.{true};
 ghost use mathlib.Core.List.{_++_};
 ghost use Prim.Native.Nat.{_+_, _^_, _≤_, _<_};
-ghost use lib.ListN.{length, drop};
+ghost use lib.ListN.{length, drop, getD};
 ghost use Rattle.card.specs.Parse.{read, isRead};
 ghost use Rattle.line.specs.Number.{readNumber, readNumbers, numbersOf};
+
+fn byte(bytes: &[u8], at: usize) -> u32
+    requires { ⌜ at < length (now bytes) ⌝ }
+    ensures { λ r. ⌜ (r ≡ getD (now (bytes .entry)) at 0) × (r < 256) ⌝ }
+{
+    bytes[at] as u32
+}
 
 // The number in so many bytes from a place on.
 pub fn number(bytes: &[u8], at: usize, width: usize) -> u32
@@ -17,8 +24,7 @@ pub fn number(bytes: &[u8], at: usize, width: usize) -> u32
     let mut number: u32 = 0;
     let mut left = width;
     while 0 < left {
-        let next = at + (width - left);
-        number = number * 256 + bytes[next] as u32;
+        number = number * 256 + byte(bytes, at + (width - left));
         left -= 1;
     }
     number

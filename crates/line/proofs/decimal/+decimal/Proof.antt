@@ -35,7 +35,7 @@ decimal-slice-write-out : (t : ℕ) → decimal-lts.Need-slice-write-out (
   decimal-below t,
   decimal.Post,
 ) (decimal-at t) decimal.Post
-decimal-slice-write-out t c = omega (arith, ap length (digits-one (c .before .before .args .n) (c .if1 .taken)))
+decimal-slice-write-out t c = omega (arith, ap length (digits-one (c .before .before .args .n) (omega arith)))
 
 decimal-same-length :
     (t : ℕ) →
@@ -44,7 +44,7 @@ decimal-same-length t c = simp length-set
 
 decimal-returns :
     (t : ℕ) → decimal-lts.Need-returns (decimal-below t, decimal.Post) (decimal-at t) decimal.Post
-decimal-returns t c = (ap length (sym (digits-one (c .before .before .args .n) (c .if1 .taken))), write-one (c .before .before .args .n) (c .before .before .args .out .now) (c .if1 .taken) (c .before .before .pre .1))
+decimal-returns t c = (ap length (sym (digits-one (c .before .before .args .n) (omega arith))), write-one (c .before .before .args .n) (c .before .before .args .out .now) (omega arith) (c .before .before .pre .1))
 
 decimal-decimal-requires : (t : ℕ) → decimal-lts.Need-decimal-requires (
   decimal-below t,

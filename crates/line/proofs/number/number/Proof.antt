@@ -6,7 +6,7 @@ use native.Mathlib.Nat.{add-zero, sub-zero, sub-self, pow-suc, pow-le-pow-right,
 use native.Mathlib.Omega.{arith}
 use borrow.Author.Needs.{needs}
 use lib.Dec.{lit<}
-use lib.ListN.{drop, getD}
+use lib.ListN.{drop}
 use Rattle.line.specs.Number.{readDigits, readNumber}
 use Rattle.line.proofs.Reading.{digit-more}
 use Rattle.line.proofs.number.number.Statement.{statement}
@@ -21,37 +21,27 @@ Inv-loop bytes at width number₀ left₀ number left =
 abbrev μ-loop : tie.MeasureT-loop
 μ-loop bytes at width number₀ left₀ number left = left
 
--- the number so far has at most three bytes, and the next byte is one
+-- the number so far has at most three bytes
 high : (c : tie.In-loop Inv-loop μ-loop) → c .before .loop .number < 256 ^ 3
 high c = lt-of-lt-of-le (c .before .loop .inv .1) (pow-le-pow-right {n = 256} (lit< tt) {j = 3} (omega arith))
-
-byte : (c : tie.After-shared-slice-known Inv-loop μ-loop) →
-    let start = c .before .before .before in
-    getD (start .args .bytes .now) (start .args .at + (start .args .width - c .before .before .loop .left)) 0 < 256
-byte c =
-    let start = c .before .before .before in
-    omega (arith, c .shared-slice-known .given (start .args .at + (start .args .width - c .before .before .loop .left)))
 
 loop-holds : tie.Need-loop-holds Inv-loop μ-loop
 loop-holds c = (omega arith, rw sub-self (omega arith), rw (sub-self, add-zero))
 
-sub-next : tie.Need-sub-next Inv-loop μ-loop
-sub-next c = search needs
-
-add-next : tie.Need-add-next Inv-loop μ-loop
-add-next c = search needs
-
 mul-number : tie.Need-mul-number Inv-loop μ-loop
 mul-number c = omega (arith, high c)
 
-shared-slice-read-number : tie.Need-shared-slice-read-number Inv-loop μ-loop
-shared-slice-read-number c = search needs
+sub-byte : tie.Need-sub-byte Inv-loop μ-loop
+sub-byte c = search needs
 
-cast-number : tie.Need-cast-number Inv-loop μ-loop
-cast-number c = omega (arith, byte c)
+add-byte : tie.Need-add-byte Inv-loop μ-loop
+add-byte c = search needs
+
+byte-requires : tie.Need-byte-requires Inv-loop μ-loop
+byte-requires c κs = search needs
 
 add-number : tie.Need-add-number Inv-loop μ-loop
-add-number c = omega (arith, high (c .before), byte c)
+add-number c = omega (arith, high (c .before))
 
 sub-left : tie.Need-sub-left Inv-loop μ-loop
 sub-left c = search needs
@@ -62,14 +52,14 @@ loop-less c = search needs
 loop-again : tie.Need-loop-again Inv-loop μ-loop
 loop-again c =
     let l = c .before .before .loop in
-    let start = c .before .before .before in
+    let start = c .before .before .before .before in
     let passed = start .args .width - l .left in
     let one : start .args .width - (l .left - 1) ≡ suc passed = omega arith in
     let next : start .args .at + suc passed ≡ start .args .at + passed + 1 = omega arith in
     let power : 256 ^ suc passed ≡ 256 ^ passed * 256 = pow-suc 256 passed in (
       omega arith,
-      rw one (omega (arith, byte c)),
-      rw (one, next) (l .inv .2 ∙ digit-more (l .number) (l .left - 1) (start .args .bytes .now) (start .args .at + passed) (omega arith) (omega arith)),
+      rw one (omega arith),
+      rw (one, next, c .byte .ensures .0) (l .inv .2 ∙ digit-more (l .number) (l .left - 1) (start .args .bytes .now) (start .args .at + passed) (omega arith) (omega arith)),
     )
 
 returns : tie.Need-returns Inv-loop μ-loop
@@ -86,11 +76,10 @@ number-spec =
     Inv-loop
     μ-loop
     loop-holds
-    sub-next
-    add-next
     mul-number
-    shared-slice-read-number
-    cast-number
+    sub-byte
+    add-byte
+    byte-requires
     add-number
     sub-left
     loop-less

@@ -1,0 +1,34 @@
+-- The whole case of document 01, "The program": its bytes give the line "unknown 4". Assumes nothing.
+use Prim.Native.Nat.{ℕ}
+use mathlib.Core.Path.{_≡_, refl}
+use mathlib.Core.List.{List, [], _∷_}
+use Rattle.calculus.specs.Eval.{eval}
+use Rattle.calculus.specs.Domain.{without, distinct}
+use Rattle.calculus.specs.Closed.{tuples, some, identical, stands, equality}
+use Rattle.calculus.specs.Unify.{unifiesWith}
+use Rattle.calculus.specs.Row.{cellsOf}
+use Rattle.calculus.specs.Cell.{isCell}
+use Rattle.instance.specs.Sound.{sound, rows}
+use Rattle.instance.specs.Header.{aritiesStand, headerStands}
+use Rattle.instance.specs.Rows.{areCells, wordsStand, rowsFrom, wordsOf}
+use Rattle.card.specs.Decode.{accepted, decodedFrom, decoded}
+use Rattle.card.specs.Blanks.{blanksIn, blanks, highestIn, highest, numbered, numberedRows}
+use Rattle.card.specs.Parse.{readByte}
+use Rattle.card.specs.Format.{readArities, readCount, readHead, readField, readFields as readCardFields, readRecord, readRecords, readCard}
+use Rattle.query.specs.Tree.{termOf, termsAt, formulaAt}
+use Rattle.query.specs.Check.{zerosFrom, checkTerms, checkChild, checkNode, checkNodes, checkQuery}
+use Rattle.query.specs.Words.{rightLength, kindOf}
+use Rattle.answer.specs.Within.{within}
+use Rattle.answer.specs.Ask.{askable, ask}
+use Rattle.line.specs.Line.{blank, askedCard, answered, lineOf}
+use Rattle.line.specs.Decimal.{digitsIn}
+use Rattle.line.specs.Text.{lineWith}
+use Rattle.line.specs.Number.{readDigits, readNumbers, readBytes}
+use Rattle.line.specs.Fields.{readFields, readInput}
+
+abbrev pub input : List ℕ
+input = 0 ∷ 12 ∷ 2 ∷ 1 ∷ 1 ∷ 0 ∷ 2 ∷ 0 ∷ 1 ∷ 0 ∷ 0 ∷ 201 ∷ 1 ∷ 0 ∷ 0 ∷ 32 ∷ 0 ∷ 0 ∷ 0 ∷ 4 ∷ 0 ∷ 0 ∷ 0 ∷ 1 ∷ 0 ∷ 0 ∷ 0 ∷ 2 ∷ 0 ∷ 0 ∷ 0 ∷ 0 ∷ 0 ∷ 0 ∷ 0 ∷ 0 ∷ 0 ∷ 0 ∷ 0 ∷ 0 ∷ 0 ∷ 0 ∷ 0 ∷ 0 ∷ 0 ∷ 0 ∷ 0 ∷ 0 ∷ 0 ∷ 0 ∷ 0 ∷ 1 ∷ 0 ∷ 0 ∷ 0 ∷ 0 ∷ 0 ∷ 30 ∷ 132 ∷ 128 ∷ 0 ∷ 0 ∷ 0 ∷ 0 ∷ 0 ∷ 0 ∷ 0 ∷ 0 ∷ 0 ∷ 0 ∷ 0 ∷ 0 ∷ 0 ∷ 0 ∷ 0 ∷ 0 ∷ 0 ∷ 0 ∷ 0 ∷ 0 ∷ 0 ∷ 0 ∷ 0 ∷ 3 ∷ 0 ∷ 0 ∷ 0 ∷ 3 ∷ 0 ∷ 0 ∷ 0 ∷ 0 ∷ 0 ∷ 0 ∷ 0 ∷ 0 ∷ 0 ∷ 0 ∷ 0 ∷ 0 ∷ 0 ∷ 0 ∷ 0 ∷ 0 ∷ 0 ∷ 0 ∷ 0 ∷ 0 ∷ 0 ∷ 0 ∷ 0 ∷ 0 ∷ 0 ∷ 0 ∷ 0 ∷ 1 ∷ 0 ∷ 0 ∷ 0 ∷ 1 ∷ 0 ∷ 30 ∷ 132 ∷ 128 ∷ 0 ∷ 0 ∷ 0 ∷ 0 ∷ 0 ∷ 0 ∷ 0 ∷ 0 ∷ 0 ∷ 0 ∷ 0 ∷ 0 ∷ 0 ∷ 0 ∷ 0 ∷ 0 ∷ 0 ∷ 0 ∷ 0 ∷ 0 ∷ 1 ∷ 0 ∷ 0 ∷ 201 ∷ 0 ∷ 0 ∷ 0 ∷ 100 ∷ []
+
+pub whole-case : lineOf input ≡ 117 ∷ 110 ∷ 107 ∷ 110 ∷ 111 ∷ 119 ∷ 110 ∷ 32 ∷ 52 ∷ 10 ∷ []
+unfolding eval without distinct tuples some identical stands equality unifiesWith cellsOf isCell sound rows aritiesStand headerStands areCells wordsStand rowsFrom wordsOf accepted decodedFrom decoded blanksIn blanks highestIn highest numbered numberedRows readByte readArities readCount readHead readField readCardFields readRecord readRecords readCard termOf termsAt formulaAt zerosFrom checkTerms checkChild checkNode checkNodes checkQuery rightLength kindOf within askable ask blank askedCard answered lineOf digitsIn lineWith readDigits readNumbers readBytes readFields readInput
+whole-case = refl
