@@ -34,7 +34,7 @@ not-a-cell = 16
 abbrev pub nulls-exhausted : ℕ
 nulls-exhausted = 17
 
--- "bytes follow the last row"
+-- "bytes follow the last row, or the program's last field"
 abbrev pub bytes-left-over : ℕ
 bytes-left-over = 18
 
