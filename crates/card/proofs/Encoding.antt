@@ -20,7 +20,7 @@ use Rattle.instance.proofs.Rows.{headed, parts}
 use Rattle.card.specs.Encode.{headBytes, recordsBytes, cardBytes, encoded, encodedBytes}
 use Rattle.instance.specs.Header.{aritiesStand}
 use Rattle.card.proofs.Records.{arity-low}
-use Rattle.card.proofs.Parts.{part-to-end, put-to-end}
+use Rattle.instance.proofs.Parts.{part-to-end, put-to-end}
 use Rattle.card.proofs.RecordSteps.{records-bytes, records-size}
 
 -- no relation has more columns than 6

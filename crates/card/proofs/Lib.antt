@@ -1,7 +1,6 @@
 pub mod Order
 pub mod Fields
 pub mod Records
-pub mod Parts
 pub mod Written
 pub mod WritingRows
 pub mod Measuring

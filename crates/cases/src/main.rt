@@ -5,6 +5,7 @@ mod encoding;
 mod entering;
 mod filling;
 mod limits;
+mod rerunning;
 mod show;
 
 fn main() {
@@ -32,4 +33,7 @@ fn main() {
     asking::refused();
     limits::deepest();
     limits::full();
+    rerunning::settled();
+    rerunning::lists_of_fills();
+    rerunning::refused();
 }

@@ -7,3 +7,4 @@ pub mod Accepted
 pub mod NullLaws
 pub mod Kept
 pub mod Run
+pub mod Parts

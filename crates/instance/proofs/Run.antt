@@ -39,7 +39,7 @@ module _ (h : Header) (start : List ℕ) where
       ap (λ (l : List ℕ). l ++ drop (h .used) ws) (sym (sound-words h ws (g .stands)) ∙ ap wordsOf (g .holds)) ∙
       ap (λ (l : List ℕ). wordsOf (b .rows) ++ l) (g .others)
 
-  follows-answer : (f : Fill) (ws : List ℕ) (b : Model) → Follows h start ws b → substituted h ws (f .mark) (f .cell) ≡ answerOf f b
+  pub follows-answer : (f : Fill) (ws : List ℕ) (b : Model) → Follows h start ws b → substituted h ws (f .mark) (f .cell) ≡ answerOf f b
   unfolding substituted
   follows-answer f ws b g = rw (g .stands, g .holds)
 
@@ -59,7 +59,7 @@ module _ (h : Header) (start : List ℕ) where
       ap (λ (rs : List Row). length (wordsOf rs)) (sym (kept .holds)) ∙ ap length words ∙
       length-take-le (h .used) (substitutedWords h ws m c) (parts h (substitutedWords h ws m c) (kept .stands) .within)
 
-  follows-next : (f : Fill) (ws : List ℕ) (b : Model) → Follows h start ws b → Follows h start (substitutedWords h ws (f .mark) (f .cell)) (next f b)
+  pub follows-next : (f : Fill) (ws : List ℕ) (b : Model) → Follows h start ws b → Follows h start (substitutedWords h ws (f .mark) (f .cell)) (next f b)
   follows-next f ws b g = go (answerOf f b) refl
     where
       go :

@@ -20,7 +20,7 @@ use calculus::refusal::NULL_ABSENT;
 use calculus::refusal::UNSOUND;
 
 // A relation's number is below every null, so the words in use need not be told apart from cells.
-fn replace(words: &mut [u32], mark: u32, cell: u32) -> u32
+pub fn replace(words: &mut [u32], mark: u32, cell: u32) -> u32
     requires { ⌜ (mark ≤ nulls) × (length (now words) ≤ maxWords) ⌝ }
     ensures count { λ r. ⌜ r ≡ countOf (null mark) (now (words .entry)) ⌝ }
     ensures words { λ r. ⌜ now (words .exit) ≡ map (put mark cell) (now (words .entry)) ⌝ }

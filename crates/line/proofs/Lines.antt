@@ -6,7 +6,7 @@ use native.Mathlib.Omega.{arith}
 use borrow.Rule.Slice.PartMut.{putMid}
 use lib.ListN.{length, take, drop, set, length-append}
 use lib.Seq.{drop-drop, drop-append-seam, take-append-seam}
-use Rattle.card.proofs.Parts.{part-to-end, put-to-end}
+use Rattle.instance.proofs.Parts.{part-to-end, put-to-end}
 use Rattle.line.specs.Decimal.{digits}
 use Rattle.line.specs.Text.{lineWith, lineFeed}
 use Rattle.line.proofs.Writing.{length-front, set-behind}

@@ -8,7 +8,7 @@ use borrow.Author.Needs.{needs}
 use lib.ListN.{length, take, drop}
 use Rattle.card.specs.Format.{readRecord}
 use Rattle.card.specs.Measure.{measuredRecord}
-use Rattle.card.proofs.Parts.{part-to-end}
+use Rattle.instance.proofs.Parts.{part-to-end}
 use Rattle.card.proofs.Measuring.{Measuring, Turn, turn, measuring-starts, measuring-refused, measuring-ends}
 use Rattle.card.proofs.measure.measure.Statement.{statement}
 use Rattle.card.proofs.measure.measure.Tie as tie

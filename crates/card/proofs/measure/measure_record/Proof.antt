@@ -7,7 +7,7 @@ use lib.ListN.{length, take, drop}
 use Rattle.instance.specs.Header.{arityOf}
 use Rattle.card.specs.Format.{readRecord}
 use Rattle.card.specs.Measure.{measuredRecord, measuredFields, readWritten}
-use Rattle.card.proofs.Parts.{part-to-end}
+use Rattle.instance.proofs.Parts.{part-to-end}
 use Rattle.card.proofs.Fields.{leading-within, leading-beyond}
 use Rattle.card.proofs.Records.{record-none, record-unknown, record-cut, record-beyond, record-measured, measuredAs, arity-low}
 use borrow.Author.Needs.{needs}

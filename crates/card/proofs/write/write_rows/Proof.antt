@@ -5,7 +5,7 @@ use mathlib.Core.Path.{_≡_, refl, sym, ap, _∙_}
 use native.Mathlib.Omega.{arith}
 use borrow.Author.Needs.{needs}
 use lib.ListN.{length, getD, length-drop}
-use Rattle.card.proofs.Parts.{part-to-end, put-to-end}
+use Rattle.instance.proofs.Parts.{part-to-end, put-to-end}
 use Rattle.card.proofs.WritingRows.{WritingRows, Found, find, rows-start, rows-end}
 use Rattle.card.proofs.write.write_rows.Statement.{statement}
 use Rattle.card.proofs.write.write_rows.Tie as tie

@@ -5,7 +5,7 @@ use mathlib.Core.List.{_++_}
 use native.Mathlib.Omega.{arith}
 use borrow.Rule.Slice.PartMut.{putMid}
 use lib.ListN.{length, drop, length-set, length-append, length-drop}
-use Rattle.card.proofs.Parts.{part-to-end}
+use Rattle.instance.proofs.Parts.{part-to-end}
 use Rattle.line.specs.Decimal.{digits}
 use Rattle.line.proofs.Digits.{digits-ten}
 use Rattle.line.proofs.Writing.{length-front}

@@ -1,0 +1,115 @@
+-- The three ends of a rerun: the answers have no place, run A is refused, or both runs get a verdict. Assumes nothing.
+use Prim.Native.Nat.{ℕ, _≤_, _<_}
+use mathlib.Core.Path.{_≡_, refl, sym, ap, ap₂, subst, _∙_}
+use mathlib.Core.Bool.{true, false}
+use mathlib.Core.List.{List, _++_}
+use native.Mathlib.Omega.{arith}
+use borrow.Author.Tests.{le-leb, lt-leb}
+use lib.ListN.{length, drop, length-append, length-drop}
+use Rattle.calculus.specs.declared.answer.Answer.{Answer}
+use Rattle.calculus.specs.declared.answer.Answer.the-variants as answer
+use Rattle.calculus.specs.declared.truth.Truth.{Truth}
+use Rattle.calculus.specs.Answer.{after}
+use Rattle.calculus.specs.Refusal.{output-too-short}
+use Rattle.calculus.specs.Domain.{domain}
+use Rattle.calculus.specs.Model.{run, answers}
+use Rattle.instance.specs.declared.header.Header.{Header}
+use Rattle.instance.specs.Header.{maxColumns}
+use Rattle.instance.specs.Sound.{sound, rows}
+use Rattle.instance.specs.Run.{filledWords, fillAnswers, modelOf}
+use Rattle.instance.proofs.Run.{ran}
+use Rattle.query.proofs.Passed as passed
+use Rattle.answer.specs.declared.asked.Asked.{Asked}
+use Rattle.answer.specs.declared.asked.Asked.the-variants as asked
+use Rattle.answer.specs.Ask.{askable, ask, askedBuffer}
+use Rattle.answer.specs.Rerun.{Rerun}
+use Rattle.answer.proofs.RerunLaws.{verdict-asked, demand-three}
+use Rattle.rerun.specs.declared.reran.Reran.{Reran}
+use Rattle.rerun.specs.declared.reran.Reran.the-variants.{Verdicts, Refused}
+use Rattle.rerun.specs.Fills.{fillsOf, filledCandidate, stored}
+use Rattle.rerun.specs.Rerun.{bothRuns, secondOf, goesOn, book, bookWords, start, runA, runB, listA, begun, reran, reranWords, reranCandidate, reranAnswers, reranBuffer, Claim}
+use Rattle.rerun.proofs.BookLaws.{candidate-run}
+
+-- an ask leaves no shorter list
+longer : (h : Header) (ws qs candidate buffer : List ℕ) → length buffer ≤ length (askedBuffer h ws qs candidate buffer)
+unfolding askedBuffer
+longer h ws qs candidate buffer = go (askable h ws qs candidate buffer)
+  where
+    go : (a : Answer) → length buffer ≤ length (after a (domain (rows h ws) ++ drop (length (domain (rows h ws))) buffer) buffer)
+    go (answer.Done k) =
+        omega (arith, length-append (domain (rows h ws)) (drop (length (domain (rows h ws))) buffer), length-drop (length (domain (rows h ws))) buffer)
+    go (answer.Refused r) = omega arith
+
+second-both : (t : Truth) (n : ℕ) (b : Asked) → secondOf (bothRuns (asked.Verdict t n) b) ≡ b
+second-both t n (asked.Verdict u k) = refl
+second-both t n (asked.Refused r) = refl
+
+not-refused : {t : Truth} {n r : ℕ} → asked.Refused r ≡ asked.Verdict t n → ⊥
+not-refused e = let z : _≡_ {A = ℕ} 0 1 = cc in omega arith
+
+module _ (h : Header) (ws qs candidate buffer : List ℕ) (budget : ℕ) (fills out : List ℕ) where
+  -- what a call with these arguments answers and leaves
+  abbrev pub Ends : Reran → List ℕ → List ℕ → List ℕ → List ℕ → Type 0
+  Ends r ws′ candidate′ buffer′ out′ =
+      (r ≡ reran h ws qs candidate buffer budget fills out) ×
+      ((ws′ ≡ reranWords h ws qs candidate buffer budget fills out) ×
+      ((candidate′ ≡ reranCandidate h ws qs candidate buffer budget fills out) ×
+      ((buffer′ ≡ reranBuffer h ws qs candidate buffer budget fills out) ×
+      ((out′ ≡ reranAnswers h ws qs candidate buffer budget fills out) × Claim h ws qs candidate buffer budget fills out r))))
+
+  pub no-place : length out < length fills → Ends (Refused output-too-short) ws candidate buffer out
+  unfolding begun reran reranWords reranCandidate reranAnswers reranBuffer
+  no-place l =
+      let e = lt-leb (length fills) (length out) l in
+      (rw e refl, (rw e refl, (rw e refl, (rw e refl, (rw e refl, λ p t n q. absurd (omega arith))))))
+
+  pub refused :
+      length fills ≤ length out → (r : ℕ) → asked.Refused r ≡ ask h ws qs candidate buffer budget →
+      (buffer′ : List ℕ) → buffer′ ≡ askedBuffer h ws qs candidate buffer → Ends (Refused r) ws candidate buffer′ out
+  unfolding begun reran reranWords reranCandidate reranAnswers reranBuffer
+  refused l r e buffer′ is-listed =
+      let p = le-leb (length fills) (length out) l in
+      let q = sym e in
+      (rw (p, q) refl, (rw (p, q) refl, (rw (p, q) refl, (rw (p, q) is-listed, (rw (p, q) refl, λ l′ t n v. absurd (not-refused (e ∙ v)))))))
+
+  -- a question that got a verdict passed its check
+  pub few-cells : (t : Truth) (n : ℕ) → asked.Verdict t n ≡ ask h ws qs candidate buffer budget → length candidate ≤ maxColumns
+  few-cells t n e =
+      let a = verdict-asked h ws qs candidate buffer budget t n (sym e) .0 in
+      passed.few-cells (h .relations) (h .arities) qs candidate (a .scopes) (a .passes)
+
+  -- both runs, with what run A left of the list, and the fills of the rest
+  module _
+      (l : length fills ≤ length out) (t : Truth) (n : ℕ) (e : asked.Verdict t n ≡ ask h ws qs candidate buffer budget)
+      (list ws′ candidate′ buffer′ out′ : List ℕ) (b : Asked) (is-list : list ≡ askedBuffer h ws qs candidate buffer)
+      (is-words : ws′ ≡ filledWords h (fillsOf fills) ws) (is-candidate : candidate′ ≡ filledCandidate h (fillsOf fills) ws candidate)
+      (is-stored : out′ ≡ stored (fillAnswers h (fillsOf fills) ws) out)
+      (is-asked : b ≡ ask h ws′ qs candidate′ list budget) (is-listed : buffer′ ≡ askedBuffer h ws′ qs candidate′ list)
+    where
+      is-sound : sound h ws ≡ true
+      is-sound = verdict-asked h ws qs candidate buffer budget t n (sym e) .0 .stands
+
+      book-words : ws′ ≡ bookWords h ws qs candidate buffer budget fills out
+      book-words = is-words ∙ ran h (fillsOf fills) ws candidate is-sound .words
+
+      book-candidate : candidate′ ≡ run (fillsOf fills) (modelOf h ws candidate) .candidate
+      book-candidate = is-candidate ∙ candidate-run h (fillsOf fills) ws candidate is-sound
+
+      pub verdicts : Ends (bothRuns (asked.Verdict t n) b) ws′ candidate′ buffer′ out′
+      unfolding begun reran reranWords reranCandidate reranAnswers reranBuffer
+      verdicts =
+          let p = le-leb (length fills) (length out) l in
+          let q = sym e in
+          let told : b ≡ runB h ws qs candidate buffer budget fills out = rw (← book-words, ← book-candidate, ← is-list) is-asked in
+          let listed : buffer′ ≡ askedBuffer h (bookWords h ws qs candidate buffer budget fills out) qs (run (fillsOf fills) (modelOf h ws candidate) .candidate) (listA h ws qs candidate buffer budget fills out) = rw (← book-words, ← book-candidate, ← is-list) is-listed in
+          let claimed : (u : Truth) (k : ℕ) → runA h ws qs candidate buffer budget fills out ≡ asked.Verdict u k → Rerun h ws qs candidate (fillsOf fills) u k (secondOf (bothRuns (asked.Verdict t n) b)) =
+          λ u k v.
+          rw (second-both t n b, is-asked, is-words, book-candidate)
+          (demand-three h ws qs candidate buffer budget (fillsOf fills) list budget (rw is-list (longer h ws qs candidate buffer)) (omega arith) u k v)
+          in (
+            rw (p, q) (ap (bothRuns (asked.Verdict t n)) told),
+            (
+              rw (p, q) book-words,
+              (rw (p, q) book-candidate, (rw (p, q) listed, (rw (p, q) (rw (is-stored, ran h (fillsOf fills) ws candidate is-sound .answered) refl), λ l′. claimed))),
+            ),
+          )

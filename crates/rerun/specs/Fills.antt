@@ -1,0 +1,37 @@
+-- The fills of a run as words, what they leave of the candidate, and their answers as words.
+use Prim.Native.Nat.{ℕ}
+use mathlib.Core.List.{List, [], _∷_, _++_, map}
+use lib.ListN.{length, drop}
+use Rattle.calculus.specs.declared.answer.Answer.{Answer}
+use Rattle.calculus.specs.declared.answer.Answer.the-variants.{Done, Refused}
+use Rattle.calculus.specs.Answer.{after}
+use Rattle.calculus.specs.Cell.{put}
+use Rattle.calculus.specs.Model.{Fill}
+use Rattle.instance.specs.declared.header.Header.{Header}
+use Rattle.instance.specs.Substitute.{substituted, substitutedWords}
+
+-- "each one's mark and cell alone": two words for each fill; a last word without its pair is no fill
+unfoldable pub fillsOf : List ℕ → List Fill
+fillsOf [] = []
+fillsOf (m ∷ []) = []
+fillsOf (m ∷ c ∷ ws) = record { mark = m; cell = c } ∷ fillsOf ws
+
+-- the candidate after a list of fills: "each accepted one is made in the candidate too"
+unfoldable pub filledCandidate : Header → List Fill → List ℕ → List ℕ → List ℕ
+filledCandidate h [] ws candidate = candidate
+filledCandidate h (f ∷ fs) ws candidate =
+    filledCandidate h fs (substitutedWords h ws (f .mark) (f .cell))
+    (after (substituted h ws (f .mark) (f .cell)) (map (put (f .mark) (f .cell)) candidate) candidate)
+
+-- what a fill answers, in two words: the refusal's number or 0, and the count or 0
+abbrev pub answerPair : Answer → List ℕ
+answerPair (Done n) = 0 ∷ n ∷ []
+answerPair (Refused r) = r ∷ 0 ∷ []
+
+unfoldable pub answerWords : List Answer → List ℕ
+answerWords [] = []
+answerWords (a ∷ answers) = answerPair a ++ answerWords answers
+
+-- a slice with the answers in front; its other words stay
+abbrev pub stored : List Answer → List ℕ → List ℕ
+stored answers out = answerWords answers ++ drop (length (answerWords answers)) out

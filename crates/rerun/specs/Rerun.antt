@@ -1,0 +1,90 @@
+-- Run A, a list of fills and run B, as one call on lent slices. Document 00, demand 3, and document 01, "Run A and run B".
+use Prim.Native.Nat.{ℕ, _≤_}
+use mathlib.Core.Path.{_≡_}
+use mathlib.Core.Bool.{Bool, cond}
+use mathlib.Core.List.{List, _++_}
+use lib.ListN.{length, drop}
+use lib.Dec.{leb}
+use Rattle.calculus.specs.declared.answer.Answer.{Answer}
+use Rattle.calculus.specs.declared.answer.Answer.the-variants as answer
+use Rattle.calculus.specs.declared.truth.Truth.{Truth}
+use Rattle.calculus.specs.Answer.{demand, after}
+use Rattle.calculus.specs.Refusal.{output-too-short}
+use Rattle.calculus.specs.Model.{Model, run, answers}
+use Rattle.instance.specs.declared.header.Header.{Header}
+use Rattle.instance.specs.Rows.{wordsOf}
+use Rattle.instance.specs.Run.{modelOf}
+use Rattle.answer.specs.declared.asked.Asked.{Asked}
+use Rattle.answer.specs.declared.asked.Asked.the-variants as asked
+use Rattle.answer.specs.Ask.{ask, askedBuffer}
+use Rattle.answer.specs.Rerun.{Rerun}
+use Rattle.rerun.specs.declared.reran.Reran.{Reran}
+use Rattle.rerun.specs.declared.reran.Reran.the-variants.{Verdicts, Refused}
+use Rattle.rerun.specs.Fills.{fillsOf, stored}
+
+-- the verdicts of both runs, or the refusal of the first that is refused
+abbrev pub bothRuns : Asked → Asked → Reran
+bothRuns (asked.Verdict a n) (asked.Verdict b k) = Verdicts a n b k
+bothRuns (asked.Verdict a n) (asked.Refused r) = Refused r
+bothRuns (asked.Refused r) b = Refused r
+
+-- what a rerun's answer says of run B
+abbrev pub secondOf : Reran → Asked
+secondOf (Verdicts a n b k) = asked.Verdict b k
+secondOf (Refused r) = asked.Refused r
+
+-- the fills are made where run A got a verdict
+abbrev pub goesOn : Asked → Answer
+goesOn (asked.Verdict t n) = answer.Done 0
+goesOn (asked.Refused r) = answer.Refused r
+
+module _ (h : Header) (ws qs candidate buffer : List ℕ) (budget : ℕ) (fills out : List ℕ) where
+  -- the model before the fills, and after them
+  abbrev pub start : Model
+  start = modelOf h ws candidate
+
+  abbrev pub book : Model
+  book = run (fillsOf fills) start
+
+  -- "afterwards the words in use are the book's rows, all other words and the head are A's"
+  abbrev pub bookWords : List ℕ
+  bookWords = wordsOf (book .rows) ++ drop (h .used) ws
+
+  -- "B asks with the book's candidate", and with the working list that A left
+  abbrev pub runA : Asked
+  runA = ask h ws qs candidate buffer budget
+
+  abbrev pub listA : List ℕ
+  listA = askedBuffer h ws qs candidate buffer
+
+  abbrev pub runB : Asked
+  runB = ask h bookWords qs (book .candidate) listA budget
+
+  -- the answers' slice is as long as that of the fills
+  abbrev pub hasPlace : Bool
+  hasPlace = leb (length fills) (length out)
+
+  -- 44 before anything is asked, then the refusals of run A
+  unfoldable pub begun : Answer
+  begun = demand hasPlace output-too-short (goesOn runA)
+
+  unfoldable pub reran : Reran
+  reran = cond hasPlace (bothRuns runA runB) (Refused output-too-short)
+
+  -- what is left of the instance's words, the candidate, the answers' slice and the working list
+  unfoldable pub reranWords : List ℕ
+  reranWords = after begun bookWords ws
+
+  unfoldable pub reranCandidate : List ℕ
+  reranCandidate = after begun (book .candidate) candidate
+
+  unfoldable pub reranAnswers : List ℕ
+  reranAnswers = after begun (stored (answers (fillsOf fills) start) out) out
+
+  unfoldable pub reranBuffer : List ℕ
+  reranBuffer = cond hasPlace (after begun (askedBuffer h bookWords qs (book .candidate) listA) listA) buffer
+
+  -- demand 3, of the answer: where A gets a verdict, B is not refused, says at least what A said, costs no more, and is two-valued logic's where
+  -- no null is left
+  abbrev pub Claim : Reran → Type 0
+  Claim r = length fills ≤ length out → (t : Truth) (n : ℕ) → runA ≡ asked.Verdict t n → Rerun h ws qs candidate (fillsOf fills) t n (secondOf r)

@@ -1,0 +1,67 @@
+// The fills of a run, each made in the instance and in the candidate.
+ghost use mathlib.Core.Path.{_≡_};
+ghost use Prim.Native.Nat.{_≤_};
+ghost use mathlib.Core.List.{_++_, map};
+ghost use lib.ListN.{length, drop};
+ghost use Rattle.calculus.specs.Answer.{after};
+ghost use Rattle.calculus.specs.Cell.{put};
+ghost use Rattle.instance.specs.Header.{maxWords};
+ghost use Rattle.instance.specs.Substitute.{substituted, substitutedWords};
+ghost use Rattle.instance.specs.Run.{filledWords, fillAnswers};
+ghost use Rattle.rerun.specs.Fills.{fillsOf, filledCandidate, answerPair, stored};
+use calculus::answer::Answer;
+use instance::header::Header;
+use instance::substitute::replace;
+use instance::substitute::substitute;
+
+// "each accepted one is made in the candidate too"
+fn fill(header: Header, plot: &mut [u32], candidate: &mut [u32], mark: u32, cell: u32) -> Answer
+    requires { ⌜ length (now candidate) ≤ maxWords ⌝ }
+    ensures answer { λ r. ⌜ r ≡ substituted header (now (plot .entry)) mark cell ⌝ }
+    ensures words { λ r. ⌜ now (plot .exit) ≡ substitutedWords header (now (plot .entry)) mark cell ⌝ }
+    ensures candidate { λ r. ⌜ now (candidate .exit) ≡ after (substituted header (now (plot .entry)) mark cell) (map (put mark cell) (now (candidate .entry))) (now (candidate .entry)) ⌝ }
+{
+    let answer = substitute(header, plot, mark, cell);
+    if let Answer::Done(_) = answer {
+        replace(candidate, mark, cell);
+    }
+    answer
+}
+
+// An answer in the first two words of a slice.
+fn store(answers: &mut [u32], answer: Answer)
+    requires { ⌜ 2 ≤ length (now answers) ⌝ }
+    ensures { λ _. ⌜ now (answers .exit) ≡ answerPair answer ++ drop 2 (now (answers .entry)) ⌝ }
+{
+    match answer {
+        Answer::Done(count) => {
+            answers[0] = 0;
+            answers[1] = count;
+        }
+        Answer::Refused(why) => {
+            answers[0] = why;
+            answers[1] = 0;
+        }
+    }
+}
+
+// Fill by fill; each gets instance and candidate as the last one left them.
+pub fn fill_all(
+    header: Header,
+    plot: &mut [u32],
+    candidate: &mut [u32],
+    fills: &[u32],
+    answers: &mut [u32],
+)
+    requires { ⌜ (length (now candidate) ≤ maxWords) × (length (now fills) ≤ length (now answers)) ⌝ }
+    ensures words { λ _. ⌜ now (plot .exit) ≡ filledWords header (fillsOf (now (fills .entry))) (now (plot .entry)) ⌝ }
+    ensures candidate { λ _. ⌜ now (candidate .exit) ≡ filledCandidate header (fillsOf (now (fills .entry))) (now (plot .entry)) (now (candidate .entry)) ⌝ }
+    ensures answers { λ _. ⌜ now (answers .exit) ≡ stored (fillAnswers header (fillsOf (now (fills .entry))) (now (plot .entry))) (now (answers .entry)) ⌝ }
+{
+    let mut i = 0;
+    while i + 1 < fills.len() {
+        let answer = fill(header, plot, candidate, fills[i], fills[i + 1]);
+        store(&mut answers[i..], answer);
+        i += 2;
+    }
+}
