@@ -1,0 +1,178 @@
+/* Times of the library's calls, as ratios to C, and the stack that they need: the tables of docs/BENCHMARKS.md. */
+#include "loops.h"
+#include "stack.h"
+#include "work.h"
+
+#include <stdio.h>
+#include <stdlib.h>
+
+enum { FULL_ROWS = 585, FEW_VALUES = 16, PASSES = 8 };
+
+static void question_row(const char *name, answering *loop, uint32_t expected)
+{
+    work *const works[] = {ask, ask_scanning, ask_hashing, ask_reference};
+    double ns[4];
+
+    by_hand = loop;
+    for (int i = 0; i < 4; i++) {
+        must_do(works[i]);
+        if (truth != expected) {
+            fprintf(stderr, "bench: a verdict of '%s' differs\n", name);
+            exit(1);
+        }
+    }
+    times_of(works, 4, ns);
+    printf("| %s | %.0f |", name, ns[0]);
+    for (int i = 1; i < 4; i++)
+        printf(" %.0f | %.2f |", ns[i], ns[0] / ns[i]);
+    puts("");
+}
+
+static void question_table(void)
+{
+    puts("## Questions\n");
+    puts("| question | library, ns | C, values by scan, ns | ratio | C, values by hash table, ns | ratio | reference, ns | ratio |");
+    puts("|---|---|---|---|---|---|---|---|");
+    make_plot(&now, PLOTASK_COLUMNS, FULL_ROWS, FEW_VALUES);
+    ask_nothing(&now);
+    question_row("no row asked; 16 different values", nothing_by_hand, PLOTASK_TRUE);
+    ask_row(&now, 999000);
+    question_row("one row, no match; 16 different values", row_by_hand, PLOTASK_FALSE);
+    ask_row(&now, 0);
+    question_row("one row, match in the first row; 16 different values", row_by_hand, PLOTASK_TRUE);
+    ask_absent(&now);
+    question_row("for every value one row, no match; 16 different values", absent_by_hand, PLOTASK_TRUE);
+    mark_every_row(&now);
+    ask_nothing(&now);
+    question_row("no row asked; marks in every row, 205 different values", nothing_by_hand, PLOTASK_TRUE);
+    ask_row(&now, 0);
+    question_row("one row, unifies with every row; marks in every row", row_by_hand, PLOTASK_UNKNOWN);
+    make_plot(&now, PLOTASK_COLUMNS, FULL_ROWS, PLOTASK_CELLS);
+    ask_nothing(&now);
+    question_row("no row asked; 3,510 different values", nothing_by_hand, PLOTASK_TRUE);
+    ask_row(&now, 999000);
+    question_row("one row, no match; 3,510 different values", row_by_hand, PLOTASK_FALSE);
+    make_plot(&now, 1, 64, 64);
+    ask_pairs(&now);
+    question_row("two nested quantifiers over 64 rows of one cell; 64 different values", pairs_by_hand, PLOTASK_TRUE);
+}
+
+static void call_row(const char *name, work *library, work *hand, work *reference)
+{
+    work *const works[] = {library, hand, reference};
+    double ns[3];
+
+    for (int i = 0; i < 3; i++)
+        must_do(works[i]);
+    times_of(works, 3, ns);
+    printf("| %s | %.0f | %.0f | %.2f | %.0f | %.2f |\n", name, ns[0], ns[1], ns[0] / ns[1], ns[2], ns[0] / ns[2]);
+}
+
+static void call_table(void)
+{
+    puts("\n## The other calls\n");
+    puts("| call | library, ns | C by hand, ns | ratio | reference, ns | ratio |");
+    puts("|---|---|---|---|---|---|");
+    prepare_calls(FULL_ROWS);
+    call_row("decode, 585 rows", decode, decode_by_hand, decode_reference);
+    call_row("encode, 585 rows", encode, encode_by_hand, encode_reference);
+    call_row("substitute, a mark in 585 cells", fill, fill_by_hand, fill_reference);
+    call_row("null counts, 585 rows", census, census_by_hand, census_reference);
+    prepare_calls(FULL_ROWS - 1);
+    call_row("insert behind 584 rows", enter, enter_by_hand, enter_reference);
+}
+
+static void few_values(uint32_t rows)
+{
+    make_plot(&now, PLOTASK_COLUMNS, rows, FEW_VALUES);
+    ask_row(&now, 999000);
+}
+
+static void many_values(uint32_t rows)
+{
+    make_plot(&now, PLOTASK_COLUMNS, rows, PLOTASK_CELLS);
+    ask_nothing(&now);
+}
+
+/* A quarter, a half, and a full plot with room for one more row. */
+static const uint32_t SHARES[] = {FULL_ROWS / 4, FULL_ROWS / 2, FULL_ROWS - 1};
+
+static void growth_row(const char *name, void (*prepare)(uint32_t rows), work *piece)
+{
+    double ns[3];
+
+    for (int pass = 0; pass < PASSES; pass++)
+        for (int i = 0; i < 3; i++) {
+            double one;
+            prepare(SHARES[i]);
+            must_do(piece);
+            times_of(&piece, 1, &one);
+            ns[i] = pass == 0 || one < ns[i] ? one : ns[i];
+        }
+    printf("| %s | %.0f | %.0f | %.0f | %.1f | %.1f |\n", name, ns[0], ns[1], ns[2], ns[1] / ns[0], ns[2] / ns[0]);
+}
+
+static void growth_table(void)
+{
+    puts("\n## Growth with the words in use\n");
+    puts("| library | 1,022 words, ns | 2,044 words, ns | 4,088 words, ns | 2,044 to 1,022 | 4,088 to 1,022 |");
+    puts("|---|---|---|---|---|---|");
+    growth_row("ask, one row, no match; 16 different values", few_values, ask);
+    growth_row("ask, no row asked; all values different", many_values, ask);
+    growth_row("decode", prepare_calls, decode);
+    growth_row("encode", prepare_calls, encode);
+    growth_row("substitute", prepare_calls, fill);
+    growth_row("null counts", prepare_calls, census);
+    growth_row("insert", prepare_calls, enter);
+}
+
+static void stack_row(const char *name, work *piece)
+{
+    must_do(piece);
+    printf("| %s | %zu |\n", name, stack_of(piece));
+}
+
+static void chain_row(const char *name, uint32_t kind, uint32_t nodes)
+{
+    ask_chain(&now, kind, nodes);
+    stack_row(name, ask);
+}
+
+/* Over a row of one mark, so that each quantifier has one value, and the deepest node has to unify. */
+static void chain_rows(void)
+{
+    make_plot(&now, PLOTASK_COLUMNS, 1, 1);
+    for (uint32_t i = 1; i <= PLOTASK_COLUMNS; i++)
+        now.plot[i] = PLOTASK_MARK(1);
+    chain_row("ask, 2 nodes", PLOTASK_NOT, 2);
+    chain_row("ask, 100 nodes, a chain of not", PLOTASK_NOT, PLOTASK_NODES);
+    chain_row("ask, 100 nodes, a chain of some", PLOTASK_SOME, PLOTASK_NODES);
+    chain_row("ask, 100 nodes, a chain of every", PLOTASK_EVERY, PLOTASK_NODES);
+    ask_and_chain(&now, PLOTASK_NODES / 2 - 1);
+    stack_row("ask, 99 nodes, a chain of and", ask);
+}
+
+static void stack_table(void)
+{
+    puts("\n## Stack\n");
+    puts("| call | stack, bytes |");
+    puts("|---|---|");
+    prepare_calls(FULL_ROWS - 1);
+    stack_row("decode", decode);
+    stack_row("encode", encode);
+    stack_row("insert", enter);
+    stack_row("substitute", fill);
+    stack_row("null counts", census);
+    chain_rows();
+    many_values(FULL_ROWS);
+    stack_row("ask, 1 node; 3,510 different values", ask);
+}
+
+int main(void)
+{
+    question_table();
+    call_table();
+    growth_table();
+    stack_table();
+    return 0;
+}

@@ -1,0 +1,94 @@
+/* A sample cue host: which lamps must be hired? Sheet 0 has the lamps that hang, sheet 1 the lamps in the house's store. */
+#include "plotask.h"
+
+#include <stdio.h>
+
+enum { HUNG = 0, STORE = 1 };
+
+static struct plotask_header header;
+static uint32_t plot[PLOTASK_WORDS];
+static uint32_t list[PLOTASK_CELLS];
+
+/* Two sheets of one column, two rows: lamp 201 hangs; the store has one lamp, whose number nobody has noted, a blank. */
+static const uint8_t card[] = {0x02, 0x01, 0x01, 0x00, 0x02, 0x00, 0x01, 0x00, 0x00, 0xC9, 0x01, 0x00};
+
+/* "The lamp hangs, and it is not in the store"; the lamp is variable 0, the candidate's cell. */
+static const uint32_t to_hire[4][PLOTASK_NODE_WORDS] = {
+    {PLOTASK_AND, 1, 2},
+    {PLOTASK_STANDS, HUNG, PLOTASK_VARIABLE(0)},
+    {PLOTASK_NOT, 3},
+    {PLOTASK_STANDS, STORE, PLOTASK_VARIABLE(0)},
+};
+
+static const char *reason(uint32_t refusal)
+{
+    switch (refusal) {
+    case PLOTASK_NULL_ABSENT:
+        return "the mark stands in no cell";
+    case PLOTASK_BUDGET_SPENT:
+        return "the looks exceed the allowance";
+    case PLOTASK_NO_ROOM:
+        return "the plot is full";
+    default:
+        return "see enum plotask_refusal";
+    }
+}
+
+/* Says why a call was refused, if it was; the plot is then as it was before. */
+static int refused(uint32_t answer)
+{
+    if (answer == PLOTASK_DONE)
+        return 0;
+    printf("refused %u, %s\n", (unsigned)answer, reason(answer));
+    return 1;
+}
+
+static void ask_to_hire(uint32_t lamp, uint32_t allowance)
+{
+    static const char *const names[] = {"false", "unknown", "true"};
+    uint32_t truth, looks;
+
+    printf("hire %u, with %u looks: ", (unsigned)lamp, (unsigned)allowance);
+    uint32_t answer = plotask_ask(PLOTASK_HEADER(&header), plot, PLOTASK_WORDS, &to_hire[0][0], 4 * PLOTASK_NODE_WORDS, &lamp, 1, list,
+                                  PLOTASK_CELLS, allowance, &truth, &looks);
+    if (!refused(answer))
+        printf("%s, %u looks\n", names[truth], (unsigned)looks);
+}
+
+static void fill(uint32_t mark, uint32_t lamp)
+{
+    uint32_t cells;
+
+    printf("mark %u is lamp %u: ", (unsigned)mark, (unsigned)lamp);
+    if (!refused(plotask_substitute(PLOTASK_HEADER(&header), plot, PLOTASK_WORDS, mark, lamp, &cells)))
+        printf("%u cell\n", (unsigned)cells);
+}
+
+int main(void)
+{
+    const uint32_t lamp = 202;
+    uint8_t written[PLOTASK_CARD_BYTES];
+    uint32_t bytes;
+
+    if (refused(plotask_decode(card, sizeof card, PLOTASK_HEADER(&header), plot, PLOTASK_WORDS)))
+        return 1;
+    printf("card read: %u sheets, %u words\n", (unsigned)header.relations, (unsigned)header.used);
+
+    if (refused(plotask_insert(PLOTASK_HEADER(&header), plot, PLOTASK_WORDS, HUNG, &lamp, 1)))
+        return 1;
+    printf("lamp 202 entered: %u words\n", (unsigned)header.used);
+
+    ask_to_hire(201, 100);
+    fill(1, 202);
+    ask_to_hire(201, 100);
+    ask_to_hire(202, 100);
+
+    /* Refusals are answers too: the host goes on. */
+    fill(1, 203);
+    ask_to_hire(201, 4);
+
+    if (refused(plotask_encode(PLOTASK_HEADER(&header), plot, PLOTASK_WORDS, written, sizeof written, &bytes)))
+        return 1;
+    printf("card written: %u bytes\n", (unsigned)bytes);
+    return 0;
+}

@@ -1,0 +1,95 @@
+#include "lent.h"
+
+#include <stdio.h>
+#include <stdlib.h>
+#include <string.h>
+
+enum { GUARD = 64 };
+
+static uint8_t guard_byte(size_t place) { return (uint8_t)(0xa5 ^ place * 29); }
+
+static void *allocate(size_t size)
+{
+    void *memory = malloc(size > 0 ? size : 1);
+    if (memory == NULL) {
+        fputs("out of memory\n", stderr);
+        exit(1);
+    }
+    return memory;
+}
+
+static struct lent lend(const char *name, const void *content, size_t count, size_t unit)
+{
+    size_t size = count * unit;
+    struct lent lent = {name, unit, count, allocate(size), NULL, allocate(size)};
+    uint8_t *guarded = allocate(size + 2 * GUARD);
+    for (size_t i = 0; i < GUARD; i++) {
+        guarded[i] = guard_byte(i);
+        guarded[GUARD + size + i] = guard_byte(i);
+    }
+    lent.library = guarded + GUARD;
+    memcpy(lent.before, content, size);
+    memcpy(lent.library, content, size);
+    memcpy(lent.reference, content, size);
+    return lent;
+}
+
+struct lent lend_words(const char *name, const uint32_t *words, size_t count)
+{
+    return lend(name, words, count, sizeof *words);
+}
+
+struct lent lend_bytes(const char *name, const uint8_t *bytes, size_t count)
+{
+    return lend(name, bytes, count, sizeof *bytes);
+}
+
+bool guards_stand(const struct lent *lent)
+{
+    const uint8_t *start = (const uint8_t *)lent->library - GUARD;
+    const uint8_t *end = (const uint8_t *)lent->library + lent->count * lent->unit;
+    for (size_t i = 0; i < GUARD; i++)
+        if (start[i] != guard_byte(i) || end[i] != guard_byte(i))
+            return false;
+    return true;
+}
+
+bool contents_agree(const struct lent *lent)
+{
+    return memcmp(lent->library, lent->reference, lent->count * lent->unit) == 0;
+}
+
+bool is_untouched(const struct lent *lent)
+{
+    return memcmp(lent->library, lent->before, lent->count * lent->unit) == 0;
+}
+
+static void print_content(const char *title, const struct lent *lent, const void *content)
+{
+    printf("    %s:", title);
+    for (size_t i = 0; i < lent->count; i++) {
+        if (lent->unit == 1)
+            printf(" %02x", ((const uint8_t *)content)[i]);
+        else
+            printf(" %u", (unsigned)((const uint32_t *)content)[i]);
+    }
+    printf("\n");
+}
+
+void print_lent(const struct lent *lent)
+{
+    printf("  %s, %zu of %zu bytes%s\n", lent->name, lent->count, lent->unit,
+           guards_stand(lent) ? "" : ", written outside");
+    print_content("before", lent, lent->before);
+    if (!is_untouched(lent))
+        print_content("library", lent, lent->library);
+    if (!contents_agree(lent))
+        print_content("reference", lent, lent->reference);
+}
+
+void take_back(struct lent *lent)
+{
+    free(lent->before);
+    free((uint8_t *)lent->library - GUARD);
+    free(lent->reference);
+}

@@ -1,0 +1,63 @@
+#include "loops.h"
+#include "baseline.h"
+
+static uint32_t lower(uint32_t a, uint32_t b)
+{
+    return a < b ? a : b;
+}
+
+static uint32_t higher(uint32_t a, uint32_t b)
+{
+    return a > b ? a : b;
+}
+
+static uint32_t not(uint32_t verdict)
+{
+    return PLOTASK_TRUE - verdict;
+}
+
+static uint32_t equal(uint32_t a, uint32_t b)
+{
+    if (a == b)
+        return PLOTASK_TRUE;
+    return a < PLOTASK_CONSTANTS && b < PLOTASK_CONSTANTS ? PLOTASK_FALSE : PLOTASK_UNKNOWN;
+}
+
+uint32_t nothing_by_hand(const uint32_t *values, size_t count)
+{
+    (void)values;
+    (void)count;
+    return PLOTASK_TRUE;
+}
+
+uint32_t row_by_hand(const uint32_t *values, size_t count)
+{
+    (void)values;
+    (void)count;
+    return row_stands(&now.header, now.plot, 0, now.candidate);
+}
+
+uint32_t absent_by_hand(const uint32_t *values, size_t count)
+{
+    uint32_t verdict = PLOTASK_TRUE;
+
+    for (size_t i = 0; i < count && verdict != PLOTASK_FALSE; i++) {
+        uint32_t v = values[i], row[PLOTASK_COLUMNS] = {v, v, v, v, v, v};
+        verdict = lower(verdict, not(row_stands(&now.header, now.plot, 0, row)));
+    }
+    return verdict;
+}
+
+uint32_t pairs_by_hand(const uint32_t *values, size_t count)
+{
+    uint32_t verdict = PLOTASK_TRUE;
+
+    for (size_t i = 0; i < count && verdict != PLOTASK_FALSE; i++)
+        for (size_t j = 0; j < count && verdict != PLOTASK_FALSE; j++) {
+            uint32_t either = equal(values[i], values[j]);
+            if (either != PLOTASK_TRUE)
+                either = higher(either, not(equal(values[i], values[j])));
+            verdict = lower(verdict, either);
+        }
+    return verdict;
+}

@@ -1,0 +1,9 @@
+/* The questions that are timed, as loops in C over the listed values: what sample.h asks as nodes. */
+#ifndef LOOPS_H
+#define LOOPS_H
+
+#include "work.h"
+
+answering nothing_by_hand, row_by_hand, absent_by_hand, pairs_by_hand;
+
+#endif

@@ -1,0 +1,113 @@
+#include "sample.h"
+
+#include <string.h>
+
+void make_plot(struct sample *sample, uint32_t columns, uint32_t rows, uint32_t values)
+{
+    uint32_t at = 0, cell = 0;
+
+    memset(sample, 0, sizeof *sample);
+    for (uint32_t row = 0; row < rows; row++) {
+        sample->plot[at++] = 0;
+        for (uint32_t column = 0; column < columns; column++)
+            sample->plot[at++] = cell++ % values;
+    }
+    sample->header.relations = 1;
+    sample->header.arities[0] = columns;
+    sample->header.used = at;
+}
+
+void mark_every_row(struct sample *sample)
+{
+    uint32_t columns = sample->header.arities[0], row = 0;
+
+    for (uint32_t at = 0; at < sample->header.used; at += 1 + columns, row++) {
+        for (uint32_t column = 0; column < columns; column++)
+            sample->plot[at + 1 + column] = column;
+        sample->plot[at + columns] = PLOTASK_MARK(1 + row % PLOTASK_MARKS);
+    }
+}
+
+void add_node(struct sample *sample, uint32_t kind, uint32_t first, uint32_t second)
+{
+    uint32_t *node = sample->query + sample->query_words;
+
+    memset(node, 0, PLOTASK_NODE_WORDS * sizeof *node);
+    node[0] = kind;
+    node[1] = first;
+    node[2] = second;
+    sample->query_words += PLOTASK_NODE_WORDS;
+}
+
+void add_row_node(struct sample *sample, uint32_t variable, uint32_t step)
+{
+    uint32_t *node = sample->query + sample->query_words;
+
+    add_node(sample, PLOTASK_STANDS, 0, 0);
+    for (uint32_t column = 0; column < sample->header.arities[0]; column++)
+        node[2 + column] = PLOTASK_VARIABLE(variable + column * step);
+}
+
+void ask_nothing(struct sample *sample)
+{
+    sample->query_words = 0;
+    add_node(sample, PLOTASK_EQUAL, 0, 0);
+}
+
+void ask_row(struct sample *sample, uint32_t first)
+{
+    sample->candidate_cells = sample->header.arities[0];
+    for (uint32_t column = 0; column < sample->candidate_cells; column++)
+        sample->candidate[column] = first + column;
+    sample->query_words = 0;
+    add_row_node(sample, 0, 1);
+}
+
+void ask_absent(struct sample *sample)
+{
+    sample->query_words = 0;
+    add_node(sample, PLOTASK_EVERY, 0, 1);
+    add_node(sample, PLOTASK_NOT, 2, 0);
+    add_row_node(sample, 0, 0);
+}
+
+void ask_pairs(struct sample *sample)
+{
+    sample->query_words = 0;
+    add_node(sample, PLOTASK_EVERY, 0, 1);
+    add_node(sample, PLOTASK_EVERY, 1, 2);
+    add_node(sample, PLOTASK_OR, 3, 4);
+    add_node(sample, PLOTASK_EQUAL, PLOTASK_VARIABLE(0), PLOTASK_VARIABLE(1));
+    add_node(sample, PLOTASK_NOT, 5, 0);
+    add_node(sample, PLOTASK_EQUAL, PLOTASK_VARIABLE(0), PLOTASK_VARIABLE(1));
+}
+
+/* A chain's quantifiers bind variable 0; its row is of variable 1, the candidate's. */
+static void start_chain(struct sample *sample)
+{
+    sample->candidate_cells = 2;
+    sample->candidate[0] = sample->candidate[1] = PLOTASK_CONSTANTS - 1;
+    sample->query_words = 0;
+}
+
+void ask_chain(struct sample *sample, uint32_t kind, uint32_t nodes)
+{
+    start_chain(sample);
+    for (uint32_t node = 0; node + 1 < nodes; node++) {
+        if (kind == PLOTASK_NOT)
+            add_node(sample, kind, node + 1, 0);
+        else
+            add_node(sample, kind, 0, node + 1);
+    }
+    add_row_node(sample, 1, 0);
+}
+
+void ask_and_chain(struct sample *sample, uint32_t levels)
+{
+    start_chain(sample);
+    for (uint32_t level = 0; level < levels; level++) {
+        add_node(sample, PLOTASK_AND, 2 * level + 1, 2 * level + 2);
+        add_row_node(sample, 1, 0);
+    }
+    add_row_node(sample, 1, 0);
+}

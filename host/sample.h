@@ -1,0 +1,46 @@
+/* Plots and questions to measure with. */
+#ifndef SAMPLE_H
+#define SAMPLE_H
+
+#include "plotask.h"
+
+struct sample {
+    struct plotask_header header;
+    uint32_t plot[PLOTASK_WORDS];
+    uint32_t query[PLOTASK_QUERY_WORDS];
+    size_t query_words;
+    uint32_t candidate[PLOTASK_CANDIDATE];
+    size_t candidate_cells;
+};
+
+/* One sheet of so many columns and rows. Each cell gets its number, counted through from 0, modulo the number of different values. */
+void make_plot(struct sample *sample, uint32_t columns, uint32_t rows, uint32_t values);
+
+/* Puts the marks 1 to 200, in turn, in the last column of every row, and the columns' own numbers before them. */
+void mark_every_row(struct sample *sample);
+
+/* Appends a node to the question; what is not given is 0. */
+void add_node(struct sample *sample, uint32_t kind, uint32_t first, uint32_t second);
+
+/* Appends "the row stands in sheet 0", its terms the given variable, and in each further column one that is a step above. */
+void add_row_node(struct sample *sample, uint32_t variable, uint32_t step);
+
+/* 0 = 0 */
+void ask_nothing(struct sample *sample);
+
+/* the candidate, first, first + 1 and so on, stands in sheet 0 */
+void ask_row(struct sample *sample, uint32_t first);
+
+/* every v0: not (v0, .., v0) stands in sheet 0 */
+void ask_absent(struct sample *sample);
+
+/* every v0: every v1: v0 = v1 or not v0 = v1 */
+void ask_pairs(struct sample *sample);
+
+/* A chain of so many nodes: one kind above "a row of one value, which is not the plot's, stands in sheet 0". */
+void ask_chain(struct sample *sample, uint32_t kind, uint32_t nodes);
+
+/* A chain of so many "and", each with such a row on its left, and one at the end. */
+void ask_and_chain(struct sample *sample, uint32_t levels);
+
+#endif

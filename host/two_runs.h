@@ -1,0 +1,9 @@
+/* Demand 3 of the mission on one plot: ask, a list of fills, ask again. */
+#ifndef TWO_RUNS_H
+#define TWO_RUNS_H
+
+#include "calls.h"
+
+void try_two_runs(struct random *random, const struct palette *palette, struct any_plot *plot);
+
+#endif
