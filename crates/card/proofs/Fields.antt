@@ -19,7 +19,7 @@ use Rattle.card.specs.Parse.{Parsed, read, refused, andThen, ruled}
 use Rattle.card.specs.Format.{Field, written, blank, fieldAt, readField, readFields}
 use Rattle.card.specs.Blanks.{blanksIn, highestIn, numbered}
 use Rattle.card.specs.Measure.{readWritten, highestOf, measuredFields, writtenOf}
-use Rattle.card.proofs.Bytes.{cell-below}
+use Rattle.calculus.proofs.Cells.{cell-below}
 use Rattle.card.proofs.Order.{never-both, read-first}
 
 -- Fewer leading zeros of 32 bits than the a lowest bits leave: a bit stands above those.

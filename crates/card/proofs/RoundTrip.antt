@@ -18,13 +18,14 @@ use Rattle.instance.specs.Header.{headerStands, maxRelations, maxWords}
 use Rattle.instance.specs.Rows.{areCells, rowsStand, wordsOf, rowsFrom}
 use Rattle.instance.specs.Sound.{sound, rows}
 use Rattle.calculus.proofs.Bools.{both}
+use Rattle.calculus.proofs.Cells.{cell-below}
 use Rattle.instance.proofs.Rows.{row-parts, words-back, stand-rows, parts}
 use Rattle.card.specs.Parse.{read}
 use Rattle.card.specs.Format.{written, Card, readCard}
 use Rattle.card.specs.Blanks.{blanksIn, blanks, highestIn, highest, numbered, numberedRows}
 use Rattle.card.specs.Encode.{recordsBytes, cardBytes, encoded, encodedBytes}
 use Rattle.card.specs.Decode.{accepted, decodedFrom, decoded}
-use Rattle.card.proofs.Bytes.{cell-below, fullRecord, read-records, read-head}
+use Rattle.card.proofs.Bytes.{fullRecord, read-records, read-head}
 
 -- the rows of a card without blanks are those that were written
 no-blank : (cs : List ℕ) → blanksIn (map written cs) ≡ 0

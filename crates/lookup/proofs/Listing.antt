@@ -3,33 +3,25 @@ use Prim.Native.Nat.{ℕ, suc, _+_, _-_, _≤_, _<_}
 use mathlib.Core.Path.{_≡_, refl, sym, ap, subst, _∙_}
 use mathlib.Core.Bool.{Bool, true, false, _||_, cond, false≢true, true≢false}
 use mathlib.Core.List.{List, [], _∷_, _++_, append-nil, append-assoc}
-use native.Mathlib.Numerals.{add-one}
 use native.Mathlib.Omega.{arith}
 use borrow.Author.Tests.{ltb-true, eqb-true, eqb-false, eq-eqb, ne-eqb}
-use lib.ListN.{length, set, take, drop, length-set, take-append-drop}
-use lib.Seq.{take-suc-set, drop-set-lt, drop-drop, length-take-le, take-nil}
+use lib.ListN.{length, take, drop, length-map}
+use lib.Seq.{drop-drop, length-take-le, take-nil}
 use lib.Dec.{eqb}
 use Rattle.calculus.specs.Row.{cellsOf}
 use Rattle.calculus.specs.Domain.{without, distinct}
+use Rattle.calculus.proofs.Cells.{cell-below}
 use Rattle.calculus.proofs.Distinct.{without-skip, without-keep, without-comm, without-again}
 use Rattle.instance.specs.Header.{arityOf}
 use Rattle.instance.specs.Rows.{wordsStand, rowsFrom}
 use Rattle.instance.proofs.Rows.{at-row, at-cell}
 use Rattle.lookup.specs.Listed.{listed}
+use Rattle.lookup.specs.Chains.{linkUnit, valueOf, valuesOf, Added}
 
 -- the values vs, and behind them the new ones of the cells
 unfoldable pub listing : List ℕ → List ℕ → List ℕ
 listing vs [] = vs
 listing vs (c ∷ cs) = listing (cond (listed c vs) vs (vs ++ c ∷ [])) cs
-
-module _ (vs : List ℕ) (c : ℕ) (cs : List ℕ) where
-  listing-skips : listed c vs ≡ true → listing vs (c ∷ cs) ≡ listing vs cs
-  unfolding listing
-  listing-skips e = ap (λ (b : Bool). listing (cond b vs (vs ++ c ∷ [])) cs) e
-
-  listing-puts : listed c vs ≡ false → listing vs (c ∷ cs) ≡ listing (vs ++ c ∷ []) cs
-  unfolding listing
-  listing-puts e = ap (λ (b : Bool). listing (cond b vs (vs ++ c ∷ [])) cs) e
 
 -- a list with every value of vs left out
 unfoldable withoutAll : List ℕ → List ℕ → List ℕ
@@ -118,7 +110,7 @@ pub record Listing (rel : ℕ) (ars all before buffer : List ℕ) (n left : ℕ)
   pub stands : wordsStand rel ars left rest ≡ true
   pub long : length buffer ≡ length before
   pub room : n + length (toCome ars left rest) ≤ length before
-  pub values : listing (take n buffer) (toCome ars left rest) ≡ distinct all
+  pub values : listing (valuesOf n buffer) (toCome ars left rest) ≡ distinct all
   pub kept : drop n buffer ≡ drop n before
 
 pub listing-starts :
@@ -127,14 +119,14 @@ pub listing-starts :
 unfolding toCome
 listing-starts rel ars ws buffer e l = record { stands = e; long = refl; room = omega arith; values = listing-distinct (cellsOf (rowsFrom ars 0 ws)); kept = refl }
 
-module _ (rel : ℕ) (ars all before buffer : List ℕ) (n left w : ℕ) (rest : List ℕ) where
+module _ {rel : ℕ} {ars all before buffer : List ℕ} {n left w : ℕ} {rest : List ℕ} (s : Listing rel ars all before buffer n left (w ∷ rest)) where
   -- a row starts
-  pub listing-relation : left ≡ 0 → Listing rel ars all before buffer n left (w ∷ rest) → w < rel
-  listing-relation e s = ltb-true w rel (at-row rel ars w rest (rw e at (s .stands)) .0)
+  pub listing-relation : left ≡ 0 → w < rel
+  listing-relation e = ltb-true w rel (at-row rel ars w rest (rw e at (s .stands)) .0)
 
-  pub listing-row : left ≡ 0 → Listing rel ars all before buffer n left (w ∷ rest) → Listing rel ars all before buffer n (arityOf ars w) rest
+  pub listing-row : left ≡ 0 → Listing rel ars all before buffer n (arityOf ars w) rest
   unfolding toCome rowsFrom cellsOf
-  listing-row e s = record {
+  listing-row e = record {
     stands = at-row rel ars w rest (rw e at (s .stands)) .1;
     long = s .long;
     room = rw e at (s .room);
@@ -143,49 +135,44 @@ module _ (rel : ℕ) (ars all before buffer : List ℕ) (n left w : ℕ) (rest :
   }
 
   -- a cell
-  pub listing-cell : (left ≡ 0 → ⊥) → Listing rel ars all before buffer n left (w ∷ rest) → Listing rel ars all before buffer n (suc (left - 1)) (w ∷ rest)
-  listing-cell ne s =
+  pub listing-cell : (left ≡ 0 → ⊥) → Listing rel ars all before buffer n (suc (left - 1)) (w ∷ rest)
+  listing-cell ne =
       let e : left ≡ suc (left - 1) = omega arith in
       subst (λ (k : ℕ). Listing rel ars all before buffer n k (w ∷ rest)) e s
 
-module _ (rel : ℕ) (ars all before buffer : List ℕ) (n left w : ℕ) (rest : List ℕ) (s : Listing rel ars all before buffer n (suc left) (w ∷ rest)) where
+module _ {rel : ℕ} {ars all before buffer : List ℕ} {n left w : ℕ} {rest : List ℕ} (s : Listing rel ars all before buffer n (suc left) (w ∷ rest)) where
   pub listing-room : n < length buffer
   unfolding toCome rowsFrom
   listing-room = omega (arith, s .room, s .long)
 
-  -- that is listed already
-  pub listing-old : listed w (take n buffer) ≡ true → Listing rel ars all before buffer n left rest
-  unfolding toCome rowsFrom
-  listing-old e = record {
-    stands = at-cell rel ars left w rest (s .stands) .1;
-    long = s .long;
-    room = omega (arith, s .room);
-    values = sym (listing-skips (take n buffer) w (toCome ars left rest) e) ∙ s .values;
-    kept = s .kept;
-  }
+  pub listing-small : w < linkUnit
+  listing-small = omega (arith, cell-below w (at-cell rel ars left w rest (s .stands) .0))
 
-  -- that is new
-  pub listing-new : listed w (take n buffer) ≡ false → Listing rel ars all before (set buffer n w) (n + 1) left rest
-  unfolding toCome rowsFrom
-  listing-new e =
-      let put : take (n + 1) (set buffer n w) ≡ take n buffer ++ w ∷ [] = rw add-one (take-suc-set buffer n w listing-room) in
+  pub listing-added : {after : List ℕ} {m : ℕ} → Added buffer n w after m → Listing rel ars all before after m left rest
+  unfolding toCome rowsFrom listing
+  listing-added {m = m} a =
+      let least = a .least in
+      let e : n + (m - n) ≡ m = omega arith in
+      let past : (xs : List ℕ) → drop m xs ≡ drop (m - n) (drop n xs) = λ xs. ap (λ (k : ℕ). drop k xs) (sym e) ∙ sym (drop-drop (m - n) n xs) in
       record {
         stands = at-cell rel ars left w rest (s .stands) .1;
-        long = length-set buffer n w ∙ s .long;
-        room = omega (arith, s .room);
-        values = ap (λ (vs : List ℕ). listing vs (toCome ars left rest)) put ∙ sym (listing-puts (take n buffer) w (toCome ars left rest) e) ∙ s .values;
-        kept =
-            drop-set-lt (n + 1) buffer n w (omega arith) ∙
-            sym (drop-drop 1 n buffer) ∙ ap (drop 1) (s .kept) ∙ drop-drop 1 n before;
+        long = a .long ∙ s .long;
+        room = omega (arith, s .room, a .most);
+        values = ap (λ (vs : List ℕ). listing vs (toCome ars left rest)) (a .values) ∙ s .values;
+        kept = a .kept ∙ past buffer ∙ ap (drop (m - n)) (s .kept) ∙ sym (past before);
       }
 
 -- all listed: the values stand first, and the rest of the buffer is as it was
-pub listing-ends :
-    (rel : ℕ) (ars all before buffer : List ℕ) (n left : ℕ) → Listing rel ars all before buffer n left [] →
-    (n ≡ length (distinct all)) × (buffer ≡ distinct all ++ drop (length (distinct all)) before)
-unfolding toCome rowsFrom cellsOf listing
-listing-ends rel ars all before buffer n left s =
-    let v : take n buffer ≡ distinct all = rw take-nil at (s .values) in
-    let l : n ≤ length buffer = omega (arith, s .room, s .long) in
-    let e : n ≡ length (distinct all) = sym (length-take-le n buffer l) ∙ ap length v in
-    (e, sym (take-append-drop n buffer) ∙ rw (v, s .kept, e) refl)
+module _ {rel : ℕ} {ars all before buffer : List ℕ} {n left : ℕ} (s : Listing rel ars all before buffer n left []) where
+  pub listing-fits : n ≤ length buffer
+  listing-fits = omega (arith, s .room, s .long)
+
+  values-all : valuesOf n buffer ≡ distinct all
+  unfolding toCome rowsFrom cellsOf listing
+  values-all = rw take-nil at (s .values)
+
+  pub listing-number : n ≡ length (distinct all)
+  listing-number = sym (length-take-le n buffer listing-fits) ∙ sym (length-map (take n buffer) valueOf) ∙ ap length values-all
+
+  pub listing-ends : valuesOf n buffer ++ drop n buffer ≡ distinct all ++ drop (length (distinct all)) before
+  listing-ends = rw (values-all, s .kept, listing-number) refl

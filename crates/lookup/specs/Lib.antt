@@ -1,4 +1,5 @@
 pub mod Standing
 pub mod Counts
 pub mod Listed
+pub mod Chains
 pub mod Matching

@@ -2,27 +2,13 @@
 ghost use mathlib.Core.Path.{_≡_};
 ghost use Prim.Native.Nat.{_≤_};
 ghost use mathlib.Core.List.{_++_};
-ghost use lib.ListN.{length, take, drop};
+ghost use lib.ListN.{length, drop};
 ghost use Rattle.calculus.specs.Row.{cellsOf};
 ghost use Rattle.calculus.specs.Domain.{domain};
 ghost use Rattle.instance.specs.Rows.{rowsFrom};
 ghost use Rattle.lookup.specs.Standing.{Standing};
-ghost use Rattle.lookup.specs.Listed.{listed};
-
-// Whether a cell is among the first n values of a list.
-fn contains(buffer: &[u32], n: usize, cell: u32) -> bool
-    requires { ⌜ n ≤ length (now buffer) ⌝ }
-    ensures { λ r. ⌜ r ≡ listed cell (take n (now (buffer .entry))) ⌝ }
-{
-    let mut i = 0;
-    while i < n {
-        if buffer[i] == cell {
-            return true;
-        }
-        i += 1;
-    }
-    false
-}
+use super::chain::add_value;
+use super::chain::unlink;
 
 // Lists the values at the start of a buffer, and answers how many they are; the rest of the buffer stays.
 pub fn list_values(words: &[u32], arities: &[u32; 8], relations: u32, buffer: &mut [u32]) -> usize
@@ -31,6 +17,7 @@ pub fn list_values(words: &[u32], arities: &[u32; 8], relations: u32, buffer: &m
     ensures number { λ r. ⌜ r ≡ length (domain (rowsFrom (now (arities .entry)) 0 (now (words .entry)))) ⌝ }
     ensures values { λ r. ⌜ now (buffer .exit) ≡ domain (rowsFrom (now (arities .entry)) 0 (now (words .entry))) ++ drop (length (domain (rowsFrom (now (arities .entry)) 0 (now (words .entry))))) (now (buffer .entry)) ⌝ }
 {
+    let mut heads = [0u16; 1021];
     let mut n = 0;
     let mut left: u32 = 0;
     let mut i = 0;
@@ -39,13 +26,11 @@ pub fn list_values(words: &[u32], arities: &[u32; 8], relations: u32, buffer: &m
         if left == 0 {
             left = arities[w as usize];
         } else {
-            if !contains(buffer, n, w) {
-                buffer[n] = w;
-                n += 1;
-            }
+            n = add_value(buffer, &mut heads, n, w);
             left -= 1;
         }
         i += 1;
     }
+    unlink(&mut buffer[..n]);
     n
 }

@@ -44,7 +44,8 @@ replace-requires : tie.Need-replace-requires
 replace-requires c κs =
     let b = c .before in
     let mark = both (leb 1 (m b)) (leb (m b) nulls) (substitute-accepted (h b) (ws b) (m b) (cell b) _ (accepted b) .mark) in
-    (leb-true _ _ (mark .1), omega arith)
+    let few = leb-true (m b) nulls (mark .1) in
+    (omega arith, omega arith)
 
 enum-told-2 : tie.Need-enum-told-2
 enum-told-2 c = search needs

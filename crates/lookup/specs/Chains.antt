@@ -1,0 +1,56 @@
+-- A list of values while it is being made: a hash table whose chains run through the list. A word of it holds a value and 2^20 times a link: the
+-- place, counted from 1, of the latest value before it in the same bucket, or 0 where there is none. Every cell is below 2^20.
+use Prim.Native.Nat.{ℕ, _+_, _-_, _/_, _%_, _≤_, _<_}
+use mathlib.Core.Path.{_≡_}
+use mathlib.Core.Bool.{cond}
+use mathlib.Core.List.{List, [], _∷_, _++_, map}
+use lib.ListN.{length, getD, take, drop}
+use Rattle.lookup.specs.Listed.{listed}
+
+abbrev pub linkUnit : ℕ
+linkUnit = 1048576
+
+-- a prime, so that values at even steps, as by 512 or by 1,000, spread over the buckets
+abbrev pub buckets : ℕ
+buckets = 1021
+
+abbrev pub bucketOf : ℕ → ℕ
+bucketOf c = c % buckets
+
+abbrev pub valueOf : ℕ → ℕ
+valueOf w = w % linkUnit
+
+abbrev pub linkOf : ℕ → ℕ
+linkOf w = w / linkUnit
+
+-- the values that the first n words hold
+abbrev pub valuesOf : ℕ → List ℕ → List ℕ
+valuesOf n ws = map valueOf (take n ws)
+
+-- the value at place p, where there is one, is in the bucket of c
+abbrev pub InBucket : List ℕ → ℕ → ℕ → Type 0
+InBucket ws c p = 0 < p → bucketOf (valueOf (getD ws (p - 1) 0)) ≡ bucketOf c
+
+-- of the first n values, the chain of c's bucket goes on at place p: where c is among them, it is among the first p
+pub record Chain (ws : List ℕ) (c n p : ℕ) : Type 0 where
+  pub within : p ≤ n
+  pub same : listed c (valuesOf n ws) ≡ listed c (valuesOf p ws)
+  pub bucket : InBucket ws c p
+
+-- from each of the first n words, the chain of its bucket goes on at its link
+abbrev pub Linked : List ℕ → ℕ → Type 0
+Linked ws n = (i c : ℕ) → i < n → bucketOf (valueOf (getD ws i 0)) ≡ bucketOf c → Chain ws c i (linkOf (getD ws i 0))
+
+-- and the chain of each bucket starts at its head
+pub record Chained (heads ws : List ℕ) (n : ℕ) : Type 0 where
+  pub size : length heads ≡ buckets
+  pub links : Linked ws n
+  pub starts : (c : ℕ) → Chain ws c n (getD heads (bucketOf c) 0)
+
+-- the first n values, and then the first m: the cell c is put behind them where it is not among them, and the words behind stay
+pub record Added (before : List ℕ) (n c : ℕ) (after : List ℕ) (m : ℕ) : Type 0 where
+  pub least : n ≤ m
+  pub most : m ≤ n + 1
+  pub long : length after ≡ length before
+  pub values : valuesOf m after ≡ cond (listed c (valuesOf n before)) (valuesOf n before) (valuesOf n before ++ c ∷ [])
+  pub kept : drop m after ≡ drop m before

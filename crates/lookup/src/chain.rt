@@ -1,0 +1,57 @@
+// A list of values while it is being made: a hash table whose chains run through the list. No chain is longer than 980, as so many cells share a
+// remainder.
+ghost use mathlib.Core.Path.{_≡_};
+ghost use Prim.Native.Nat.{_≤_, _<_};
+ghost use mathlib.Core.List.{map};
+ghost use lib.ListN.{length};
+ghost use Rattle.instance.specs.Header.{maxWords};
+ghost use Rattle.lookup.specs.Listed.{listed};
+ghost use Rattle.lookup.specs.Chains.{linkUnit, valueOf, valuesOf, InBucket, Linked, Chained, Added};
+
+// A word is a value and so many times its link: cells are below 2^20, and a link, a place among at most 4,095, fits the other 12 bits.
+const LINK_UNIT: u32 = 1_048_576;
+
+const BUCKETS: u32 = 1021;
+
+// Whether a cell is among the first head values of a list, along the chain of its bucket.
+fn find(list: &[u32], head: usize, cell: u32) -> bool
+    requires { ⌜ (head ≤ length (now list)) × Linked (now list) head × InBucket (now list) cell head ⌝ }
+    ensures { λ r. ⌜ r ≡ listed cell (valuesOf head (now (list .entry))) ⌝ }
+{
+    let mut place = head;
+    while 0 < place {
+        let w = list[place - 1];
+        if w % LINK_UNIT == cell {
+            return true;
+        }
+        place = (w / LINK_UNIT) as usize;
+    }
+    false
+}
+
+// Puts a cell behind the first n values of a list where it is not among them, and answers how many they are then.
+pub fn add_value(list: &mut [u32], heads: &mut [u16; 1021], n: usize, cell: u32) -> usize
+    requires { ⌜ (n < length (now list)) × (n < maxWords) × (cell < linkUnit) × Chained (now heads) (now list) n ⌝ }
+    ensures chained { λ r. ⌜ Chained (now (heads .exit)) (now (list .exit)) r ⌝ }
+    ensures added { λ r. ⌜ Added (now (list .entry)) n cell (now (list .exit)) r ⌝ }
+{
+    let bucket = (cell % BUCKETS) as usize;
+    let head = heads[bucket];
+    if find(list, head as usize, cell) {
+        return n;
+    }
+    list[n] = cell + LINK_UNIT * (head as u32);
+    heads[bucket] = (n + 1) as u16;
+    n + 1
+}
+
+// Takes the links out of a list.
+pub fn unlink(list: &mut [u32])
+    ensures { λ _. ⌜ now (list .exit) ≡ map valueOf (now (list .entry)) ⌝ }
+{
+    let mut i = 0;
+    while i < list.len() {
+        list[i] = list[i] % LINK_UNIT;
+        i += 1;
+    }
+}
