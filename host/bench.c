@@ -24,7 +24,7 @@ static void question_row(const char *name, answering *loop, uint32_t expected)
     times_of(works, 4, ns);
     printf("| %s | %.0f |", name, ns[0]);
     for (int i = 1; i < 4; i++)
-        printf(" %.0f | %.2f |", ns[i], ns[0] / ns[i]);
+        printf(" %.0f | %.3g |", ns[i], ns[0] / ns[i]);
     puts("");
 }
 
@@ -65,7 +65,7 @@ static void call_row(const char *name, work *library, work *hand, work *referenc
     for (int i = 0; i < 3; i++)
         must_do(works[i]);
     times_of(works, 3, ns);
-    printf("| %s | %.0f | %.0f | %.2f | %.0f | %.2f |\n", name, ns[0], ns[1], ns[0] / ns[1], ns[2], ns[0] / ns[2]);
+    printf("| %s | %.0f | %.0f | %.3g | %.0f | %.3g |\n", name, ns[0], ns[1], ns[0] / ns[1], ns[2], ns[0] / ns[2]);
 }
 
 static void call_table(void)

@@ -47,7 +47,7 @@
  *
  * STACK, in bytes below the caller's own frame, as `make bench` measures it (docs/BENCHMARKS.md):
  *
- *   ask            1,744 for a question of 2 nodes, one below the other; 304 more for each level below; 31,536 for 100 nodes in one chain
+ *   ask            3,392 for a question of 2 nodes, one below the other; 304 more for each level below; 33,184 for 100 nodes in one chain
  *   null counts      960
  *   encode           256
  *   insert           240

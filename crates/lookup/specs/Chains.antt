@@ -1,6 +1,6 @@
 -- A list of values while it is being made: a hash table whose chains run through the list. A word of it holds a value and 2^20 times a link: the
 -- place, counted from 1, of the latest value before it in the same bucket, or 0 where there is none. Every cell is below 2^20.
-use Prim.Native.Nat.{ℕ, _+_, _-_, _/_, _%_, _≤_, _<_}
+use Prim.Native.Nat.{ℕ, _+_, _-_, _*_, _/_, _%_, _≤_, _<_}
 use mathlib.Core.Path.{_≡_}
 use mathlib.Core.Bool.{cond}
 use mathlib.Core.List.{List, [], _∷_, _++_, map}
@@ -10,12 +10,12 @@ use Rattle.lookup.specs.Listed.{listed}
 abbrev pub linkUnit : ℕ
 linkUnit = 1048576
 
--- a prime, so that values at even steps, as by 512 or by 1,000, spread over the buckets
 abbrev pub buckets : ℕ
-buckets = 1021
+buckets = 1024
 
+-- the upper 10 of the lower 32 bits of a product, so that values at even steps spread over the buckets
 abbrev pub bucketOf : ℕ → ℕ
-bucketOf c = c % buckets
+bucketOf c = c * 2654435761 % 4294967296 / 4194304
 
 abbrev pub valueOf : ℕ → ℕ
 valueOf w = w % linkUnit

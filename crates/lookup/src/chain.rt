@@ -1,5 +1,4 @@
-// A list of values while it is being made: a hash table whose chains run through the list. No chain is longer than 980, as so many cells share a
-// remainder.
+// A list of values while it is being made: a hash table whose chains run through the list. At most 980 cells share a bucket, so no chain is longer.
 ghost use mathlib.Core.Path.{_≡_};
 ghost use Prim.Native.Nat.{_≤_, _<_};
 ghost use mathlib.Core.List.{map};
@@ -11,7 +10,8 @@ ghost use Rattle.lookup.specs.Chains.{linkUnit, valueOf, valuesOf, InBuc
 // A word is a value and so many times its link: cells are below 2^20, and a link, a place among at most 4,095, fits the other 12 bits.
 const LINK_UNIT: u32 = 1_048_576;
 
-const BUCKETS: u32 = 1021;
+// A cell's bucket is the upper 10 of the lower 32 bits of its product with this number, so that values at even steps spread.
+const SPREAD: u64 = 2_654_435_761;
 
 // Whether a cell is among the first head values of a list, along the chain of its bucket.
 fn find(list: &[u32], head: usize, cell: u32) -> bool
@@ -30,12 +30,12 @@ fn find(list: &[u32], head: usize, cell: u32) -> bool
 }
 
 // Puts a cell behind the first n values of a list where it is not among them, and answers how many they are then.
-pub fn add_value(list: &mut [u32], heads: &mut [u16; 1021], n: usize, cell: u32) -> usize
+pub fn add_value(list: &mut [u32], heads: &mut [u16; 1024], n: usize, cell: u32) -> usize
     requires { ⌜ (n < length (now list)) × (n < maxWords) × (cell < linkUnit) × Chained (now heads) (now list) n ⌝ }
     ensures chained { λ r. ⌜ Chained (now (heads .exit)) (now (list .exit)) r ⌝ }
     ensures added { λ r. ⌜ Added (now (list .entry)) n cell (now (list .exit)) r ⌝ }
 {
-    let bucket = (cell % BUCKETS) as usize;
+    let bucket = ((cell as u64) * SPREAD % 4_294_967_296 / 4_194_304) as usize;
     let head = heads[bucket];
     if find(list, head as usize, cell) {
         return n;

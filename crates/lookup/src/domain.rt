@@ -17,7 +17,7 @@ pub fn list_values(words: &[u32], arities: &[u32; 8], relations: u32, buffer: &m
     ensures number { λ r. ⌜ r ≡ length (domain (rowsFrom (now (arities .entry)) 0 (now (words .entry)))) ⌝ }
     ensures values { λ r. ⌜ now (buffer .exit) ≡ domain (rowsFrom (now (arities .entry)) 0 (now (words .entry))) ++ drop (length (domain (rowsFrom (now (arities .entry)) 0 (now (words .entry))))) (now (buffer .entry)) ⌝ }
 {
-    let mut heads = [0u16; 1021];
+    let mut heads = [0u16; 1024];
     let mut n = 0;
     let mut left: u32 = 0;
     let mut i = 0;

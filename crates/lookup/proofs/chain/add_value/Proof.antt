@@ -27,8 +27,8 @@ module _ (c : tie.Start) where
   start : Chain list cell n (getD heads (bucketOf cell) 0)
   start = c .pre .3 .starts cell
 
-cast-bucket : tie.Need-cast-bucket
-cast-bucket c = search needs
+mul-bucket : tie.Need-mul-bucket
+mul-bucket c = search needs
 
 mul-head : tie.Need-mul-head
 mul-head c = search needs
@@ -97,7 +97,7 @@ pub add-value-spec : {M : Type 1} → statement M
 add-value-spec =
     tie.close
     (tie.spec
-    cast-bucket
+    mul-bucket
     mul-head
     element-copy-out-head
     cast-find
