@@ -41,6 +41,8 @@ static void note_asked(const struct any_plot *plot, const struct asked *asked, s
         note(NO_ROWS_ASKED);
     if (plot->head[9] == MOST_WORDS)
         note(FULL_PLOT_ASKED);
+    if (has_many_values(plot))
+        note(MANY_VALUES_LISTED);
     if (asked->question_length == MOST_NODES * NODE_WORDS)
         note(HUNDRED_NODES);
     if (asked->candidate_length == MOST_COLUMNS)

@@ -10,7 +10,8 @@ enum {
     CARD_ROOM = 327700,  /* bytes: 65,535 rows of one column */
     QUESTION_ROOM = 832, /* words: 101 nodes, and damage behind them */
     CELLS_ROOM = 16,
-    INPUT_ROOM = 80000 /* bytes: more than a pipe holds */
+    INPUT_ROOM = 80000, /* bytes: more than a pipe holds */
+    MANY_VALUES = 2000
 };
 
 struct any_plot {
@@ -65,6 +66,9 @@ void damage_plot(struct random *random, struct any_plot *plot);
 /* How many cells stand in an undamaged plot, and how many values it has; 50 stands for more. */
 size_t count_cells(const struct any_plot *plot);
 size_t count_values(const struct any_plot *plot);
+
+/* Whether MANY_VALUES different cells stand in a sound plot. */
+bool has_many_values(const struct any_plot *plot);
 
 void make_card(struct random *random, const struct palette *palette, struct any_card *card);
 /* As many rows as two bytes can count, far more than a plot can hold. */

@@ -1,6 +1,8 @@
 /* Palettes, plots and candidates. */
 #include "generate.h"
 
+#include <string.h>
+
 struct palette make_palette(struct random *random)
 {
     static const uint32_t edge_values[] = {0, 1, 7, 201, 999998, 999999};
@@ -98,6 +100,16 @@ static uint32_t fitting_sheet(struct random *random, const uint32_t *head, size_
     return MOST_SHEETS;
 }
 
+/* Gives every cell a value of its own, at even steps. */
+static void spread_values(struct random *random, struct any_plot *plot, size_t used)
+{
+    uint32_t step = 1 + below(random, 240);
+    uint32_t value = below(random, 1000);
+    for (size_t at = 0; at < used; at += 1 + plot->head[1 + plot->words[at]])
+        for (size_t column = 1; column <= plot->head[1 + plot->words[at]]; column++, value += step)
+            plot->words[at + column] = value;
+}
+
 void make_plot(struct random *random, const struct palette *palette, struct any_plot *plot)
 {
     static const size_t slacks[] = {0, 0, 1, 5, 7, 50};
@@ -118,6 +130,8 @@ void make_plot(struct random *random, const struct palette *palette, struct any_
         last_row = used;
         used += 1 + width;
     }
+    if (one_in(random, 15))
+        spread_values(random, plot, used);
     plot->head[9] = (uint32_t)used;
     plot->length = used + slacks[below(random, 6)];
     if (one_in(random, 8) && used <= MOST_WORDS)
@@ -158,6 +172,21 @@ size_t count_cells(const struct any_plot *plot)
     for (size_t at = 0; at < plot->head[9]; at += 1 + plot->head[1 + plot->words[at]])
         cells += plot->head[1 + plot->words[at]];
     return cells;
+}
+
+bool has_many_values(const struct any_plot *plot)
+{
+    static bool seen[1000000 + MARKS + 1];
+    size_t count = 0;
+    if (count_cells(plot) < MANY_VALUES)
+        return false;
+    memset(seen, 0, sizeof seen);
+    for (size_t at = 0; at < plot->head[9]; at += 1 + plot->head[1 + plot->words[at]])
+        for (size_t column = 1; column <= plot->head[1 + plot->words[at]]; column++) {
+            count += !seen[plot->words[at + column]];
+            seen[plot->words[at + column]] = true;
+        }
+    return count >= MANY_VALUES;
 }
 
 size_t count_values(const struct any_plot *plot)

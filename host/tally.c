@@ -21,6 +21,7 @@ static const uint32_t possible[CALLS][16] = {
 static const char *const happening_names[HAPPENINGS] = {
     [NO_ROWS_ASKED] = "a plot without rows is asked",
     [FULL_PLOT_ASKED] = "a plot of 4,096 words is asked",
+    [MANY_VALUES_LISTED] = "2,000 different values or more are listed",
     [ROW_ENDS_AT_4096] = "an entered row ends at word 4,096",
     [ROW_OVER_BY_ONE] = "an entered row needs word 4,097",
     [ROW_FITS_SLICE] = "an entered row ends with the slice",

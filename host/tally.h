@@ -13,6 +13,7 @@ enum outcome_code { CODES = 50 };
 enum happening {
     NO_ROWS_ASKED,
     FULL_PLOT_ASKED,
+    MANY_VALUES_LISTED,
     ROW_ENDS_AT_4096,
     ROW_OVER_BY_ONE,
     ROW_FITS_SLICE,

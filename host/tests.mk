@@ -5,7 +5,7 @@
 SANITIZE ?= -g -fsanitize=address,undefined -fno-sanitize-recover=all
 SEED ?= 1
 ROUNDS ?= 6000
-SANITIZED_ROUNDS ?= 1500
+SANITIZED_ROUNDS ?= 2500
 RUNS ?= 1000
 LIMIT ?= timeout 600
 
