@@ -5,6 +5,7 @@ mod encoding;
 mod entering;
 mod filling;
 mod limits;
+mod question;
 mod rerunning;
 mod show;
 
@@ -31,6 +32,7 @@ fn main() {
     asking::whole_rows();
     asking::bound_again();
     asking::refused();
+    asking::refused_nodes();
     limits::deepest();
     limits::full();
     rerunning::settled();

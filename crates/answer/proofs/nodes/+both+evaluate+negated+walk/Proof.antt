@@ -1,3 +1,4 @@
+-- The cycle of evaluation meets its contracts: each function calls another one on the same node, or one on a node below. Assumes nothing.
 use Prim.Native.Nat.{ℕ, _+_, _-_, _*_, _<_}
 use mathlib.Core.Path.{_≡_, refl, sym, ap, _∙_}
 use native.Mathlib.Omega.{arith}
@@ -70,40 +71,26 @@ walk-at t = and 6 walk-kinds.ps (is 6 walk-kinds.ps μ-walk t) walk.Pre
 abbrev walk-below : ℕ → In 6 walk-kinds.ps
 walk-below t = and 6 walk-kinds.ps (falls 6 walk-kinds.ps _<_ μ-walk t) walk.Pre
 
-both-word-requires : (t : ℕ) → both-lts.Need-word-requires (
-  word-reads.Asked,
-  word-reads.Learnt,
-  evaluate-below t,
-  evaluate.Post,
-  settles-reads.Asked,
-  settles-reads.Learnt,
-  join-reads.Asked,
-  join-reads.Learnt,
-) (both-at t) both.Post
+-- what each function takes its callees to promise
+abbrev both-claims : ℕ → both-lts.Claims
+both-claims t = (word-reads.Asked, word-reads.Learnt, evaluate-below t, evaluate.Post, settles-reads.Asked, settles-reads.Learnt, join-reads.Asked, join-reads.Learnt)
+
+abbrev evaluate-claims : ℕ → evaluate-lts.Claims
+evaluate-claims t = (word-reads.Asked, word-reads.Learnt, atom-reads.Asked, atom-reads.Learnt, equality-reads.Asked, equality-reads.Learnt, negated-below t, negated.Post, both-below t, both.Post, walk-below t, walk.Post)
+
+abbrev negated-claims : ℕ → negated-lts.Claims
+negated-claims t = (word-reads.Asked, word-reads.Learnt, evaluate-below t, evaluate.Post, not-reads.Asked, not-reads.Learnt)
+
+abbrev walk-claims : ℕ → walk-lts.Claims
+walk-claims t = (word-reads.Asked, word-reads.Learnt, unit-reads.Asked, unit-reads.Learnt, assign-reads.Asked, assign-reads.Learnt, evaluate-below t, evaluate.Post, join-reads.Asked, join-reads.Learnt, settles-reads.Asked, settles-reads.Learnt)
+
+both-word-requires : (t : ℕ) → both-lts.Need-word-requires (both-claims t) (both-at t) both.Post
 both-word-requires t c κs = (c .before .before .before .pre .1 .0 .known, omega arith)
 
-both-word-requires-2 : (t : ℕ) → both-lts.Need-word-requires-2 (
-  word-reads.Asked,
-  word-reads.Learnt,
-  evaluate-below t,
-  evaluate.Post,
-  settles-reads.Asked,
-  settles-reads.Learnt,
-  join-reads.Asked,
-  join-reads.Learnt,
-) (both-at t) both.Post
+both-word-requires-2 : (t : ℕ) → both-lts.Need-word-requires-2 (both-claims t) (both-at t) both.Post
 both-word-requires-2 t c κs = (c .before .before .before .before .pre .1 .0 .known, omega arith)
 
-both-evaluate-requires : (t : ℕ) → both-lts.Need-evaluate-requires (
-  word-reads.Asked,
-  word-reads.Learnt,
-  evaluate-below t,
-  evaluate.Post,
-  settles-reads.Asked,
-  settles-reads.Learnt,
-  join-reads.Asked,
-  join-reads.Learnt,
-) (both-at t) both.Post
+both-evaluate-requires : (t : ℕ) → both-lts.Need-evaluate-requires (both-claims t) (both-at t) both.Post
 both-evaluate-requires t c κs =
     let start = c .before .before .before .before .before .before in
     let ev = start .pre .1 .0 in
@@ -112,40 +99,13 @@ both-evaluate-requires t c κs =
     rw (c .before .before .word .ensures)
     (omega (arith, down .0 .0, down .0 .1, start .pre .0), record { ready = ev .ready; known = down .0 .1; sixteen = ev .sixteen })
 
-both-enum-known-a : (t : ℕ) → both-lts.Need-enum-known-a (
-  word-reads.Asked,
-  word-reads.Learnt,
-  evaluate-below t,
-  evaluate.Post,
-  settles-reads.Asked,
-  settles-reads.Learnt,
-  join-reads.Asked,
-  join-reads.Learnt,
-) (both-at t) both.Post
+both-enum-known-a : (t : ℕ) → both-lts.Need-enum-known-a (both-claims t) (both-at t) both.Post
 both-enum-known-a t c = search needs
 
-both-enum-told : (t : ℕ) → both-lts.Need-enum-told (
-  word-reads.Asked,
-  word-reads.Learnt,
-  evaluate-below t,
-  evaluate.Post,
-  settles-reads.Asked,
-  settles-reads.Learnt,
-  join-reads.Asked,
-  join-reads.Learnt,
-) (both-at t) both.Post
+both-enum-told : (t : ℕ) → both-lts.Need-enum-told (both-claims t) (both-at t) both.Post
 both-enum-told t c = search needs
 
-both-returns : (t : ℕ) → both-lts.Need-returns (
-  word-reads.Asked,
-  word-reads.Learnt,
-  evaluate-below t,
-  evaluate.Post,
-  settles-reads.Asked,
-  settles-reads.Learnt,
-  join-reads.Asked,
-  join-reads.Learnt,
-) (both-at t) both.Post
+both-returns : (t : ℕ) → both-lts.Need-returns (both-claims t) (both-at t) both.Post
 both-returns t c =
     let start = c .before .before .before .before .before .before .before .before .before in
     let ev = start .pre .1 .0 in
@@ -154,28 +114,10 @@ both-returns t c =
     let child = c .before .before .evaluate .ensures in
     (child .0, both-left-spent _ _ _ _ (ev .known) _ is (down .0 .0) (down .1 .0) _ _ (rw (c .before .before .before .before .before .word .ensures, c .enum-told .given .1) at (child .1)))
 
-both-settles-requires : (t : ℕ) → both-lts.Need-settles-requires (
-  word-reads.Asked,
-  word-reads.Learnt,
-  evaluate-below t,
-  evaluate.Post,
-  settles-reads.Asked,
-  settles-reads.Learnt,
-  join-reads.Asked,
-  join-reads.Learnt,
-) (both-at t) both.Post
+both-settles-requires : (t : ℕ) → both-lts.Need-settles-requires (both-claims t) (both-at t) both.Post
 both-settles-requires t c κs = search needs
 
-both-returns-2 : (t : ℕ) → both-lts.Need-returns-2 (
-  word-reads.Asked,
-  word-reads.Learnt,
-  evaluate-below t,
-  evaluate.Post,
-  settles-reads.Asked,
-  settles-reads.Learnt,
-  join-reads.Asked,
-  join-reads.Learnt,
-) (both-at t) both.Post
+both-returns-2 : (t : ℕ) → both-lts.Need-returns-2 (both-claims t) (both-at t) both.Post
 both-returns-2 t c =
     let start = c .before .before .before .before .before .before .before .before .before .before .before .before in
     let ev = start .pre .1 .0 in
@@ -184,16 +126,7 @@ both-returns-2 t c =
     let child = c .before .before .before .before .before .evaluate .ensures in
     (child .0, both-settled _ _ _ _ (ev .known) _ is (down .0 .0) (down .1 .0) _ _ _ _ (rw (c .before .before .before .before .before .before .before .before .word .ensures, c .before .before .before .a .given .1) at (c .before .before .before .before .before .evaluate .ensures .1)) (sym (c .before .settles .ensures) ∙ c .if1 .taken))
 
-both-sub-evaluate : (t : ℕ) → both-lts.Need-sub-evaluate (
-  word-reads.Asked,
-  word-reads.Learnt,
-  evaluate-below t,
-  evaluate.Post,
-  settles-reads.Asked,
-  settles-reads.Learnt,
-  join-reads.Asked,
-  join-reads.Learnt,
-) (both-at t) both.Post
+both-sub-evaluate : (t : ℕ) → both-lts.Need-sub-evaluate (both-claims t) (both-at t) both.Post
 both-sub-evaluate t c =
     let start = c .before .before .before .before .before .before .before .before .before .before .before .before .before in
     let ev = start .pre .1 .0 in
@@ -201,16 +134,7 @@ both-sub-evaluate t c =
     let down = stands-by _ _ _ _ _ _ _ (joins (junctionOf (start .args .every))) (ev .ready) (ev .known) is in
     both-low _ _ _ _ (ev .known) _ is (down .0 .0) (down .1 .0) _ _ _ _ (rw (c .before .before .before .before .before .before .before .before .before .word .ensures, c .before .before .before .before .a .given .1) at (c .before .before .before .before .before .before .evaluate .ensures .1))
 
-both-evaluate-requires-2 : (t : ℕ) → both-lts.Need-evaluate-requires-2 (
-  word-reads.Asked,
-  word-reads.Learnt,
-  evaluate-below t,
-  evaluate.Post,
-  settles-reads.Asked,
-  settles-reads.Learnt,
-  join-reads.Asked,
-  join-reads.Learnt,
-) (both-at t) both.Post
+both-evaluate-requires-2 : (t : ℕ) → both-lts.Need-evaluate-requires-2 (both-claims t) (both-at t) both.Post
 both-evaluate-requires-2 t c κs =
     let start = c .before .before .before .before .before .before .before .before .before .before .before .before .before in
     let ev = start .pre .1 .0 in
@@ -219,40 +143,13 @@ both-evaluate-requires-2 t c κs =
     rw (c .before .before .before .before .before .before .before .before .word2 .ensures)
     (omega (arith, down .1 .0, down .1 .1, start .pre .0), record { ready = ev .ready; known = down .1 .1; sixteen = ap length (c .before .before .before .before .before .before .evaluate .ensures .0) ∙ ev .sixteen })
 
-both-enum-known-b : (t : ℕ) → both-lts.Need-enum-known-b (
-  word-reads.Asked,
-  word-reads.Learnt,
-  evaluate-below t,
-  evaluate.Post,
-  settles-reads.Asked,
-  settles-reads.Learnt,
-  join-reads.Asked,
-  join-reads.Learnt,
-) (both-at t) both.Post
+both-enum-known-b : (t : ℕ) → both-lts.Need-enum-known-b (both-claims t) (both-at t) both.Post
 both-enum-known-b t c = search needs
 
-both-enum-told-2 : (t : ℕ) → both-lts.Need-enum-told-2 (
-  word-reads.Asked,
-  word-reads.Learnt,
-  evaluate-below t,
-  evaluate.Post,
-  settles-reads.Asked,
-  settles-reads.Learnt,
-  join-reads.Asked,
-  join-reads.Learnt,
-) (both-at t) both.Post
+both-enum-told-2 : (t : ℕ) → both-lts.Need-enum-told-2 (both-claims t) (both-at t) both.Post
 both-enum-told-2 t c = search needs
 
-both-returns-3 : (t : ℕ) → both-lts.Need-returns-3 (
-  word-reads.Asked,
-  word-reads.Learnt,
-  evaluate-below t,
-  evaluate.Post,
-  settles-reads.Asked,
-  settles-reads.Learnt,
-  join-reads.Asked,
-  join-reads.Learnt,
-) (both-at t) both.Post
+both-returns-3 : (t : ℕ) → both-lts.Need-returns-3 (both-claims t) (both-at t) both.Post
 both-returns-3 t c =
     let start = c .before .before .before .before .before .before .before .before .before .before .before .before .before .before .before .before in
     let ev = start .pre .1 .0 in
@@ -263,28 +160,10 @@ both-returns-3 t c =
       both-right-spent _ _ _ _ (ev .known) _ is (down .0 .0) (down .1 .0) _ _ _ _ (rw (c .before .before .before .before .before .before .before .before .before .before .before .before .word .ensures, c .before .before .before .before .before .before .before .a .given .1) at (c .before .before .before .before .before .before .before .before .before .evaluate .ensures .1)) (sym (c .before .before .before .before .before .settles .ensures) ∙ c .before .before .before .before .if1 .left) (rw (c .before .before .before .before .before .before .before .before .before .before .before .word2 .ensures, c .enum-told2 .given .1, c .before .before .before .before .before .before .before .before .before .evaluate .ensures .0) at (c .before .before .evaluate2 .ensures .1)),
     )
 
-both-join-requires : (t : ℕ) → both-lts.Need-join-requires (
-  word-reads.Asked,
-  word-reads.Learnt,
-  evaluate-below t,
-  evaluate.Post,
-  settles-reads.Asked,
-  settles-reads.Learnt,
-  join-reads.Asked,
-  join-reads.Learnt,
-) (both-at t) both.Post
+both-join-requires : (t : ℕ) → both-lts.Need-join-requires (both-claims t) (both-at t) both.Post
 both-join-requires t c κs = search needs
 
-both-add-t22 : (t : ℕ) → both-lts.Need-add-t22 (
-  word-reads.Asked,
-  word-reads.Learnt,
-  evaluate-below t,
-  evaluate.Post,
-  settles-reads.Asked,
-  settles-reads.Learnt,
-  join-reads.Asked,
-  join-reads.Learnt,
-) (both-at t) both.Post
+both-add-t22 : (t : ℕ) → both-lts.Need-add-t22 (both-claims t) (both-at t) both.Post
 both-add-t22 t c =
     let start = c .before .before .before .before .before .before .before .before .before .before .before .before .before .before .before .before .before .before in
     let ev = start .pre .1 .0 in
@@ -292,16 +171,7 @@ both-add-t22 t c =
     let down = stands-by _ _ _ _ _ _ _ (joins (junctionOf (start .args .every))) (ev .ready) (ev .known) is in
     omega (arith, start .fits .budget, right-low _ _ _ _ (down .0 .1) _ _ _ _ (rw (c .before .before .before .before .before .before .before .before .before .before .before .before .before .before .word .ensures, c .before .before .before .before .before .before .before .before .before .a .given .1) at (c .before .before .before .before .before .before .before .before .before .before .before .evaluate .ensures .1)), right-low _ _ _ _ (down .1 .1) _ _ _ _ (rw (c .before .before .before .before .before .before .before .before .before .before .before .before .before .word2 .ensures, c .before .before .b .given .1, c .before .before .before .before .before .before .before .before .before .before .before .evaluate .ensures .0) at (c .before .before .before .before .evaluate2 .ensures .1)))
 
-both-returns-4 : (t : ℕ) → both-lts.Need-returns-4 (
-  word-reads.Asked,
-  word-reads.Learnt,
-  evaluate-below t,
-  evaluate.Post,
-  settles-reads.Asked,
-  settles-reads.Learnt,
-  join-reads.Asked,
-  join-reads.Learnt,
-) (both-at t) both.Post
+both-returns-4 : (t : ℕ) → both-lts.Need-returns-4 (both-claims t) (both-at t) both.Post
 both-returns-4 t c =
     let start = c .before .before .before .before .before .before .before .before .before .before .before .before .before .before .before .before .before .before in
     let ev = start .pre .1 .0 in
@@ -313,291 +183,69 @@ both-returns-4 t c =
           (both-verdict _ _ _ _ (ev .known) _ is (down .0 .0) (down .1 .0) _ _ _ _ (rw (c .before .before .before .before .before .before .before .before .before .before .before .before .before .before .word .ensures, c .before .before .before .before .before .before .before .before .before .a .given .1) at (c .before .before .before .before .before .before .before .before .before .before .before .evaluate .ensures .1)) (sym (c .before .before .before .before .before .before .before .settles .ensures) ∙ c .before .before .before .before .before .before .if1 .left) _ _ (rw (c .before .before .before .before .before .before .before .before .before .before .before .before .before .word2 .ensures, c .before .before .b .given .1, c .before .before .before .before .before .before .before .before .before .before .before .evaluate .ensures .0) at (c .before .before .before .before .evaluate2 .ensures .1))),
     )
 
-evaluate-word-requires : (t : ℕ) → evaluate-lts.Need-word-requires (
-  word-reads.Asked,
-  word-reads.Learnt,
-  atom-reads.Asked,
-  atom-reads.Learnt,
-  equality-reads.Asked,
-  equality-reads.Learnt,
-  negated-below t,
-  negated.Post,
-  both-below t,
-  both.Post,
-  walk-below t,
-  walk.Post,
-) (evaluate-at t) evaluate.Post
+evaluate-word-requires : (t : ℕ) → evaluate-lts.Need-word-requires (evaluate-claims t) (evaluate-at t) evaluate.Post
 evaluate-word-requires t c κs = (c .before .before .before .pre .1 .known, omega arith)
 
-evaluate-atom-requires : (t : ℕ) → evaluate-lts.Need-atom-requires (
-  word-reads.Asked,
-  word-reads.Learnt,
-  atom-reads.Asked,
-  atom-reads.Learnt,
-  equality-reads.Asked,
-  equality-reads.Learnt,
-  negated-below t,
-  negated.Post,
-  both-below t,
-  both.Post,
-  walk-below t,
-  walk.Post,
-) (evaluate-at t) evaluate.Post
+evaluate-atom-requires : (t : ℕ) → evaluate-lts.Need-atom-requires (evaluate-claims t) (evaluate-at t) evaluate.Post
 unfolding kindOf
 evaluate-atom-requires t c κs = (c .before .before .before .before .before .before .pre .1, ap kindOf (sym (c .before .before .word .ensures) ∙ c .before .match .keys1))
 
-evaluate-equality-requires : (t : ℕ) → evaluate-lts.Need-equality-requires (
-  word-reads.Asked,
-  word-reads.Learnt,
-  atom-reads.Asked,
-  atom-reads.Learnt,
-  equality-reads.Asked,
-  equality-reads.Learnt,
-  negated-below t,
-  negated.Post,
-  both-below t,
-  both.Post,
-  walk-below t,
-  walk.Post,
-) (evaluate-at t) evaluate.Post
+evaluate-equality-requires : (t : ℕ) → evaluate-lts.Need-equality-requires (evaluate-claims t) (evaluate-at t) evaluate.Post
 unfolding kindOf
 evaluate-equality-requires t c κs = (c .before .before .before .before .before .before .pre .1, ap kindOf (sym (c .before .before .word .ensures) ∙ c .before .match .keys2))
 
-evaluate-negated-requires : (t : ℕ) → evaluate-lts.Need-negated-requires (
-  word-reads.Asked,
-  word-reads.Learnt,
-  atom-reads.Asked,
-  atom-reads.Learnt,
-  equality-reads.Asked,
-  equality-reads.Learnt,
-  negated-below t,
-  negated.Post,
-  both-below t,
-  both.Post,
-  walk-below t,
-  walk.Post,
-) (evaluate-at t) evaluate.Post
+evaluate-negated-requires : (t : ℕ) → evaluate-lts.Need-negated-requires (evaluate-claims t) (evaluate-at t) evaluate.Post
 unfolding kindOf
 evaluate-negated-requires t c κs = (omega (arith, c .before .before .before .before .before .before .pre .0), (c .before .before .before .before .before .before .pre .1, ap kindOf (sym (c .before .before .word .ensures) ∙ c .before .match .keys3)))
 
-evaluate-both-requires : (t : ℕ) → evaluate-lts.Need-both-requires (
-  word-reads.Asked,
-  word-reads.Learnt,
-  atom-reads.Asked,
-  atom-reads.Learnt,
-  equality-reads.Asked,
-  equality-reads.Learnt,
-  negated-below t,
-  negated.Post,
-  both-below t,
-  both.Post,
-  walk-below t,
-  walk.Post,
-) (evaluate-at t) evaluate.Post
+evaluate-both-requires : (t : ℕ) → evaluate-lts.Need-both-requires (evaluate-claims t) (evaluate-at t) evaluate.Post
 unfolding kindOf
 evaluate-both-requires t c κs = (omega (arith, c .before .before .before .before .before .before .pre .0), (c .before .before .before .before .before .before .pre .1, ap kindOf (sym (c .before .before .word .ensures) ∙ c .before .match .keys4)))
 
-evaluate-both-requires-2 : (t : ℕ) → evaluate-lts.Need-both-requires-2 (
-  word-reads.Asked,
-  word-reads.Learnt,
-  atom-reads.Asked,
-  atom-reads.Learnt,
-  equality-reads.Asked,
-  equality-reads.Learnt,
-  negated-below t,
-  negated.Post,
-  both-below t,
-  both.Post,
-  walk-below t,
-  walk.Post,
-) (evaluate-at t) evaluate.Post
+evaluate-both-requires-2 : (t : ℕ) → evaluate-lts.Need-both-requires-2 (evaluate-claims t) (evaluate-at t) evaluate.Post
 unfolding kindOf
 evaluate-both-requires-2 t c κs = (omega (arith, c .before .before .before .before .before .before .pre .0), (c .before .before .before .before .before .before .pre .1, ap kindOf (sym (c .before .before .word .ensures) ∙ c .before .match .keys5)))
 
-evaluate-walk-requires : (t : ℕ) → evaluate-lts.Need-walk-requires (
-  word-reads.Asked,
-  word-reads.Learnt,
-  atom-reads.Asked,
-  atom-reads.Learnt,
-  equality-reads.Asked,
-  equality-reads.Learnt,
-  negated-below t,
-  negated.Post,
-  both-below t,
-  both.Post,
-  walk-below t,
-  walk.Post,
-) (evaluate-at t) evaluate.Post
+evaluate-walk-requires : (t : ℕ) → evaluate-lts.Need-walk-requires (evaluate-claims t) (evaluate-at t) evaluate.Post
 unfolding kindOf
 evaluate-walk-requires t c κs = (omega (arith, c .before .before .before .before .before .before .pre .0), (c .before .before .before .before .before .before .pre .1, ap kindOf (sym (c .before .before .word .ensures) ∙ c .before .match .keys6)))
 
-evaluate-walk-requires-2 : (t : ℕ) → evaluate-lts.Need-walk-requires-2 (
-  word-reads.Asked,
-  word-reads.Learnt,
-  atom-reads.Asked,
-  atom-reads.Learnt,
-  equality-reads.Asked,
-  equality-reads.Learnt,
-  negated-below t,
-  negated.Post,
-  both-below t,
-  both.Post,
-  walk-below t,
-  walk.Post,
-) (evaluate-at t) evaluate.Post
+evaluate-walk-requires-2 : (t : ℕ) → evaluate-lts.Need-walk-requires-2 (evaluate-claims t) (evaluate-at t) evaluate.Post
 unfolding kindOf
 evaluate-walk-requires-2 t c κs = (omega (arith, c .before .before .before .before .before .before .pre .0), (c .before .before .before .before .before .before .pre .1, ap kindOf (sym (c .before .before .word .ensures) ∙ c .before .match .keys7)))
 
-evaluate-returns : (t : ℕ) → evaluate-lts.Need-returns (
-  word-reads.Asked,
-  word-reads.Learnt,
-  atom-reads.Asked,
-  atom-reads.Learnt,
-  equality-reads.Asked,
-  equality-reads.Learnt,
-  negated-below t,
-  negated.Post,
-  both-below t,
-  both.Post,
-  walk-below t,
-  walk.Post,
-) (evaluate-at t) evaluate.Post
+evaluate-returns : (t : ℕ) → evaluate-lts.Need-returns (evaluate-claims t) (evaluate-at t) evaluate.Post
 evaluate-returns t c = (refl, c .atom .ensures)
 
-evaluate-returns-2 : (t : ℕ) → evaluate-lts.Need-returns-2 (
-  word-reads.Asked,
-  word-reads.Learnt,
-  atom-reads.Asked,
-  atom-reads.Learnt,
-  equality-reads.Asked,
-  equality-reads.Learnt,
-  negated-below t,
-  negated.Post,
-  both-below t,
-  both.Post,
-  walk-below t,
-  walk.Post,
-) (evaluate-at t) evaluate.Post
+evaluate-returns-2 : (t : ℕ) → evaluate-lts.Need-returns-2 (evaluate-claims t) (evaluate-at t) evaluate.Post
 evaluate-returns-2 t c = (refl, c .equality .ensures)
 
-evaluate-returns-3 : (t : ℕ) → evaluate-lts.Need-returns-3 (
-  word-reads.Asked,
-  word-reads.Learnt,
-  atom-reads.Asked,
-  atom-reads.Learnt,
-  equality-reads.Asked,
-  equality-reads.Learnt,
-  negated-below t,
-  negated.Post,
-  both-below t,
-  both.Post,
-  walk-below t,
-  walk.Post,
-) (evaluate-at t) evaluate.Post
+evaluate-returns-3 : (t : ℕ) → evaluate-lts.Need-returns-3 (evaluate-claims t) (evaluate-at t) evaluate.Post
 evaluate-returns-3 t c = c .negated .ensures
 
-evaluate-returns-4 : (t : ℕ) → evaluate-lts.Need-returns-4 (
-  word-reads.Asked,
-  word-reads.Learnt,
-  atom-reads.Asked,
-  atom-reads.Learnt,
-  equality-reads.Asked,
-  equality-reads.Learnt,
-  negated-below t,
-  negated.Post,
-  both-below t,
-  both.Post,
-  walk-below t,
-  walk.Post,
-) (evaluate-at t) evaluate.Post
+evaluate-returns-4 : (t : ℕ) → evaluate-lts.Need-returns-4 (evaluate-claims t) (evaluate-at t) evaluate.Post
 evaluate-returns-4 t c = c .both .ensures
 
-evaluate-returns-5 : (t : ℕ) → evaluate-lts.Need-returns-5 (
-  word-reads.Asked,
-  word-reads.Learnt,
-  atom-reads.Asked,
-  atom-reads.Learnt,
-  equality-reads.Asked,
-  equality-reads.Learnt,
-  negated-below t,
-  negated.Post,
-  both-below t,
-  both.Post,
-  walk-below t,
-  walk.Post,
-) (evaluate-at t) evaluate.Post
+evaluate-returns-5 : (t : ℕ) → evaluate-lts.Need-returns-5 (evaluate-claims t) (evaluate-at t) evaluate.Post
 evaluate-returns-5 t c = c .both2 .ensures
 
-evaluate-returns-6 : (t : ℕ) → evaluate-lts.Need-returns-6 (
-  word-reads.Asked,
-  word-reads.Learnt,
-  atom-reads.Asked,
-  atom-reads.Learnt,
-  equality-reads.Asked,
-  equality-reads.Learnt,
-  negated-below t,
-  negated.Post,
-  both-below t,
-  both.Post,
-  walk-below t,
-  walk.Post,
-) (evaluate-at t) evaluate.Post
+evaluate-returns-6 : (t : ℕ) → evaluate-lts.Need-returns-6 (evaluate-claims t) (evaluate-at t) evaluate.Post
 evaluate-returns-6 t c = c .walk .ensures
 
-evaluate-returns-7 : (t : ℕ) → evaluate-lts.Need-returns-7 (
-  word-reads.Asked,
-  word-reads.Learnt,
-  atom-reads.Asked,
-  atom-reads.Learnt,
-  equality-reads.Asked,
-  equality-reads.Learnt,
-  negated-below t,
-  negated.Post,
-  both-below t,
-  both.Post,
-  walk-below t,
-  walk.Post,
-) (evaluate-at t) evaluate.Post
+evaluate-returns-7 : (t : ℕ) → evaluate-lts.Need-returns-7 (evaluate-claims t) (evaluate-at t) evaluate.Post
 evaluate-returns-7 t c = c .walk2 .ensures
 
-evaluate-returns-8 : (t : ℕ) → evaluate-lts.Need-returns-8 (
-  word-reads.Asked,
-  word-reads.Learnt,
-  atom-reads.Asked,
-  atom-reads.Learnt,
-  equality-reads.Asked,
-  equality-reads.Learnt,
-  negated-below t,
-  negated.Post,
-  both-below t,
-  both.Post,
-  walk-below t,
-  walk.Post,
-) (evaluate-at t) evaluate.Post
+evaluate-returns-8 : (t : ℕ) → evaluate-lts.Need-returns-8 (evaluate-claims t) (evaluate-at t) evaluate.Post
 evaluate-returns-8 t c =
     let start = c .before .before .before .before .before in
     let ev = start .pre .1 in
     let none = ap kindOf (sym (c .before .word .ensures)) ∙ no-other-kind (c .before .word .result) (c .match .rest .0 .0 .0 .0 .0 .0 .1) (c .match .rest .0 .0 .0 .0 .0 .1) (c .match .rest .0 .0 .0 .0 .1) (c .match .rest .0 .0 .0 .1) (c .match .rest .0 .0 .1) (c .match .rest .0 .1) (c .match .rest .1) in
     absurd (stands-by _ _ _ _ _ _ _ noKind (ev .ready) (ev .known) none)
 
-negated-word-requires : (t : ℕ) → negated-lts.Need-word-requires (
-  word-reads.Asked,
-  word-reads.Learnt,
-  evaluate-below t,
-  evaluate.Post,
-  not-reads.Asked,
-  not-reads.Learnt,
-) (negated-at t) negated.Post
+negated-word-requires : (t : ℕ) → negated-lts.Need-word-requires (negated-claims t) (negated-at t) negated.Post
 negated-word-requires t c κs = (c .before .before .before .pre .1 .0 .known, omega arith)
 
-negated-evaluate-requires : (t : ℕ) → negated-lts.Need-evaluate-requires (
-  word-reads.Asked,
-  word-reads.Learnt,
-  evaluate-below t,
-  evaluate.Post,
-  not-reads.Asked,
-  not-reads.Learnt,
-) (negated-at t) negated.Post
+negated-evaluate-requires : (t : ℕ) → negated-lts.Need-evaluate-requires (negated-claims t) (negated-at t) negated.Post
 negated-evaluate-requires t c κs =
     let start = c .before .before .before .before .before in
     let ev = start .pre .1 .0 in
@@ -605,34 +253,13 @@ negated-evaluate-requires t c κs =
     rw (c .before .word .ensures)
     (omega (arith, down .0, down .1, start .pre .0), record { ready = ev .ready; known = down .1; sixteen = ev .sixteen })
 
-negated-enum-known-truth : (t : ℕ) → negated-lts.Need-enum-known-truth (
-  word-reads.Asked,
-  word-reads.Learnt,
-  evaluate-below t,
-  evaluate.Post,
-  not-reads.Asked,
-  not-reads.Learnt,
-) (negated-at t) negated.Post
+negated-enum-known-truth : (t : ℕ) → negated-lts.Need-enum-known-truth (negated-claims t) (negated-at t) negated.Post
 negated-enum-known-truth t c = search needs
 
-negated-enum-told : (t : ℕ) → negated-lts.Need-enum-told (
-  word-reads.Asked,
-  word-reads.Learnt,
-  evaluate-below t,
-  evaluate.Post,
-  not-reads.Asked,
-  not-reads.Learnt,
-) (negated-at t) negated.Post
+negated-enum-told : (t : ℕ) → negated-lts.Need-enum-told (negated-claims t) (negated-at t) negated.Post
 negated-enum-told t c = search needs
 
-negated-returns : (t : ℕ) → negated-lts.Need-returns (
-  word-reads.Asked,
-  word-reads.Learnt,
-  evaluate-below t,
-  evaluate.Post,
-  not-reads.Asked,
-  not-reads.Learnt,
-) (negated-at t) negated.Post
+negated-returns : (t : ℕ) → negated-lts.Need-returns (negated-claims t) (negated-at t) negated.Post
 negated-returns t c =
     let start = c .before .before .before .before .before .before .before .before in
     let ev = start .pre .1 .0 in
@@ -640,24 +267,10 @@ negated-returns t c =
     let child = c .before .before .evaluate .ensures in
     (child .0, negated-spent _ _ _ _ (ev .known) (start .pre .1 .1) (down .0) _ _ (rw (c .before .before .before .before .word .ensures, c .enum-told .given .1) at (child .1)))
 
-negated-not-requires : (t : ℕ) → negated-lts.Need-not-requires (
-  word-reads.Asked,
-  word-reads.Learnt,
-  evaluate-below t,
-  evaluate.Post,
-  not-reads.Asked,
-  not-reads.Learnt,
-) (negated-at t) negated.Post
+negated-not-requires : (t : ℕ) → negated-lts.Need-not-requires (negated-claims t) (negated-at t) negated.Post
 negated-not-requires t c κs = search needs
 
-negated-returns-2 : (t : ℕ) → negated-lts.Need-returns-2 (
-  word-reads.Asked,
-  word-reads.Learnt,
-  evaluate-below t,
-  evaluate.Post,
-  not-reads.Asked,
-  not-reads.Learnt,
-) (negated-at t) negated.Post
+negated-returns-2 : (t : ℕ) → negated-lts.Need-returns-2 (negated-claims t) (negated-at t) negated.Post
 negated-returns-2 t c =
     let start = c .before .before .before .before .before .before .before .before .before .before in
     let ev = start .pre .1 .0 in
@@ -673,52 +286,13 @@ abbrev walk-μ-loop : walk-lts.MeasureT-loop
 walk-μ-loop relations arities words query counts values node every env₀ budget variable child old truth₀ cost₀ i₀ env truth cost i =
     length values - i
 
-walk-word-requires : (t : ℕ) → walk-lts.Need-word-requires (
-  word-reads.Asked,
-  word-reads.Learnt,
-  unit-reads.Asked,
-  unit-reads.Learnt,
-  assign-reads.Asked,
-  assign-reads.Learnt,
-  evaluate-below t,
-  evaluate.Post,
-  join-reads.Asked,
-  join-reads.Learnt,
-  settles-reads.Asked,
-  settles-reads.Learnt,
-) (walk-at t) walk.Post walk-Inv-loop walk-μ-loop
+walk-word-requires : (t : ℕ) → walk-lts.Need-word-requires (walk-claims t) (walk-at t) walk.Post walk-Inv-loop walk-μ-loop
 walk-word-requires t c κs = (c .before .before .before .pre .1 .0 .known, omega arith)
 
-walk-word-requires-2 : (t : ℕ) → walk-lts.Need-word-requires-2 (
-  word-reads.Asked,
-  word-reads.Learnt,
-  unit-reads.Asked,
-  unit-reads.Learnt,
-  assign-reads.Asked,
-  assign-reads.Learnt,
-  evaluate-below t,
-  evaluate.Post,
-  join-reads.Asked,
-  join-reads.Learnt,
-  settles-reads.Asked,
-  settles-reads.Learnt,
-) (walk-at t) walk.Post walk-Inv-loop walk-μ-loop
+walk-word-requires-2 : (t : ℕ) → walk-lts.Need-word-requires-2 (walk-claims t) (walk-at t) walk.Post walk-Inv-loop walk-μ-loop
 walk-word-requires-2 t c κs = (c .before .before .before .before .pre .1 .0 .known, omega arith)
 
-walk-mul-old : (t : ℕ) → walk-lts.Need-mul-old (
-  word-reads.Asked,
-  word-reads.Learnt,
-  unit-reads.Asked,
-  unit-reads.Learnt,
-  assign-reads.Asked,
-  assign-reads.Learnt,
-  evaluate-below t,
-  evaluate.Post,
-  join-reads.Asked,
-  join-reads.Learnt,
-  settles-reads.Asked,
-  settles-reads.Learnt,
-) (walk-at t) walk.Post walk-Inv-loop walk-μ-loop
+walk-mul-old : (t : ℕ) → walk-lts.Need-mul-old (walk-claims t) (walk-at t) walk.Post walk-Inv-loop walk-μ-loop
 walk-mul-old t c =
     let start = c .before .before .before .before .before in
     let ev = start .pre .1 .0 in
@@ -726,20 +300,7 @@ walk-mul-old t c =
     let down = stands-by _ _ _ _ _ _ _ (ranges (junctionOf (start .args .every))) (ev .ready) (ev .known) is in
     omega (arith, c .before .word .ensures, down .0)
 
-walk-element-copy-out-old : (t : ℕ) → walk-lts.Need-element-copy-out-old (
-  word-reads.Asked,
-  word-reads.Learnt,
-  unit-reads.Asked,
-  unit-reads.Learnt,
-  assign-reads.Asked,
-  assign-reads.Learnt,
-  evaluate-below t,
-  evaluate.Post,
-  join-reads.Asked,
-  join-reads.Learnt,
-  settles-reads.Asked,
-  settles-reads.Learnt,
-) (walk-at t) walk.Post walk-Inv-loop walk-μ-loop
+walk-element-copy-out-old : (t : ℕ) → walk-lts.Need-element-copy-out-old (walk-claims t) (walk-at t) walk.Post walk-Inv-loop walk-μ-loop
 walk-element-copy-out-old t c =
     let start = c .before .before .before .before .before in
     let ev = start .pre .1 .0 in
@@ -747,36 +308,10 @@ walk-element-copy-out-old t c =
     let down = stands-by _ _ _ _ _ _ _ (ranges (junctionOf (start .args .every))) (ev .ready) (ev .known) is in
     omega (arith, c .before .word .ensures, down .0)
 
-walk-unit-requires : (t : ℕ) → walk-lts.Need-unit-requires (
-  word-reads.Asked,
-  word-reads.Learnt,
-  unit-reads.Asked,
-  unit-reads.Learnt,
-  assign-reads.Asked,
-  assign-reads.Learnt,
-  evaluate-below t,
-  evaluate.Post,
-  join-reads.Asked,
-  join-reads.Learnt,
-  settles-reads.Asked,
-  settles-reads.Learnt,
-) (walk-at t) walk.Post walk-Inv-loop walk-μ-loop
+walk-unit-requires : (t : ℕ) → walk-lts.Need-unit-requires (walk-claims t) (walk-at t) walk.Post walk-Inv-loop walk-μ-loop
 walk-unit-requires t c κs = search needs
 
-walk-loop-holds : (t : ℕ) → walk-lts.Need-loop-holds (
-  word-reads.Asked,
-  word-reads.Learnt,
-  unit-reads.Asked,
-  unit-reads.Learnt,
-  assign-reads.Asked,
-  assign-reads.Learnt,
-  evaluate-below t,
-  evaluate.Post,
-  join-reads.Asked,
-  join-reads.Learnt,
-  settles-reads.Asked,
-  settles-reads.Learnt,
-) (walk-at t) walk.Post walk-Inv-loop walk-μ-loop
+walk-loop-holds : (t : ℕ) → walk-lts.Need-loop-holds (walk-claims t) (walk-at t) walk.Post walk-Inv-loop walk-μ-loop
 walk-loop-holds t c =
     let start = c .before .before .before .before .before .before .before in
     let ev = start .pre .1 .0 in
@@ -784,52 +319,13 @@ walk-loop-holds t c =
     let down = stands-by _ _ _ _ _ _ _ (ranges (junctionOf (start .args .every))) (ev .ready) (ev .known) is in
     (rw (c .unit .ensures) (walk-starts _ _ _ _ (ev .known) _ is (down .1 .0) _ _ (ev .ready .listed) _), set-getD _ _ 0)
 
-walk-mul-assign : (t : ℕ) → walk-lts.Need-mul-assign (
-  word-reads.Asked,
-  word-reads.Learnt,
-  unit-reads.Asked,
-  unit-reads.Learnt,
-  assign-reads.Asked,
-  assign-reads.Learnt,
-  evaluate-below t,
-  evaluate.Post,
-  join-reads.Asked,
-  join-reads.Learnt,
-  settles-reads.Asked,
-  settles-reads.Learnt,
-) (walk-at t) walk.Post walk-Inv-loop walk-μ-loop
+walk-mul-assign : (t : ℕ) → walk-lts.Need-mul-assign (walk-claims t) (walk-at t) walk.Post walk-Inv-loop walk-μ-loop
 walk-mul-assign t c = omega arith
 
-walk-shared-slice-read-assign : (t : ℕ) → walk-lts.Need-shared-slice-read-assign (
-  word-reads.Asked,
-  word-reads.Learnt,
-  unit-reads.Asked,
-  unit-reads.Learnt,
-  assign-reads.Asked,
-  assign-reads.Learnt,
-  evaluate-below t,
-  evaluate.Post,
-  join-reads.Asked,
-  join-reads.Learnt,
-  settles-reads.Asked,
-  settles-reads.Learnt,
-) (walk-at t) walk.Post walk-Inv-loop walk-μ-loop
+walk-shared-slice-read-assign : (t : ℕ) → walk-lts.Need-shared-slice-read-assign (walk-claims t) (walk-at t) walk.Post walk-Inv-loop walk-μ-loop
 walk-shared-slice-read-assign t c = c .before .before .loop-test .taken
 
-walk-assign-requires : (t : ℕ) → walk-lts.Need-assign-requires (
-  word-reads.Asked,
-  word-reads.Learnt,
-  unit-reads.Asked,
-  unit-reads.Learnt,
-  assign-reads.Asked,
-  assign-reads.Learnt,
-  evaluate-below t,
-  evaluate.Post,
-  join-reads.Asked,
-  join-reads.Learnt,
-  settles-reads.Asked,
-  settles-reads.Learnt,
-) (walk-at t) walk.Post walk-Inv-loop walk-μ-loop
+walk-assign-requires : (t : ℕ) → walk-lts.Need-assign-requires (walk-claims t) (walk-at t) walk.Post walk-Inv-loop walk-μ-loop
 walk-assign-requires t c κs =
     let start = c .before .before .before .before .before .before .before .before .before .before .before in
     let ev = start .pre .1 .0 in
@@ -837,36 +333,10 @@ walk-assign-requires t c κs =
     let down = stands-by _ _ _ _ _ _ _ (ranges (junctionOf (start .args .every))) (ev .ready) (ev .known) is in
     (omega (arith, c .before .before .before .before .before .before .before .word .ensures, down .0), sym (length-set (c .before .before .before .loop .env) _ _) ∙ ap length (c .before .before .before .loop .inv .1) ∙ ev .sixteen)
 
-walk-sub-evaluate : (t : ℕ) → walk-lts.Need-sub-evaluate (
-  word-reads.Asked,
-  word-reads.Learnt,
-  unit-reads.Asked,
-  unit-reads.Learnt,
-  assign-reads.Asked,
-  assign-reads.Learnt,
-  evaluate-below t,
-  evaluate.Post,
-  join-reads.Asked,
-  join-reads.Learnt,
-  settles-reads.Asked,
-  settles-reads.Learnt,
-) (walk-at t) walk.Post walk-Inv-loop walk-μ-loop
+walk-sub-evaluate : (t : ℕ) → walk-lts.Need-sub-evaluate (walk-claims t) (walk-at t) walk.Post walk-Inv-loop walk-μ-loop
 walk-sub-evaluate t c = c .before .before .before .before .before .loop .inv .0 .low
 
-walk-evaluate-requires : (t : ℕ) → walk-lts.Need-evaluate-requires (
-  word-reads.Asked,
-  word-reads.Learnt,
-  unit-reads.Asked,
-  unit-reads.Learnt,
-  assign-reads.Asked,
-  assign-reads.Learnt,
-  evaluate-below t,
-  evaluate.Post,
-  join-reads.Asked,
-  join-reads.Learnt,
-  settles-reads.Asked,
-  settles-reads.Learnt,
-) (walk-at t) walk.Post walk-Inv-loop walk-μ-loop
+walk-evaluate-requires : (t : ℕ) → walk-lts.Need-evaluate-requires (walk-claims t) (walk-at t) walk.Post walk-Inv-loop walk-μ-loop
 walk-evaluate-requires t c κs =
     let start = c .before .before .before .before .before .before .before .before .before .before .before .before .before in
     let ev = start .pre .1 .0 in
@@ -877,90 +347,25 @@ walk-evaluate-requires t c κs =
     (omega (arith, down .1 .0, down .1 .1, start .pre .0), record { ready = ev .ready; known = down .1 .1; sixteen = long })
 
 -- the assignment at which the child is asked
-walk-here : (t : ℕ) (c : walk-lts.After-evaluate (
-  word-reads.Asked,
-  word-reads.Learnt,
-  unit-reads.Asked,
-  unit-reads.Learnt,
-  assign-reads.Asked,
-  assign-reads.Learnt,
-  evaluate-below t,
-  evaluate.Post,
-  join-reads.Asked,
-  join-reads.Learnt,
-  settles-reads.Asked,
-  settles-reads.Learnt,
-) (walk-at t) walk.Post walk-Inv-loop walk-μ-loop) → c .before .before .assign .last .0 ≡ set (c .before .before .before .before .before .before .before .before .before .before .before .before .before .before .args .env .now) (wordAt (c .before .before .before .before .before .before .before .before .before .before .before .before .before .before .args .query .now) (c .before .before .before .before .before .before .before .before .before .before .before .before .before .before .args .node) 1) (getD (c .before .before .before .before .before .before .before .before .before .before .before .before .before .before .args .values .now) (c .before .before .before .before .before .before .loop .i) 0)
+walk-here : (t : ℕ) (c : walk-lts.After-evaluate (walk-claims t) (walk-at t) walk.Post walk-Inv-loop walk-μ-loop) → c .before .before .assign .last .0 ≡ set (c .before .before .before .before .before .before .before .before .before .before .before .before .before .before .args .env .now) (wordAt (c .before .before .before .before .before .before .before .before .before .before .before .before .before .before .args .query .now) (c .before .before .before .before .before .before .before .before .before .before .before .before .before .before .args .node) 1) (getD (c .before .before .before .before .before .before .before .before .before .before .before .before .before .before .args .values .now) (c .before .before .before .before .before .before .loop .i) 0)
 walk-here t c =
     c .before .before .assign .ensures ∙ set-again _ (c .before .before .before .before .before .before .loop .env) _ _ _ (c .before .before .before .before .before .before .loop .inv .1) ∙
     ap (λ (v : ℕ). set (c .before .before .before .before .before .before .before .before .before .before .before .before .before .before .args .env .now) v (getD (c .before .before .before .before .before .before .before .before .before .before .before .before .before .before .args .values .now) (c .before .before .before .before .before .before .loop .i) 0)) (c .before .before .before .before .before .before .before .before .before .before .word .ensures)
 
 -- putting the old cell back restores the assignment
-walk-back : (t : ℕ) (c : walk-lts.After-evaluate (
-  word-reads.Asked,
-  word-reads.Learnt,
-  unit-reads.Asked,
-  unit-reads.Learnt,
-  assign-reads.Asked,
-  assign-reads.Learnt,
-  evaluate-below t,
-  evaluate.Post,
-  join-reads.Asked,
-  join-reads.Learnt,
-  settles-reads.Asked,
-  settles-reads.Learnt,
-) (walk-at t) walk.Post walk-Inv-loop walk-μ-loop) → set (c .evaluate .last .1 .1 .1 .1 .1 .1 .1 .0) (c .before .before .before .before .before .before .before .before .before .before .word .result) (getD (c .before .before .before .before .before .before .before .before .before .before .before .before .before .before .args .env .now) (c .before .before .before .before .before .before .before .before .before .before .word .result) 0) ≡ c .before .before .before .before .before .before .before .before .before .before .before .before .before .before .args .env .now
+walk-back : (t : ℕ) (c : walk-lts.After-evaluate (walk-claims t) (walk-at t) walk.Post walk-Inv-loop walk-μ-loop) → set (c .evaluate .last .1 .1 .1 .1 .1 .1 .1 .0) (c .before .before .before .before .before .before .before .before .before .before .word .result) (getD (c .before .before .before .before .before .before .before .before .before .before .before .before .before .before .args .env .now) (c .before .before .before .before .before .before .before .before .before .before .word .result) 0) ≡ c .before .before .before .before .before .before .before .before .before .before .before .before .before .before .args .env .now
 walk-back t c =
     ap (λ (l : List ℕ). set l (c .before .before .before .before .before .before .before .before .before .before .word .result) (getD (c .before .before .before .before .before .before .before .before .before .before .before .before .before .before .args .env .now) (c .before .before .before .before .before .before .before .before .before .before .word .result) 0))
     (c .evaluate .ensures .0 ∙ c .before .before .assign .ensures ∙ set-again _ (c .before .before .before .before .before .before .loop .env) _ _ _ (c .before .before .before .before .before .before .loop .inv .1)) ∙
     set-back _ (c .before .before .before .before .before .before .loop .env) _ _ _ (c .before .before .before .before .before .before .loop .inv .1) refl
 
-walk-enum-known-one : (t : ℕ) → walk-lts.Need-enum-known-one (
-  word-reads.Asked,
-  word-reads.Learnt,
-  unit-reads.Asked,
-  unit-reads.Learnt,
-  assign-reads.Asked,
-  assign-reads.Learnt,
-  evaluate-below t,
-  evaluate.Post,
-  join-reads.Asked,
-  join-reads.Learnt,
-  settles-reads.Asked,
-  settles-reads.Learnt,
-) (walk-at t) walk.Post walk-Inv-loop walk-μ-loop
+walk-enum-known-one : (t : ℕ) → walk-lts.Need-enum-known-one (walk-claims t) (walk-at t) walk.Post walk-Inv-loop walk-μ-loop
 walk-enum-known-one t c = search needs
 
-walk-enum-told : (t : ℕ) → walk-lts.Need-enum-told (
-  word-reads.Asked,
-  word-reads.Learnt,
-  unit-reads.Asked,
-  unit-reads.Learnt,
-  assign-reads.Asked,
-  assign-reads.Learnt,
-  evaluate-below t,
-  evaluate.Post,
-  join-reads.Asked,
-  join-reads.Learnt,
-  settles-reads.Asked,
-  settles-reads.Learnt,
-) (walk-at t) walk.Post walk-Inv-loop walk-μ-loop
+walk-enum-told : (t : ℕ) → walk-lts.Need-enum-told (walk-claims t) (walk-at t) walk.Post walk-Inv-loop walk-μ-loop
 walk-enum-told t c = search needs
 
-walk-assign-requires-2 : (t : ℕ) → walk-lts.Need-assign-requires-2 (
-  word-reads.Asked,
-  word-reads.Learnt,
-  unit-reads.Asked,
-  unit-reads.Learnt,
-  assign-reads.Asked,
-  assign-reads.Learnt,
-  evaluate-below t,
-  evaluate.Post,
-  join-reads.Asked,
-  join-reads.Learnt,
-  settles-reads.Asked,
-  settles-reads.Learnt,
-) (walk-at t) walk.Post walk-Inv-loop walk-μ-loop
+walk-assign-requires-2 : (t : ℕ) → walk-lts.Need-assign-requires-2 (walk-claims t) (walk-at t) walk.Post walk-Inv-loop walk-μ-loop
 walk-assign-requires-2 t c κs =
     let start = c .before .before .before .before .before .before .before .before .before .before .before .before .before .before .before .before .before in
     let ev = start .pre .1 .0 in
@@ -970,20 +375,7 @@ walk-assign-requires-2 t c κs =
       ap length (c .before .before .before .evaluate .ensures .0 ∙ walk-here t (c .before .before .before)) ∙ length-set (start .args .env .now) _ _ ∙ ev .sixteen,
     )
 
-walk-returns : (t : ℕ) → walk-lts.Need-returns (
-  word-reads.Asked,
-  word-reads.Learnt,
-  unit-reads.Asked,
-  unit-reads.Learnt,
-  assign-reads.Asked,
-  assign-reads.Learnt,
-  evaluate-below t,
-  evaluate.Post,
-  join-reads.Asked,
-  join-reads.Learnt,
-  settles-reads.Asked,
-  settles-reads.Learnt,
-) (walk-at t) walk.Post walk-Inv-loop walk-μ-loop
+walk-returns : (t : ℕ) → walk-lts.Need-returns (walk-claims t) (walk-at t) walk.Post walk-Inv-loop walk-μ-loop
 walk-returns t c =
     let start = c .before .before .before .before .before .before .before .before .before .before .before .before .before .before .before .before .before .before in
     let ev = start .pre .1 .0 in
@@ -993,20 +385,7 @@ walk-returns t c =
       walk-spent _ _ _ _ (ev .known) _ is (down .1 .0) _ _ (ev .ready .listed) _ _ _ _ (c .before .before .before .before .before .before .before .before .before .before .loop .inv .0) (c .before .before .before .before .before .before .before .before .before .loop-test .taken) (rw (c .before .before .before .before .before .before .before .before .before .before .before .before .before .word2 .ensures, c .before .before .enum-told .given .1, walk-here t (c .before .before .before .before)) at (c .before .before .before .before .evaluate .ensures .1)),
     )
 
-walk-add-cost : (t : ℕ) → walk-lts.Need-add-cost (
-  word-reads.Asked,
-  word-reads.Learnt,
-  unit-reads.Asked,
-  unit-reads.Learnt,
-  assign-reads.Asked,
-  assign-reads.Learnt,
-  evaluate-below t,
-  evaluate.Post,
-  join-reads.Asked,
-  join-reads.Learnt,
-  settles-reads.Asked,
-  settles-reads.Learnt,
-) (walk-at t) walk.Post walk-Inv-loop walk-μ-loop
+walk-add-cost : (t : ℕ) → walk-lts.Need-add-cost (walk-claims t) (walk-at t) walk.Post walk-Inv-loop walk-μ-loop
 walk-add-cost t c =
     let start = c .before .before .before .before .before .before .before .before .before .before .before .before .before .before .before .before .before in
     let ev = start .pre .1 .0 in
@@ -1014,52 +393,13 @@ walk-add-cost t c =
     let down = stands-by _ _ _ _ _ _ _ (ranges (junctionOf (start .args .every))) (ev .ready) (ev .known) is in
     omega (arith, start .fits .budget, c .before .before .before .before .before .before .before .before .before .loop .inv .0 .low, right-low _ _ _ _ (down .1 .1) _ _ _ _ (rw (c .before .before .before .before .before .before .before .before .before .before .before .before .word2 .ensures, c .before .one .given .1, walk-here t (c .before .before .before)) at (c .before .before .before .evaluate .ensures .1)))
 
-walk-join-requires : (t : ℕ) → walk-lts.Need-join-requires (
-  word-reads.Asked,
-  word-reads.Learnt,
-  unit-reads.Asked,
-  unit-reads.Learnt,
-  assign-reads.Asked,
-  assign-reads.Learnt,
-  evaluate-below t,
-  evaluate.Post,
-  join-reads.Asked,
-  join-reads.Learnt,
-  settles-reads.Asked,
-  settles-reads.Learnt,
-) (walk-at t) walk.Post walk-Inv-loop walk-μ-loop
+walk-join-requires : (t : ℕ) → walk-lts.Need-join-requires (walk-claims t) (walk-at t) walk.Post walk-Inv-loop walk-μ-loop
 walk-join-requires t c κs = search needs
 
-walk-settles-requires : (t : ℕ) → walk-lts.Need-settles-requires (
-  word-reads.Asked,
-  word-reads.Learnt,
-  unit-reads.Asked,
-  unit-reads.Learnt,
-  assign-reads.Asked,
-  assign-reads.Learnt,
-  evaluate-below t,
-  evaluate.Post,
-  join-reads.Asked,
-  join-reads.Learnt,
-  settles-reads.Asked,
-  settles-reads.Learnt,
-) (walk-at t) walk.Post walk-Inv-loop walk-μ-loop
+walk-settles-requires : (t : ℕ) → walk-lts.Need-settles-requires (walk-claims t) (walk-at t) walk.Post walk-Inv-loop walk-μ-loop
 walk-settles-requires t c κs = search needs
 
-walk-assign-requires-3 : (t : ℕ) → walk-lts.Need-assign-requires-3 (
-  word-reads.Asked,
-  word-reads.Learnt,
-  unit-reads.Asked,
-  unit-reads.Learnt,
-  assign-reads.Asked,
-  assign-reads.Learnt,
-  evaluate-below t,
-  evaluate.Post,
-  join-reads.Asked,
-  join-reads.Learnt,
-  settles-reads.Asked,
-  settles-reads.Learnt,
-) (walk-at t) walk.Post walk-Inv-loop walk-μ-loop
+walk-assign-requires-3 : (t : ℕ) → walk-lts.Need-assign-requires-3 (walk-claims t) (walk-at t) walk.Post walk-Inv-loop walk-μ-loop
 walk-assign-requires-3 t c κs =
     let start = c .before .before .before .before .before .before .before .before .before .before .before .before .before .before .before .before .before .before .before .before .before in
     let ev = start .pre .1 .0 in
@@ -1069,20 +409,7 @@ walk-assign-requires-3 t c κs =
       ap length (c .before .before .before .before .before .before .before .evaluate .ensures .0 ∙ walk-here t (c .before .before .before .before .before .before .before)) ∙ length-set (start .args .env .now) _ _ ∙ ev .sixteen,
     )
 
-walk-returns-2 : (t : ℕ) → walk-lts.Need-returns-2 (
-  word-reads.Asked,
-  word-reads.Learnt,
-  unit-reads.Asked,
-  unit-reads.Learnt,
-  assign-reads.Asked,
-  assign-reads.Learnt,
-  evaluate-below t,
-  evaluate.Post,
-  join-reads.Asked,
-  join-reads.Learnt,
-  settles-reads.Asked,
-  settles-reads.Learnt,
-) (walk-at t) walk.Post walk-Inv-loop walk-μ-loop
+walk-returns-2 : (t : ℕ) → walk-lts.Need-returns-2 (walk-claims t) (walk-at t) walk.Post walk-Inv-loop walk-μ-loop
 walk-returns-2 t c =
     let start = c .before .before .before .before .before .before .before .before .before .before .before .before .before .before .before .before .before .before .before .before .before .before in
     let ev = start .pre .1 .0 in
@@ -1094,52 +421,13 @@ walk-returns-2 t c =
           (sym (c .before .before .before .settles .ensures) ∙ c .before .before .if1 .taken)),
     )
 
-walk-add-i : (t : ℕ) → walk-lts.Need-add-i (
-  word-reads.Asked,
-  word-reads.Learnt,
-  unit-reads.Asked,
-  unit-reads.Learnt,
-  assign-reads.Asked,
-  assign-reads.Learnt,
-  evaluate-below t,
-  evaluate.Post,
-  join-reads.Asked,
-  join-reads.Learnt,
-  settles-reads.Asked,
-  settles-reads.Learnt,
-) (walk-at t) walk.Post walk-Inv-loop walk-μ-loop
+walk-add-i : (t : ℕ) → walk-lts.Need-add-i (walk-claims t) (walk-at t) walk.Post walk-Inv-loop walk-μ-loop
 walk-add-i t c = omega (arith, c .before .before .before .before .before .before .before .before .before .before .before .loop-test .taken, c .before .before .before .before .before .before .before .before .before .before .before .before .before .before .before .before .before .before .before .before .good)
 
-walk-loop-less : (t : ℕ) → walk-lts.Need-loop-less (
-  word-reads.Asked,
-  word-reads.Learnt,
-  unit-reads.Asked,
-  unit-reads.Learnt,
-  assign-reads.Asked,
-  assign-reads.Learnt,
-  evaluate-below t,
-  evaluate.Post,
-  join-reads.Asked,
-  join-reads.Learnt,
-  settles-reads.Asked,
-  settles-reads.Learnt,
-) (walk-at t) walk.Post walk-Inv-loop walk-μ-loop
+walk-loop-less : (t : ℕ) → walk-lts.Need-loop-less (walk-claims t) (walk-at t) walk.Post walk-Inv-loop walk-μ-loop
 walk-loop-less t c = omega arith
 
-walk-loop-again : (t : ℕ) → walk-lts.Need-loop-again (
-  word-reads.Asked,
-  word-reads.Learnt,
-  unit-reads.Asked,
-  unit-reads.Learnt,
-  assign-reads.Asked,
-  assign-reads.Learnt,
-  evaluate-below t,
-  evaluate.Post,
-  join-reads.Asked,
-  join-reads.Learnt,
-  settles-reads.Asked,
-  settles-reads.Learnt,
-) (walk-at t) walk.Post walk-Inv-loop walk-μ-loop
+walk-loop-again : (t : ℕ) → walk-lts.Need-loop-again (walk-claims t) (walk-at t) walk.Post walk-Inv-loop walk-μ-loop
 walk-loop-again t c =
     let start = c .before .before .before .before .before .before .before .before .before .before .before .before .before .before .before .before .before .before .before .before in
     let ev = start .pre .1 .0 in
@@ -1151,20 +439,7 @@ walk-loop-again t c =
       walk-back t (c .before .before .before .before .before .before),
     )
 
-walk-assign-requires-4 : (t : ℕ) → walk-lts.Need-assign-requires-4 (
-  word-reads.Asked,
-  word-reads.Learnt,
-  unit-reads.Asked,
-  unit-reads.Learnt,
-  assign-reads.Asked,
-  assign-reads.Learnt,
-  evaluate-below t,
-  evaluate.Post,
-  join-reads.Asked,
-  join-reads.Learnt,
-  settles-reads.Asked,
-  settles-reads.Learnt,
-) (walk-at t) walk.Post walk-Inv-loop walk-μ-loop
+walk-assign-requires-4 : (t : ℕ) → walk-lts.Need-assign-requires-4 (walk-claims t) (walk-at t) walk.Post walk-Inv-loop walk-μ-loop
 walk-assign-requires-4 t c κs =
     let start = c .before .before .before .before .before .before .before .before .before .before in
     let ev = start .pre .1 .0 in
@@ -1172,20 +447,7 @@ walk-assign-requires-4 t c κs =
     let down = stands-by _ _ _ _ _ _ _ (ranges (junctionOf (start .args .every))) (ev .ready) (ev .known) is in
     (omega (arith, c .before .before .before .before .before .before .word .ensures, down .0), sym (length-set (c .before .before .loop .env) _ _) ∙ ap length (c .before .before .loop .inv .1) ∙ ev .sixteen)
 
-walk-returns-3 : (t : ℕ) → walk-lts.Need-returns-3 (
-  word-reads.Asked,
-  word-reads.Learnt,
-  unit-reads.Asked,
-  unit-reads.Learnt,
-  assign-reads.Asked,
-  assign-reads.Learnt,
-  evaluate-below t,
-  evaluate.Post,
-  join-reads.Asked,
-  join-reads.Learnt,
-  settles-reads.Asked,
-  settles-reads.Learnt,
-) (walk-at t) walk.Post walk-Inv-loop walk-μ-loop
+walk-returns-3 : (t : ℕ) → walk-lts.Need-returns-3 (walk-claims t) (walk-at t) walk.Post walk-Inv-loop walk-μ-loop
 walk-returns-3 t c =
     let start = c .before .before .before .before .before .before .before .before .before .before .before in
     let ev = start .pre .1 .0 in

@@ -1,0 +1,19 @@
+// Questions written node by node.
+ghost use mathlib.Core.Path.{_≡_};
+ghost use lib.ListN.{length};
+
+// A node behind the last one.
+pub const NONE: [u32; 8] = [0u32; 8];
+
+// The words of at most seven nodes, one behind the other.
+pub fn flat(nodes: [[u32; 8]; 7]) -> [u32; 56]
+    ensures { λ r. ⌜ length r ≡ 56 ⌝ }
+{
+    let mut words = [0u32; 56];
+    let mut i = 0;
+    while i < 56 {
+        words[i] = nodes[i / 8][i % 8];
+        i += 1;
+    }
+    words
+}
