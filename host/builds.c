@@ -18,6 +18,19 @@ static void ask_other(void)
                                 now.candidate_cells, list, PLOTASK_CELLS, UINT32_MAX, &truth, &cost);
 }
 
+/* Gives every cell a value of its own, out of four buckets of the library's hash table (crates/lookup/src/chain.rt): its worst case. */
+static void share_buckets(void)
+{
+    uint32_t value = 0;
+
+    for (uint32_t at = 0; at < now.header.used; at += 1 + PLOTASK_COLUMNS)
+        for (uint32_t column = 1; column <= PLOTASK_COLUMNS; column++) {
+            while (value * 2654435761u >> 22 >= 4)
+                value++;
+            now.plot[at + column] = value++;
+        }
+}
+
 static void row(const char *name)
 {
     work *const works[] = {ask, ask_other};
@@ -38,6 +51,9 @@ int main(void)
     row("no row asked; 3,510 different values");
     ask_row(&now, 999000);
     row("one row, no match; 3,510 different values");
+    share_buckets();
+    ask_nothing(&now);
+    row("no row asked; 3,510 different values, chosen to share four buckets");
     make_plot(&now, PLOTASK_COLUMNS, FULL_ROWS, FEW_VALUES);
     ask_nothing(&now);
     row("no row asked; 16 different values");
