@@ -1,14 +1,7 @@
 pub mod Order
-pub mod Fields
-pub mod Records
-pub mod Written
-pub mod WritingRows
-pub mod Measuring
-pub mod Opening
-pub mod Decoding
+pub mod Field
+pub mod Arities
+pub mod Stores
 pub mod Bytes
 pub mod RoundTrip
 pub mod Sound
-pub mod Stores
-pub mod RecordSteps
-pub mod Encoding

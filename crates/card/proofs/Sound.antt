@@ -24,7 +24,7 @@ use Rattle.card.specs.Format.{Field, written, blank, Record, Head, Card,
 use Rattle.card.specs.Blanks.{blanksIn, blanks, highest, numbered, numberedRows, rowsOf}
 use Rattle.card.specs.Encode.{cardBytes}
 use Rattle.card.specs.Decode.{cardWords, cardHeader, accepted, decodedFrom, decoded}
-use Rattle.card.proofs.Fields.{field-read}
+use Rattle.card.proofs.Field.{field-read}
 use Rattle.card.proofs.Order.{never-both, read-first, byte-read}
 use Rattle.card.proofs.RoundTrip.{decode-encode}
 

@@ -28,7 +28,7 @@ pub extern "C" fn plotask_decode(card: &[u8], header: &mut [u32], plot: &mut [u3
     if header.len() != 10 {
         return UNSOUND;
     }
-    let stored = card::decode::decode(card, plot);
+    let stored = decode::decode(card, plot);
     let answer = stored.answer;
     let read = stored.header;
     put_header(header, answer, read);
@@ -113,7 +113,7 @@ pub extern "C" fn plotask_encode(
     if header.len() != 10 {
         return UNSOUND;
     }
-    let written = card::encode::encode(read_header(header), plot, card);
+    let written = encode::encode(read_header(header), plot, card);
     *count = value(written, *count);
     number(written)
 }

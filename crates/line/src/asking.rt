@@ -10,7 +10,7 @@ use super::number::numbers;
 use answer::ask::ask;
 use answer::asked::Asked;
 use calculus::answer::Answer;
-use card::decode::decode;
+use decode::decode;
 use instance::header::Header;
 
 // No question may have so many words, so that the first of them stand for a longer one.

@@ -1,0 +1,156 @@
+-- `decode::measure::measure` meets its contract. The loop's invariant: the answer of the whole is that of what is left, with what was counted so
+-- far added. Assumes nothing.
+use Prim.Native.Nat.{_-_, max}
+use mathlib.Core.Path.{_≡_, sym, _∙_}
+use mathlib.Core.Logic.{⊎-elim}
+use native.Mathlib.Omega.{arith}
+use borrow.Author.Needs.{needs}
+use lib.ListN.{length, take, drop}
+use Rattle.card.specs.Format.{readRecord}
+use Rattle.decode.specs.Measure.{measuredRecord}
+use Rattle.instance.proofs.Parts.{part-to-end}
+use Rattle.decode.proofs.Measuring.{Measuring, Turn, turn, measuring-starts, measuring-refused, measuring-ends}
+use Rattle.decode.proofs.measure.measure.Statement.{statement}
+use Rattle.decode.proofs.measure.measure.Tie as tie
+
+abbrev Inv-loop : tie.InvT-loop
+Inv-loop card start relations arities count words₀ blanks₀ top₀ at₀ left₀ words blanks top at left =
+    Measuring card start relations arities count words blanks top at left
+
+abbrev μ-loop : tie.MeasureT-loop
+μ-loop card start relations arities count words₀ blanks₀ top₀ at₀ left₀ words blanks top at left = left
+
+loop-holds : tie.Need-loop-holds Inv-loop μ-loop
+loop-holds c = measuring-starts _ _ _ _ _ (c .before .pre .0)
+
+sub-measure-record : tie.Need-sub-measure-record Inv-loop μ-loop
+sub-measure-record c = search needs
+
+part-measure-record-start : tie.Need-part-measure-record-start Inv-loop μ-loop
+part-measure-record-start c = search needs
+
+part-measure-record-end : tie.Need-part-measure-record-end Inv-loop μ-loop
+part-measure-record-end c = search needs
+
+measure-record-requires : tie.Need-measure-record-requires Inv-loop μ-loop
+measure-record-requires c κs = search needs
+
+-- what the record at the place was measured to be
+measured-here : (d : tie.After-measure-record Inv-loop μ-loop)
+    → d .measure-record .result
+    ≡ measuredRecord
+    (readRecord
+    (d .before .before .before .before .before .args .relations)
+    (d .before .before .before .before .before .args .arities .now)
+    (drop (d .before .before .before .loop .at) (d .before .before .before .before .before .args .card .now)))
+measured-here d =
+    let card = d .before .before .before .before .before .args .card .now in
+    let at = d .before .before .before .loop .at in
+    let known : d .measure-record .result
+    ≡ measuredRecord (readRecord (d .before .before .before .before .before .args .relations) (d .before .before .before .before .before .args .arities .now) (take (length card - at) (drop at card))) =
+    d .measure-record .ensures in
+    known ∙ rw (part-to-end card at)
+
+here : (c : tie.After-known-told Inv-loop μ-loop)
+    → Turn
+    (c .before .before .before .before .before .before .before .before .args .card .now)
+    (c .before .before .before .before .before .before .before .before .args .start)
+    (c .before .before .before .before .before .before .before .before .args .relations)
+    (c .before .before .before .before .before .before .before .before .args .arities .now)
+    (c .before .before .before .before .before .before .before .before .args .count)
+    (c .before .before .before .before .before .before .loop .words)
+    (c .before .before .before .before .before .before .loop .blanks)
+    (c .before .before .before .before .before .before .loop .top)
+    (c .before .before .before .before .before .before .loop .at)
+    (c .before .before .before .before .before .before .loop .left)
+    (c .before .arity .given .0 .0)
+    (c .before .arity .given .0 .1 .0)
+    (c .before .arity .given .0 .1 .1 .0)
+here c =
+    turn _ _ _ _ _ _ _ _ _ _
+    (c .before .before .before .before .before .before .loop .inv)
+    (c .before .before .before .before .before .loop-test .taken)
+    _ _ _
+    (c .before .before .before .before .before .before .before .before .pre .1 .1 .0)
+    (sym (measured-here (c .before .before .before)) ∙ c .before .arity .given .1)
+
+enum-known-arity : tie.Need-enum-known-arity Inv-loop μ-loop
+enum-known-arity c = search needs
+
+add-words : tie.Need-add-words Inv-loop μ-loop
+add-words c = omega (arith, here c .narrow)
+
+add-words-2 : tie.Need-add-words-2 Inv-loop μ-loop
+add-words-2 c = omega (arith, here c .words-fit, c .before .before .before .before .before .before .before .before .pre .1 .1 .1)
+
+sub-blanks : tie.Need-sub-blanks Inv-loop μ-loop
+sub-blanks c = here c .fewer
+
+add-blanks : tie.Need-add-blanks Inv-loop μ-loop
+add-blanks c = omega (arith, here c .blanks-fit, c .before .before .before .before .before .before .before .before .pre .1 .1 .1)
+
+cast-at : tie.Need-cast-at Inv-loop μ-loop
+cast-at c = omega (arith, here (c .before) .narrow, here (c .before) .fewer)
+
+mul-at : tie.Need-mul-at Inv-loop μ-loop
+mul-at c = omega (arith, here (c .before) .narrow, here (c .before) .fewer)
+
+add-at : tie.Need-add-at Inv-loop μ-loop
+add-at c = omega (arith, here (c .before) .narrow, here (c .before) .fewer)
+
+add-at-2 : tie.Need-add-at-2 Inv-loop μ-loop
+add-at-2 c = omega (arith, here (c .before) .in-card)
+
+enum-known-why : tie.Need-enum-known-why Inv-loop μ-loop
+enum-known-why c = search needs
+
+returns : tie.Need-returns Inv-loop μ-loop
+returns c =
+    sym
+    (measuring-refused _ _ _ _ _ _ _ _ _ _
+    (c .before .before .before .before .before .before .loop .inv)
+    (c .before .before .before .before .before .loop-test .taken)
+    _
+    (sym (measured-here (c .before .before .before)) ∙ c .before .why .given .1))
+
+sub-left : tie.Need-sub-left Inv-loop μ-loop
+sub-left c = search needs
+
+loop-less : tie.Need-loop-less Inv-loop μ-loop
+loop-less c = search needs
+
+loop-again : tie.Need-loop-again Inv-loop μ-loop
+loop-again c =
+    let top : c .if1 .top ≡ max (c .before .before .before .before .before .before .before .loop .top) (c .before .before .arity .given .0 .1 .1 .0) =
+    ⊎-elim (λ w. omega arith) (λ w. omega arith) (c .if1 .came) in
+    rw top (here (c .before) .then)
+
+returns-2 : tie.Need-returns-2 Inv-loop μ-loop
+returns-2 c = sym (measuring-ends _ _ _ _ _ _ _ _ _ _ (c .before .loop .inv) (c .loop-test .left))
+
+pub measure-spec : {M : Type 1} → statement M
+measure-spec =
+    tie.close
+    (tie.spec
+    Inv-loop
+    μ-loop
+    loop-holds
+    sub-measure-record
+    part-measure-record-start
+    part-measure-record-end
+    measure-record-requires
+    enum-known-arity
+    add-words
+    add-words-2
+    sub-blanks
+    add-blanks
+    cast-at
+    mul-at
+    add-at
+    add-at-2
+    enum-known-why
+    returns
+    sub-left
+    loop-less
+    loop-again
+    returns-2)

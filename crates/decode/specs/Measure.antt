@@ -1,0 +1,76 @@
+-- What the first pass over a card's bytes answers. Document 01, "The card".
+use Prim.Native.Nat.{ℕ, zero, suc, _+_, _-_, max}
+use mathlib.Core.List.{List, [], _∷_, _++_}
+use lib.ListN.{length, drop, replicate}
+use Rattle.calculus.specs.declared.answer.Answer.{Answer}
+use Rattle.calculus.specs.declared.answer.Answer.the-variants.{Done, Refused}
+use Rattle.calculus.specs.Cell.{markOf}
+use Rattle.instance.specs.Header.{maxRelations}
+use Rattle.decode.specs.declared.head.Arities as declared-arities
+use Rattle.decode.specs.declared.head.Head as declared-head
+use Rattle.decode.specs.declared.measure.Measured.{Measured}
+use Rattle.decode.specs.declared.measure.Measured.the-variants as measured
+use Rattle.decode.specs.declared.measure.Total.{Total}
+use Rattle.decode.specs.declared.measure.Needed.{Needed}
+use Rattle.decode.specs.declared.measure.Needed.the-variants as needed
+use Rattle.card.specs.Parse.{Parsed, read, refused, andThen}
+use Rattle.card.specs.Format.{Field, written, blank, Record, Head, padded, readField, readRecords}
+use Rattle.card.specs.Blanks.{blanks, highest, highestIn}
+
+-- what a refusal answers
+abbrev pub noArities : ℕ → declared-arities.Arities
+noArities why = record { answer = Refused why; arities = replicate maxRelations 0 }
+
+abbrev pub noHead : ℕ → declared-head.Head
+noHead why = record { answer = Refused why; relations = 0; arities = replicate maxRelations 0 }
+
+-- an arity for each of the 8 relations; before them stand those that were read already
+unfoldable pub openedArities : List ℕ → Parsed (List ℕ) → declared-arities.Arities
+openedArities before (read ars bs) = record { answer = Done 0; arities = padded (before ++ ars) }
+openedArities before (refused r) = noArities r
+
+-- the number of rows, the number of relations and their arities
+unfoldable pub openedHead : Parsed Head → declared-head.Head
+openedHead (read h bs) = record { answer = Done (h .count); relations = h .relations; arities = h .arities }
+openedHead (refused r) = noHead r
+
+-- so many fields in a row, all of them written
+unfoldable pub readWritten : ℕ → List ℕ → Parsed (List ℕ)
+readWritten zero bs = read [] bs
+readWritten (suc k) bs = andThen (readField bs) (λ c bs. andThen (readWritten k bs) (λ cs bs. read (c ∷ cs) bs))
+
+-- the highest null among cells, 0 where there is none
+unfoldable pub highestOf : List ℕ → ℕ
+highestOf [] = 0
+highestOf (c ∷ cs) = max (markOf c) (highestOf cs)
+
+unfoldable pub measuredFields : Parsed (List ℕ) → Answer
+measuredFields (read cs bs) = Done (highestOf cs)
+measuredFields (refused r) = Refused r
+
+-- the fields that are written
+unfoldable pub writtenOf : List Field → List ℕ
+writtenOf [] = []
+writtenOf (written c ∷ fs) = c ∷ writtenOf fs
+writtenOf (blank ∷ fs) = writtenOf fs
+
+unfoldable pub measuredRecord : Parsed Record → Measured
+measuredRecord (read r bs) = measured.Record (length (r .fields)) (length (writtenOf (r .fields))) (highestIn (r .fields))
+measuredRecord (refused why) = measured.Refused why
+
+-- the words of records
+unfoldable pub wordsIn : List Record → ℕ
+wordsIn [] = 0
+wordsIn (r ∷ rs) = 1 + length (r .fields) + wordsIn rs
+
+-- what records of a card of so many bytes need, and where the last of them ends
+abbrev pub total : ℕ → List Record → List ℕ → Total
+total size rs bs = record { words = wordsIn rs; blanks = blanks rs; highest = highest rs; end = size - length bs }
+
+unfoldable pub measuredRecords : ℕ → Parsed (List Record) → Needed
+measuredRecords size (read rs bs) = needed.Records (total size rs bs)
+measuredRecords size (refused why) = needed.Refused why
+
+-- the first pass over so many records, from a place of the card on
+abbrev pub measuredFrom : List ℕ → ℕ → ℕ → List ℕ → ℕ → Needed
+measuredFrom card start n ars count = measuredRecords (length card) (readRecords n ars count (drop start card))

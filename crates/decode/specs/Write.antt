@@ -1,0 +1,23 @@
+-- What the second pass over a card's bytes writes, and what the first pass has shown for it.
+use Prim.Native.Nat.{ℕ, _+_, _≤_, _<_}
+use mathlib.Core.Path.{_≡_}
+use mathlib.Core.Bool.{true}
+use mathlib.Core.List.{List, []}
+use lib.ListN.{length, drop}
+use Rattle.calculus.specs.Cell.{nulls}
+use Rattle.instance.specs.Header.{arityOf, maxRelations, maxColumns}
+use Rattle.instance.specs.Rows.{wordsOf}
+use Rattle.card.specs.Parse.{isRead, got}
+use Rattle.card.specs.Format.{readRecords}
+use Rattle.card.specs.Blanks.{blanks, numberedRows}
+
+-- the words of so many records, where the next blank gets the given null
+abbrev pub wordsRead : ℕ → List ℕ → ℕ → ℕ → List ℕ → List ℕ
+wordsRead n ars count next bs = wordsOf (numberedRows next (got [] (readRecords n ars count bs)))
+
+pub record WriteRows (plot card : List ℕ) (n : ℕ) (ars : List ℕ) (count next : ℕ) : Type 0 where
+  pub few : n ≤ maxRelations
+  pub narrow : (r : ℕ) → r < n → arityOf ars r ≤ maxColumns
+  pub reads : isRead (readRecords n ars count (drop (n + 3) card)) ≡ true
+  pub free : next + blanks (got [] (readRecords n ars count (drop (n + 3) card))) ≤ nulls + 1
+  pub room : length (wordsRead n ars count next (drop (n + 3) card)) ≤ length plot

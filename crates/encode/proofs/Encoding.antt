@@ -1,0 +1,87 @@
+-- What the writer's answer says: the size of a card, and the card as its head and its records. Assumes nothing.
+use Prim.Native.Nat.{ℕ, _+_, _-_, _*_, _/_, _%_, _≤_, _<_}
+use mathlib.Core.Path.{_≡_, refl, sym, _∙_}
+use mathlib.Core.Bool.{Bool, true, false, _&&_}
+use mathlib.Core.List.{List, [], _∷_, _++_, append-assoc}
+use native.Mathlib.Omega.{arith}
+use lib.ListN.{length, take, drop, length-append, length-take}
+use lib.Seq.{take-at, drop-at, drop-drop, length-take-le}
+use lib.Dec.{leb}
+use borrow.Rule.Slice.PartMut.{putMid}
+use borrow.Author.Tests.{le-leb, lt-leb, ltb-true, ltb-false}
+use Rattle.calculus.specs.declared.answer.Answer.the-variants.{Done, Refused}
+use Rattle.calculus.specs.Refusal.{unsound, output-too-short}
+use Rattle.instance.specs.declared.header.Header.{Header}
+use Rattle.instance.specs.declared.scan.Scanned.the-variants.{Rows}
+use Rattle.instance.specs.Header.{headerStands, arityOf, maxRelations, maxColumns}
+use Rattle.instance.specs.Sound.{sound, rows, scanned, tally}
+use Rattle.calculus.proofs.Bools.{both}
+use Rattle.instance.proofs.Rows.{headed, parts}
+use Rattle.card.specs.Encode.{headBytes, recordsBytes, cardBytes, encoded, encodedBytes}
+use Rattle.instance.specs.Header.{aritiesStand}
+use Rattle.instance.proofs.Parts.{part-to-end, put-to-end}
+use Rattle.encode.proofs.RecordSteps.{records-bytes, records-size}
+
+-- a head, and then records in the part behind it, over the first elements of a list
+pub joined : (head records out : List ℕ) (start : ℕ) (lent back : List ℕ) → length head ≡ start → start + length records ≤ length out
+    → lent ≡ head ++ drop start out → back ≡ records ++ drop (length records) (take (length lent - start) (drop start lent))
+    → putMid start (length lent - start) lent back ≡ (head ++ records) ++ drop (length (head ++ records)) out
+joined head records out start lent back e l p q =
+    let behind : drop start lent ≡ drop start out = rw p (drop-at head (drop start out) start e) in
+    let front : take start lent ≡ head = rw p (take-at head (drop start out) start e) in
+    let long : start ≤ length lent = rw (p, length-append) (omega arith) in
+    put-to-end lent start back long
+    ∙ rw (front, q, part-to-end lent start, behind, drop-drop (length records) start out, length-append head records, e)
+    (sym (append-assoc head records (drop (start + length records) out)))
+
+module _ (h : Header) (ws : List ℕ) (s : sound h ws ≡ true) (eight : length (h .arities) ≡ maxRelations) where
+  pub head-size : length (headBytes h (length (rows h ws))) ≡ h .relations + 3
+  head-size =
+      let few = headed (h .relations) (h .arities) (parts h ws s .header) .few in
+      simp (length-append, length-take) (omega arith)
+
+  -- three bytes for each word in use, and one less for each row
+  pub record-size : length (recordsBytes (rows h ws)) + length (rows h ws) ≡ 3 * h .used
+  unfolding rows
+  record-size =
+      let p = parts h ws s in
+      let us = take (h .used) ws in
+      let long : length us ≡ h .used = length-take-le (h .used) ws (p .within) in
+      rw (← records-bytes (h .relations) (h .arities) us (p .words)) (rw long at (records-size (h .arities) 0 us))
+
+  pub card-size : length (cardBytes h (rows h ws)) ≡ h .relations + 3 + (3 * h .used - length (rows h ws))
+  unfolding cardBytes
+  card-size = rw length-append (omega (arith, head-size, record-size))
+
+  -- the head, and then the records in the part behind it, are the card
+  pub all-written : (out lent back : List ℕ) (count : ℕ) → length (rows h ws) ≡ count → length (cardBytes h (rows h ws)) ≤ length out
+      → lent ≡ h .relations ∷ take (h .relations) (h .arities) ++ count / 256 % 256 ∷ count % 256 ∷ drop (h .relations + 3) out
+      → back ≡ recordsBytes (rows h ws)
+      ++ drop (length (recordsBytes (rows h ws))) (take (length lent - (h .relations + 3)) (drop (h .relations + 3) lent))
+      → putMid (h .relations + 3) (length lent - (h .relations + 3)) lent back
+      ≡ cardBytes h (rows h ws) ++ drop (length (cardBytes h (rows h ws))) out
+  unfolding cardBytes
+  all-written out lent back count e room p q =
+      let start = h .relations + 3 in
+      let head = headBytes h (length (rows h ws)) in
+      let size = length-append head (recordsBytes (rows h ws)) in
+      let assoc = append-assoc (take (h .relations) (h .arities)) (count / 256 % 256 ∷ count % 256 ∷ []) (drop start out) in
+      let heads : lent ≡ head ++ drop start out = p ∙ rw (e, assoc) in
+      joined head (recordsBytes (rows h ws)) out start lent back head-size (omega (arith, head-size, size, room)) heads q
+
+-- the answer, once it is known whether the instance is sound and whether the card fits
+module _ (h : Header) (ws out : List ℕ) where
+  pub refused-unsound : sound h ws ≡ false → (Refused unsound ≡ encoded h ws out) × (out ≡ encodedBytes h ws out)
+  unfolding encoded encodedBytes
+  refused-unsound e = (simp e, simp e)
+
+  pub refused-short : sound h ws ≡ true → length out < length (cardBytes h (rows h ws))
+      → (Refused output-too-short ≡ encoded h ws out) × (out ≡ encodedBytes h ws out)
+  unfolding encoded encodedBytes
+  refused-short e l = let t = lt-leb (length (cardBytes h (rows h ws))) (length out) l in (simp (e, t), simp (e, t))
+
+  pub done : sound h ws ≡ true → length (cardBytes h (rows h ws)) ≤ length out
+      → (Done (length (cardBytes h (rows h ws))) ≡ encoded h ws out)
+      × (cardBytes h (rows h ws) ++ drop (length (cardBytes h (rows h ws))) out ≡ encodedBytes h ws out)
+  unfolding encoded encodedBytes
+  done e l = let t = le-leb (length (cardBytes h (rows h ws))) (length out) l in (simp (e, t), simp (e, t))

@@ -1,0 +1,160 @@
+-- `encode::encode` meets its contract: the scan tells whether the instance is sound and how many rows it has, which gives the card's
+-- size; the head and the records are written one behind the other. Assumes nothing.
+use Prim.Native.Nat.{ℕ, _+_, _-_, _*_, _≤_}
+use mathlib.Core.Path.{_≡_, sym, _∙_}
+use mathlib.Core.Bool.{true}
+use mathlib.Core.List.{List}
+use native.Mathlib.Omega.{arith}
+use borrow.Author.Needs.{needs}
+use lib.ListN.{length, length-take, length-drop}
+use lib.Seq.{length-take-le}
+use Rattle.instance.specs.declared.header.Header.{Header}
+use Rattle.instance.specs.Header.{maxRelations}
+use Rattle.instance.specs.Sound.{sound, rows}
+use Rattle.instance.proofs.Rows.{headed, parts, scanned-sound, scanned-unsound, scanned-rows}
+use Rattle.card.specs.Encode.{cardBytes}
+use Rattle.card.proofs.Arities.{narrow}
+use Rattle.encode.proofs.RecordSteps.{more-stand}
+use Rattle.encode.proofs.Encoding.{all-written, record-size, card-size, refused-unsound, refused-short, done}
+use Rattle.encode.proofs.encode.Statement.{statement}
+use Rattle.encode.proofs.encode.Tie as tie
+
+module _ (c : tie.After-struct-known) where
+  abbrev h : Header
+  h = c .before .before .before .before .before .before .before .before .args .header
+
+  abbrev ws : List ℕ
+  ws = c .before .before .before .before .before .before .before .before .args .plot .now
+
+  abbrev count : ℕ
+  count = c .before .before .before .count .given .0 .0
+
+  stands : sound h ws ≡ true
+  stands = scanned-sound h ws count (sym (c .before .before .before .before .before .scan .ensures) ∙ c .before .before .before .count .given .1)
+
+  is-count : length (rows h ws) ≡ count
+  is-count = scanned-rows h ws count (sym (c .before .before .before .before .before .scan .ensures) ∙ c .before .before .before .count .given .1)
+
+  eight : length (h .arities) ≡ maxRelations
+  eight = search needs
+
+  abbrev size : ℕ
+  size = h .relations + 3 + (3 * h .used - count)
+
+  is-size : length (cardBytes h (rows h ws)) ≡ size
+  is-size = rw is-count at (card-size h ws stands eight)
+
+scan-requires : tie.Need-scan-requires
+scan-requires c κs = search needs
+
+enum-known-count : tie.Need-enum-known-count
+enum-known-count c = search needs
+
+enum-told : tie.Need-enum-told
+enum-told c = search needs
+
+returns : tie.Need-returns
+returns c = refused-unsound _ _ _ (scanned-unsound _ _ (sym (c .before .before .scan .ensures) ∙ c .enum-told .given .1))
+
+cast-used : tie.Need-cast-used
+cast-used c = search needs
+
+cast-start : tie.Need-cast-start
+cast-start c = search needs
+
+add-start : tie.Need-add-start
+add-start c = search needs
+
+mul-size : tie.Need-mul-size
+mul-size c = search needs
+
+cast-size : tie.Need-cast-size
+cast-size c = search needs
+
+sub-size : tie.Need-sub-size
+sub-size c = omega (arith, record-size (h c) (ws c) (stands c) (eight c), is-count c)
+
+add-size : tie.Need-add-size
+add-size c = search needs
+
+returns-2 : tie.Need-returns-2
+returns-2 c = refused-short _ _ _ (stands (c .before)) (omega (arith, is-size (c .before)))
+
+write-head-requires : tie.Need-write-head-requires
+write-head-requires c κs =
+    let b = c .before .before .before in
+    (parts (h b) (ws b) (stands b) .header, eight b, omega arith)
+
+sub-write-records : tie.Need-sub-write-records
+sub-write-records c = search needs
+
+part-write-records-start : tie.Need-part-write-records-start
+part-write-records-start c = search needs
+
+part-write-records-end : tie.Need-part-write-records-end
+part-write-records-end c = search needs
+
+slice-aggregate-write-records : tie.Need-slice-aggregate-write-records
+slice-aggregate-write-records c = let b = c .before .before .before .before .before .before .before .before .before in sym (length-take-le (h b .used) (ws b) (parts (h b) (ws b) (stands b) .within))
+
+write-records-requires : tie.Need-write-records-requires
+unfolding rows
+write-records-requires c κs =
+    let b = c .before .before .before .before .before .before .before .before .before in
+    let p = parts (h b) (ws b) (stands b) in
+    let few = headed (h b .relations) (h b .arities) (p .header) .few in (
+      narrow (h b .relations) (h b .arities) (p .header),
+      (
+        more-stand (h b .relations) maxRelations (h b .arities) few 0 _ (p .words),
+        simp (length-take, length-drop)
+            (omega (arith, record-size (h b) (ws b) (stands b) (eight b), is-count b, c .before .before .before .before .before .write-head .kept .0, c .before .before .before .before .before .before .before .before .if1 .left)),
+      ),
+    )
+
+cast-t25 : tie.Need-cast-t25
+cast-t25 c =
+    let b = c .before .before .before .before .before .before .before .before .before .before .before .before in
+    let p = parts (h b) (ws b) (stands b) in
+    omega (arith, p .few, headed (h b .relations) (h b .arities) (p .header) .few)
+
+same-length : tie.Need-same-length
+same-length c = search needs
+
+returns-3 : tie.Need-returns-3
+unfolding rows
+returns-3 c =
+    let b = c .before .before .before .before .before .before .before .before .before .before .before .before in
+    let out = c .before .before .before .before .before .before .before .before .before .before .before .before .before .before .before .before .before .before .before .before .args .out .now in
+    let room : length (cardBytes (h b) (rows (h b) (ws b))) ≤ length out = rw (is-size b) (c .before .before .before .before .before .before .before .before .before .before .before .if1 .left) in
+    let d = done (h b) (ws b) out (stands b) room in (
+      rw (is-size b) at (d .0),
+      all-written (h b) (ws b) (stands b) (eight b) out (c .before .before .before .before .before .before .before .before .write-head .last .0) (c .before .before .write-records .last .0) (count b) (is-count b) room
+          (c .before .before .before .before .before .before .before .before .write-head .ensures) (c .before .before .write-records .ensures)
+          ∙ d .1,
+    )
+
+pub encode-spec : {M : Type 1} → statement M
+encode-spec =
+    tie.close
+    (tie.spec
+    scan-requires
+    enum-known-count
+    enum-told
+    returns
+    cast-used
+    cast-start
+    add-start
+    mul-size
+    cast-size
+    sub-size
+    add-size
+    returns-2
+    write-head-requires
+    sub-write-records
+    part-write-records-start
+    part-write-records-end
+    slice-aggregate-write-records
+    write-records-requires
+    cast-t25
+    same-length
+    returns-3)

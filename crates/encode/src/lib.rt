@@ -1,0 +1,83 @@
+// Writing an instance as a card, every column written.
+ghost use mathlib.Core.Path.{_≡_};
+ghost use mathlib.Core.Bool.{true};
+ghost use mathlib.Core.List.{_∷_, _++_};
+ghost use Prim.Native.Nat.{ℕ, _+_, _/_, _%_, _≤_};
+ghost use lib.ListN.{length, take, drop};
+ghost use Rattle.instance.specs.Header.{headerStands, arityOf, maxRelations, maxColumns};
+ghost use Rattle.instance.specs.Rows.{wordsStand, rowsFrom};
+ghost use Rattle.card.specs.Encode.{encoded, encodedBytes, recordsBytes};
+use calculus::answer::Answer;
+use calculus::refusal::OUTPUT_TOO_SHORT;
+use calculus::refusal::UNSOUND;
+use instance::header::Header;
+use instance::scan::Scanned;
+use instance::scan::scan;
+
+// the map of a record whose every column is written, by its number of columns
+const FULL_MAPS: [u8; 7] = [0, 1, 3, 7, 15, 31, 63];
+
+// The bytes before the records.
+fn write_head(out: &mut [u8], relations: u32, arities: &[u32; 8], count: u32)
+    requires { ⌜ (headerStands relations (now arities) ≡ true) × (length (now arities) ≡ maxRelations) × (relations + 3 ≤ length (now out)) ⌝ }
+    ensures { λ _. ⌜ now (out .exit) ≡ relations ∷ take relations (now (arities .entry)) ++ count / 256 % 256 ∷ count % 256 ∷ drop (relations + 3) (now (out .entry)) ⌝ }
+{
+    out[0] = relations as u8;
+    let n = relations as usize;
+    let mut i = 0;
+    while i < n {
+        out[i + 1] = arities[i] as u8;
+        i += 1;
+    }
+    out[n + 1] = (count / 256 % 256) as u8;
+    out[n + 2] = (count % 256) as u8;
+}
+
+// The records of the rows that the words stand for, in one pass.
+fn write_records(out: &mut [u8], arities: &[u32; 8], words: &[u32])
+    requires { ⌜ ((r : ℕ) → arityOf (now arities) r ≤ maxColumns) ⌝ }
+    requires { ⌜ wordsStand maxRelations (now arities) 0 (now words) ≡ true ⌝ }
+    requires { ⌜ length (recordsBytes (rowsFrom (now arities) 0 (now words))) ≤ length (now out) ⌝ }
+    ensures { λ _. ⌜ now (out .exit) ≡ recordsBytes (rowsFrom (now (arities .entry)) 0 (now (words .entry))) ++ drop (length (recordsBytes (rowsFrom (now (arities .entry)) 0 (now (words .entry))))) (now (out .entry)) ⌝ }
+{
+    let mut left: u32 = 0;
+    let mut at = 0;
+    let mut i = 0;
+    while i < words.len() {
+        let w = words[i];
+        if left == 0 {
+            left = arities[w as usize];
+            out[at] = w as u8;
+            out[at + 1] = FULL_MAPS[left as usize];
+            at += 2;
+        } else {
+            out[at] = (w / 65536 % 256) as u8;
+            out[at + 1] = (w / 256 % 256) as u8;
+            out[at + 2] = (w % 256) as u8;
+            at += 3;
+            left -= 1;
+        }
+        i += 1;
+    }
+}
+
+// Writes the card of an instance from the first byte on, and answers its number of bytes.
+pub fn encode(header: Header, plot: &[u32], out: &mut [u8]) -> Answer
+    ensures answer { λ r. ⌜ r ≡ encoded header (now (plot .entry)) (now (out .entry)) ⌝ }
+    ensures bytes { λ r. ⌜ now (out .exit) ≡ encodedBytes header (now (plot .entry)) (now (out .entry)) ⌝ }
+{
+    let Scanned::Rows(count) = scan(header, plot) else {
+        return Answer::Refused(UNSOUND);
+    };
+    let relations = header.relations;
+    let arities = header.arities;
+    let used = header.used as usize;
+    let start = relations as usize + 3;
+    let size = start + (3 * used - count as usize);
+    if out.len() < size {
+        return Answer::Refused(OUTPUT_TOO_SHORT);
+    }
+    write_head(out, relations, &arities, count);
+    write_records(&mut out[start..], &arities, &plot[..used]);
+    Answer::Done(size as u32)
+}

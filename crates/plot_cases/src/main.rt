@@ -1,0 +1,22 @@
+// Worked plots and cards through the calls; what they answer is compared with the file stdout.
+mod decoding;
+mod encoding;
+mod entering;
+mod filling;
+
+fn main() {
+    decoding::accepted();
+    decoding::cut_short();
+    decoding::refused();
+    decoding::at_the_end();
+    entering::rows();
+    entering::refused();
+    entering::unsound_headers();
+    entering::unsound_words();
+    entering::until_full();
+    filling::accepted();
+    filling::refused();
+    filling::census();
+    encoding::round_trip();
+    encoding::refused();
+}
