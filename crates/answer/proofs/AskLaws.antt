@@ -1,17 +1,16 @@
 -- What a question answers at each of its refusals, and where there is none. Assumes nothing.
 use Prim.Native.Nat.{ℕ, _+_, _-_, _≤_, _<_}
 use mathlib.Core.Path.{_≡_, refl, sym, ap, _∙_}
-use mathlib.Core.Bool.{Bool, true, false}
+use mathlib.Core.Bool.{true, false}
 use mathlib.Core.List.{List, [], _∷_, _++_}
 use native.Mathlib.Omega.{arith}
 use lib.ListN.{length, drop, take, length-append}
 use lib.Seq.{length-take-le, take-at}
-use lib.Dec.{leb}
 use borrow.Author.Tests.{lt-leb}
 use Rattle.calculus.specs.declared.answer.Answer.{Answer}
 use Rattle.calculus.specs.declared.answer.Answer.the-variants as answer
 use Rattle.calculus.specs.Answer.{after}
-use Rattle.calculus.specs.Refusal.{unsound, buffer-too-short, budget-spent}
+use Rattle.calculus.specs.Refusal.{unsound, buffer-too-short}
 use Rattle.calculus.specs.Row.{Row, cellsOf}
 use Rattle.calculus.specs.Domain.{domain}
 use Rattle.calculus.specs.Model.{asked}
@@ -33,8 +32,7 @@ use Rattle.query.proofs.Passed.{few-cells, count-within, node-stands}
 use Rattle.lookup.specs.Counts.{rowCounts}
 use Rattle.lookup.proofs.Tally.{row-count-at, row-counts-size}
 use Rattle.lookup.proofs.Entry.{sound-standing}
-use Rattle.answer.specs.declared.asked.Asked.{Asked}
-use Rattle.answer.specs.declared.asked.Asked.the-variants.{Verdict, Refused}
+use Rattle.answer.specs.declared.asked.Asked.the-variants.{Refused}
 use Rattle.answer.specs.declared.evaluated.Evaluated.{Evaluated}
 use Rattle.answer.specs.Within.{within}
 use Rattle.answer.specs.Ready.{Ready}

@@ -1,8 +1,8 @@
 -- Demand 3: what run B answers. Assumes nothing.
 use Prim.Native.Nat.{ℕ, _≤_}
 use mathlib.Core.Path.{_≡_, refl, sym, ap, _∙_, subst}
-use mathlib.Core.Bool.{Bool, true, false}
-use mathlib.Core.List.{List, map}
+use mathlib.Core.Bool.{true}
+use mathlib.Core.List.{List}
 use native.Mathlib.Omega.{arith}
 use lib.ListN.{length, length-map}
 use lib.Dec.{leb}
@@ -11,18 +11,16 @@ use Rattle.calculus.specs.declared.answer.Answer.{Answer}
 use Rattle.calculus.specs.declared.answer.Answer.the-variants as answer
 use Rattle.calculus.specs.declared.truth.Truth.{Truth}
 use Rattle.calculus.specs.Answer.{demand}
-use Rattle.calculus.specs.Refusal.{unsound, buffer-too-short, budget-spent}
-use Rattle.calculus.specs.Row.{Row, mapRow, cellsOf}
-use Rattle.calculus.specs.Formula.{inked}
+use Rattle.calculus.specs.Refusal.{unsound, buffer-too-short}
+use Rattle.calculus.specs.Row.{Row, cellsOf}
 use Rattle.calculus.specs.Eval.{Outcome}
 use Rattle.calculus.specs.Order.{_⊑_}
-use Rattle.calculus.specs.Model.{Fill, Model, run, asked, plain}
+use Rattle.calculus.specs.Model.{Model, run, asked}
 use Rattle.calculus.proofs.Answers.{demand-done}
 use Rattle.calculus.proofs.Rows.{cells-map}
 use Rattle.calculus.proofs.Fills.{mapped-run}
 use Rattle.calculus.proofs.Certain.{runs-share}
 use Rattle.instance.specs.declared.header.Header.{Header}
-use Rattle.instance.specs.Rows.{areCells}
 use Rattle.instance.specs.Sound.{sound, rows}
 use Rattle.instance.specs.Run.{filledWords, modelOf}
 use Rattle.instance.proofs.Run.{ran, candidate-stands}
@@ -31,13 +29,12 @@ use Rattle.query.specs.Tree.{formulaOf}
 use Rattle.query.specs.Scope.{Scopes}
 use Rattle.query.specs.Check.{Checked, passed, refused, checkQuery}
 use Rattle.query.proofs.Passed.{passed-inked, count-within, are-cells, same-candidate}
-use Rattle.answer.specs.declared.asked.Asked.{Asked}
 use Rattle.answer.specs.declared.asked.Asked.the-variants.{Verdict, Refused}
 use Rattle.answer.specs.declared.evaluated.Evaluated.{Evaluated}
 use Rattle.answer.specs.declared.evaluated.Evaluated.the-variants as evaluated
 use Rattle.answer.specs.Within.{within}
 use Rattle.answer.specs.Ask.{ifPassed, evaluatedAs, answeredBy, askable, ask}
-use Rattle.answer.specs.Rerun.{Rerun, DemandThree}
+use Rattle.answer.specs.Rerun.{DemandThree}
 use Rattle.answer.proofs.Budget.{verdict, was-verdict}
 
 zero-not-one : _≡_ {A = ℕ} 0 1 → ⊥

@@ -1,18 +1,16 @@
 -- Asking one thing after another within a budget: what was said and paid so far, and what the next answer makes of it. A junction is two
 -- values, so the same laws serve it. Assumes nothing.
-use Prim.Native.Nat.{ℕ, _+_, _-_, _≤_, _<_}
-use mathlib.Core.Path.{_≡_, refl, sym, ap, _∙_}
+use Prim.Native.Nat.{ℕ, _+_, _-_, _≤_}
+use mathlib.Core.Path.{_≡_, refl, ap, _∙_}
 use mathlib.Core.Bool.{Bool, true, false, cond}
-use mathlib.Core.List.{List, [], _∷_}
 use native.Mathlib.Nat.{zero-add}
 use native.Mathlib.Omega.{arith}
 use Rattle.calculus.specs.declared.truth.Truth.{Truth}
 use Rattle.calculus.specs.declared.truth.Truth.the-variants.{False, Unknown, True}
 use Rattle.calculus.specs.Kleene.{Junction, conj, disj, join, unit}
-use Rattle.calculus.specs.Eval.{Outcome, settles, asked, joined, over}
+use Rattle.calculus.specs.Eval.{Outcome, settles, asked, joined}
 use Rattle.calculus.proofs.Bools.{never}
 use Rattle.calculus.proofs.Kleene.{join-comm, join-swap}
-use Rattle.answer.specs.declared.evaluated.Evaluated.{Evaluated}
 use Rattle.answer.specs.declared.evaluated.Evaluated.the-variants.{Verdict, Spent}
 use Rattle.answer.specs.Within.{within}
 use Rattle.answer.proofs.Budget.{spent, verdict, was-spent, was-verdict}

@@ -1,8 +1,8 @@
 -- Terms in a node's words. Assumes nothing.
 use Prim.Native.Nat.{ℕ, zero, suc, _+_, _-_, _≤_, _<_}
 use mathlib.Core.Path.{_≡_, refl, sym, ap, _∙_}
-use mathlib.Core.Bool.{Bool, true, false, _&&_, _||_}
-use mathlib.Core.List.{List, [], _∷_, _++_, map}
+use mathlib.Core.Bool.{true, _&&_}
+use mathlib.Core.List.{List, [], _∷_, _++_}
 use native.Mathlib.Nat.{add-zero, add-suc, suc-add}
 use native.Mathlib.Numerals.{add-one}
 use native.Mathlib.Omega.{arith}
@@ -10,7 +10,7 @@ use lib.ListN.{length, take, set}
 use lib.Seq.{take-suc-set}
 use lib.Dec.{leb, ltb}
 use borrow.Author.Tests.{le-leb, lt-leb, le-ltb, ltb-true}
-use Rattle.calculus.specs.Cell.{isConstant, constants}
+use Rattle.calculus.specs.Cell.{constants}
 use Rattle.calculus.specs.Formula.{Term, const, var, value, values, variables}
 use Rattle.query.specs.Words.{wordAt}
 use Rattle.query.specs.Tree.{variableBase, termOf, termsAt}

@@ -9,8 +9,6 @@ use Rattle.calculus.specs.declared.answer.Answer.the-variants as answer
 use Rattle.calculus.specs.Answer.{demand, after}
 use Rattle.calculus.specs.Refusal.{unsound, buffer-too-short, budget-spent}
 use Rattle.calculus.specs.Row.{cellsOf}
-use Rattle.calculus.specs.Formula.{Formula}
-use Rattle.calculus.specs.Eval.{Outcome}
 use Rattle.calculus.specs.Domain.{domain}
 use Rattle.calculus.specs.Model.{asked}
 use Rattle.instance.specs.declared.header.Header.{Header}

@@ -6,7 +6,7 @@ use mathlib.Core.List.{List}
 use lib.ListN.{length}
 use Rattle.calculus.specs.declared.truth.Truth.{Truth}
 use Rattle.calculus.specs.Order.{_⊑_, ofBool}
-use Rattle.calculus.specs.Model.{Fill, Model, run, plain, saysYes}
+use Rattle.calculus.specs.Model.{Fill, run, plain, saysYes}
 use Rattle.instance.specs.declared.header.Header.{Header}
 use Rattle.instance.specs.Run.{filledWords, modelOf, Ran}
 use Rattle.query.specs.Tree.{formulaOf}

@@ -1,7 +1,7 @@
 // Terms, and what an equality says.
 ghost use mathlib.Core.Path.{_≡_};
 ghost use mathlib.Core.Bool.{true};
-ghost use Prim.Native.Nat.{_+_, _<_, _≤_};
+ghost use Prim.Native.Nat.{_+_, _<_};
 ghost use lib.ListN.{length, take};
 ghost use Rattle.calculus.specs.Formula.{value, values, variables};
 ghost use Rattle.calculus.specs.Closed.{equality as equalityOf};

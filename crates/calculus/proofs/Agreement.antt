@@ -1,8 +1,8 @@
 -- With no null there is no unknown: the truth value is what two-valued logic says. Assumes nothing.
 use Prim.Native.Nat.{ℕ}
 use mathlib.Core.Path.{_≡_, refl, sym, ap, _∙_}
-use mathlib.Core.Bool.{Bool, true, false, _&&_, not, cond}
-use mathlib.Core.List.{List, [], _∷_, _++_, map}
+use mathlib.Core.Bool.{Bool, true, false, not, cond}
+use mathlib.Core.List.{List, [], _∷_}
 use lib.ListN.{set}
 use lib.Dec.{eqb}
 use Rattle.calculus.specs.declared.truth.Truth.{Truth}
@@ -10,10 +10,10 @@ use Rattle.calculus.specs.declared.truth.Truth.the-variants.{False, Unkn
 use Rattle.calculus.specs.Cell.{isConstant, allConstant}
 use Rattle.calculus.specs.Row.{Row, cellsOf}
 use Rattle.calculus.specs.Kleene.{Junction, conj, disj, join, negate}
-use Rattle.calculus.specs.Formula.{Term, Formula, atom, equal, negation, junction, quantified, value, values, termInked, inked}
+use Rattle.calculus.specs.Formula.{Formula, atom, equal, negation, junction, quantified, value, values, termInked, inked}
 use Rattle.calculus.specs.Eval.{Outcome, over, eval}
 use Rattle.calculus.specs.Unify.{under, unifies}
-use Rattle.calculus.specs.Domain.{domain, distinct}
+use Rattle.calculus.specs.Domain.{domain}
 use Rattle.calculus.specs.Closed.{tuples, some, identical, stands, equality, closed}
 use Rattle.calculus.specs.TwoValued.{joinB, overB, says}
 use Rattle.calculus.specs.Order.{ofBool}

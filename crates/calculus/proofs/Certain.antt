@@ -6,9 +6,8 @@ use mathlib.Core.List.{List, [], _∷_, _++_, map}
 use native.Mathlib.Omega.{arith}
 use lib.ListN.{length, replicate}
 use Rattle.calculus.specs.declared.truth.Truth.{Truth}
-use Rattle.calculus.specs.declared.truth.Truth.the-variants.{False, Unknown, True}
 use Rattle.calculus.specs.Cell.{isConstant, isCell, allConstant}
-use Rattle.calculus.specs.Row.{mapRow, cellsOf}
+use Rattle.calculus.specs.Row.{cellsOf}
 use Rattle.calculus.specs.Formula.{Formula, inked, assignment, variables}
 use Rattle.calculus.specs.Unify.{Valuation, under}
 use Rattle.calculus.specs.Order.{_⊑_, unknown, alike, _⊑ₒ_, ofBool}
@@ -17,7 +16,7 @@ use Rattle.calculus.proofs.Bools.{both, and-true}
 use Rattle.calculus.proofs.Rows.{cells-map}
 use Rattle.calculus.proofs.Valuations.{under-keeps, under-constant}
 use Rattle.calculus.proofs.Agreement.{two-valued}
-use Rattle.calculus.proofs.Fills.{Mapped, mapped-kept, fills-kept}
+use Rattle.calculus.proofs.Fills.{mapped-kept, fills-kept}
 
 -- ---- constants of rows and candidate
 

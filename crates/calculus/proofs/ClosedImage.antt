@@ -1,18 +1,17 @@
 -- A map of cells that leaves constants as they are makes of a closed instance an image: rows that stood still stand, rows that did not unify
 -- still do not, and the values are the images of the values. Assumes nothing.
-use Prim.Native.Nat.{ℕ, _+_, _≤_}
+use Prim.Native.Nat.{ℕ, _+_}
 use native.Mathlib.Nat.{le-of-eq}
 use mathlib.Core.Path.{_≡_, refl, sym, ap, _∙_, subst}
 use mathlib.Core.Bool.{Bool, true, false, _&&_, cond}
-use mathlib.Core.List.{List, [], _∷_, map, map-map}
+use mathlib.Core.List.{List, map, map-map}
 use lib.ListN.{length, length-map}
 use lib.Dec.{eqb}
 use borrow.Author.Tests.{eqb-true, eq-eqb}
-use Rattle.calculus.specs.declared.truth.Truth.{Truth}
 use Rattle.calculus.specs.declared.truth.Truth.the-variants.{False, Unknown, True}
 use Rattle.calculus.specs.Cell.{isConstant}
 use Rattle.calculus.specs.Row.{Row, mapRow, cellsOf}
-use Rattle.calculus.specs.Unify.{Unify, under, unifies}
+use Rattle.calculus.specs.Unify.{under, unifies}
 use Rattle.calculus.specs.Formula.{Formula, inked}
 use Rattle.calculus.specs.Eval.{eval}
 use Rattle.calculus.specs.Domain.{distinct, domain}

@@ -1,16 +1,15 @@
 -- Every reading of the table holds: one test that computes over the whole table. Assumes nothing.
 use Prim.Native.Nat.{ℕ}
-use mathlib.Core.Path.{_≡_, refl, sym, ap, _∙_}
+use mathlib.Core.Path.{_≡_, refl, ap, _∙_}
 use mathlib.Core.Bool.{Bool, true, false, not, _&&_}
-use mathlib.Core.List.{List, [], _∷_, map, _++_}
-use lib.ListN.{set, getD, replicate, length}
+use mathlib.Core.List.{List, [], _∷_}
 use lib.Dec.{T, eqb, eqb→eq}
 use borrow.Author.Tests.{eq-eqb}
 use Rattle.calculus.specs.declared.truth.Truth.{Truth}
 use Rattle.calculus.specs.declared.truth.Truth.the-variants.{False, True}
 use Rattle.calculus.specs.Cell.{isCell, isConstant, null, put}
 use Rattle.calculus.specs.Row.{Row, cellsOf}
-use Rattle.calculus.specs.Eval.{Outcome, eval}
+use Rattle.calculus.specs.Eval.{eval}
 use Rattle.calculus.specs.Unify.{unifies, unifiesWith}
 use Rattle.calculus.specs.Domain.{without, distinct}
 use Rattle.calculus.specs.Closed.{tuples, some, identical, stands, equality}

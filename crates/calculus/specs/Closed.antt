@@ -10,7 +10,7 @@ use Rattle.calculus.specs.Cell.{isConstant}
 use Rattle.calculus.specs.Row.{Row}
 use Rattle.calculus.specs.Unify.{unifies}
 use Rattle.calculus.specs.Domain.{domain}
-use Rattle.calculus.specs.Eval.{Outcome, Structure}
+use Rattle.calculus.specs.Eval.{Structure}
 
 -- the tuples of relation r, in the order of their rows
 unfoldable pub tuples : ℕ → List Row → List (List ℕ)

@@ -1,21 +1,21 @@
 -- Reading the fields of a record: the bits of its map that stand are counted, and so many fields are read in a row. Assumes nothing.
 use Prim.Native.Nat.{ℕ, zero, suc, _+_, _-_, _*_, _/_, _%_, _^_, _≤_, _<_, max}
 use mathlib.Core.Path.{_≡_, refl, ap, _∙_}
-use mathlib.Core.Bool.{Bool, true, false, cond, _&&_, _||_}
+use mathlib.Core.Bool.{Bool, true, false, cond}
 use mathlib.Core.List.{List, [], _∷_}
 use native.Mathlib.Nat.{lt-of-lt-of-le, le-trans}
 use native.Mathlib.Omega.{arith}
 use lib.ListN.{length, drop, length-drop}
 use lib.Seq.{drop-drop}
-use lib.Dec.{leb, ltb, eqb}
+use lib.Dec.{eqb}
 use lib.Pow.{pow-mono}
 use lib.Count.{ones, ones-step, ones-le, leadingZeros, leading-length}
-use borrow.Author.Tests.{ltb-true, leb-true, eqb-true, eqb-false}
+use borrow.Author.Tests.{eqb-true, eqb-false}
 use Rattle.calculus.specs.declared.answer.Answer.{Answer}
 use Rattle.calculus.specs.declared.answer.Answer.the-variants.{Done, Refused}
-use Rattle.calculus.specs.Cell.{isCell, markOf, constants, nulls}
+use Rattle.calculus.specs.Cell.{isCell, markOf, nulls}
 use Rattle.calculus.specs.Refusal.{cut-short, not-a-cell}
-use Rattle.card.specs.Parse.{Parsed, read, refused, andThen, ruled}
+use Rattle.card.specs.Parse.{Parsed, read, refused, andThen}
 use Rattle.card.specs.Format.{Field, written, blank, fieldAt, readField, readFields}
 use Rattle.card.specs.Blanks.{blanksIn, highestIn, numbered}
 use Rattle.decode.specs.Measure.{readWritten, highestOf, measuredFields, writtenOf}

@@ -1,20 +1,20 @@
 -- Reading records: what a record that was read says of its bytes, and what the first pass answers of one record and of the records behind it.
 -- Assumes nothing.
-use Prim.Native.Nat.{ℕ, zero, suc, _+_, _-_, _*_, _^_, _≤_, _<_, max}
+use Prim.Native.Nat.{ℕ, suc, _+_, _-_, _*_, _^_, _≤_, _<_, max}
 use mathlib.Core.Path.{_≡_, refl, sym, ap, _∙_}
-use mathlib.Core.Bool.{true, and-eq-true-iff}
+use mathlib.Core.Bool.{true}
 use mathlib.Core.List.{List, [], _∷_}
 use native.Mathlib.Omega.{arith}
 use lib.ListN.{length, drop, getD}
 use lib.Seq.{drop-drop}
-use lib.Dec.{leb, ltb, eqb}
+use lib.Dec.{ltb}
 use lib.Count.{ones}
-use borrow.Author.Tests.{ltb-true, leb-true, eqb-true, lt-ltb, le-ltb}
+use borrow.Author.Tests.{ltb-true, lt-ltb, le-ltb}
 use Rattle.calculus.specs.declared.answer.Answer.{Answer}
 use Rattle.calculus.specs.declared.answer.Answer.the-variants.{Done, Refused}
 use Rattle.calculus.specs.Cell.{nulls}
 use Rattle.calculus.specs.Refusal.{cut-short, no-such-relation, bit-beyond-arity}
-use Rattle.instance.specs.Header.{arityOf, aritiesStand, isArity, maxColumns}
+use Rattle.instance.specs.Header.{arityOf}
 use Rattle.decode.specs.declared.measure.Measured.{Measured}
 use Rattle.decode.specs.declared.measure.Measured.the-variants as measured
 use Rattle.decode.specs.declared.measure.Needed.{Needed}

@@ -1,7 +1,7 @@
 -- Writing the rows of a card, one record a turn. Assumes nothing.
-use Prim.Native.Nat.{ℕ, zero, suc, _+_, _-_, _*_, _≤_, _<_}
+use Prim.Native.Nat.{ℕ, suc, _+_, _-_, _*_, _≤_, _<_}
 use mathlib.Core.Path.{_≡_, refl, sym, ap, subst, _∙_}
-use mathlib.Core.Bool.{Bool, true, false}
+use mathlib.Core.Bool.{true}
 use mathlib.Core.List.{List, [], _∷_, _++_, append-assoc, append-nil}
 use native.Mathlib.Nat.{add-zero}
 use native.Mathlib.Omega.{arith}
@@ -9,14 +9,14 @@ use lib.Count.{ones}
 use lib.ListN.{length, getD, take, drop, length-append, length-drop, take-append-drop}
 use lib.Seq.{drop-drop, getD-drop, length-take-le, take-at, drop-at}
 use Rattle.calculus.specs.Cell.{nulls}
-use Rattle.instance.specs.Header.{arityOf, maxColumns}
+use Rattle.instance.specs.Header.{arityOf}
 use Rattle.instance.specs.Rows.{wordsOf}
 use Rattle.card.specs.Parse.{Parsed, read, refused, andThen, isRead, got}
 use Rattle.card.specs.Format.{Field, Record, readFields, readRecord, readRecords}
 use Rattle.card.specs.Blanks.{blanks, blanksIn, numbered, numberedRows}
 use Rattle.decode.specs.Write.{WriteRows, wordsRead}
 use Rattle.decode.proofs.Fields.{written-or-blank, numbered-length}
-use Rattle.decode.proofs.Records.{RecordRead, record-read}
+use Rattle.decode.proofs.Records.{record-read}
 use Rattle.decode.proofs.Written.{allRead, cellsRead, never}
 
 module _ (n : ℕ) (ars : List ℕ) where

@@ -1,24 +1,20 @@
 -- What the writer's answer says: the size of a card, and the card as its head and its records. Assumes nothing.
 use Prim.Native.Nat.{ℕ, _+_, _-_, _*_, _/_, _%_, _≤_, _<_}
-use mathlib.Core.Path.{_≡_, refl, sym, _∙_}
-use mathlib.Core.Bool.{Bool, true, false, _&&_}
+use mathlib.Core.Path.{_≡_, sym, _∙_}
+use mathlib.Core.Bool.{true, false}
 use mathlib.Core.List.{List, [], _∷_, _++_, append-assoc}
 use native.Mathlib.Omega.{arith}
 use lib.ListN.{length, take, drop, length-append, length-take}
 use lib.Seq.{take-at, drop-at, drop-drop, length-take-le}
-use lib.Dec.{leb}
 use borrow.Rule.Slice.PartMut.{putMid}
-use borrow.Author.Tests.{le-leb, lt-leb, ltb-true, ltb-false}
+use borrow.Author.Tests.{le-leb, lt-leb}
 use Rattle.calculus.specs.declared.answer.Answer.the-variants.{Done, Refused}
 use Rattle.calculus.specs.Refusal.{unsound, output-too-short}
 use Rattle.instance.specs.declared.header.Header.{Header}
-use Rattle.instance.specs.declared.scan.Scanned.the-variants.{Rows}
-use Rattle.instance.specs.Header.{headerStands, arityOf, maxRelations, maxColumns}
-use Rattle.instance.specs.Sound.{sound, rows, scanned, tally}
-use Rattle.calculus.proofs.Bools.{both}
+use Rattle.instance.specs.Header.{maxRelations}
+use Rattle.instance.specs.Sound.{sound, rows}
 use Rattle.instance.proofs.Rows.{headed, parts}
 use Rattle.card.specs.Encode.{headBytes, recordsBytes, cardBytes, encoded, encodedBytes}
-use Rattle.instance.specs.Header.{aritiesStand}
 use Rattle.instance.proofs.Parts.{part-to-end, put-to-end}
 use Rattle.encode.proofs.RecordSteps.{records-bytes, records-size}
 

@@ -1,6 +1,6 @@
 -- What the fills leave of the candidate is the book's candidate. Assumes nothing.
 use Prim.Native.Nat.{ℕ}
-use mathlib.Core.Path.{_≡_, refl, sym, ap, _∙_}
+use mathlib.Core.Path.{_≡_, refl, ap, _∙_}
 use mathlib.Core.Bool.{true}
 use mathlib.Core.List.{List, [], _∷_, map}
 use Rattle.calculus.specs.declared.answer.Answer.{Answer}
@@ -11,7 +11,7 @@ use Rattle.calculus.specs.Fill.{substitute}
 use Rattle.calculus.specs.Model.{Fill, Model, answerOf, next, run}
 use Rattle.instance.specs.declared.header.Header.{Header}
 use Rattle.instance.specs.Sound.{sound}
-use Rattle.instance.specs.Substitute.{substituted, substitutedWords}
+use Rattle.instance.specs.Substitute.{substitutedWords}
 use Rattle.instance.specs.Run.{modelOf}
 use Rattle.instance.proofs.Run.{Follows, follows-answer, follows-next}
 use Rattle.rerun.specs.Fills.{filledCandidate}

@@ -1,7 +1,7 @@
 -- The three ends of a rerun: the answers have no place, run A is refused, or both runs get a verdict. Assumes nothing.
 use Prim.Native.Nat.{ℕ, _≤_, _<_}
-use mathlib.Core.Path.{_≡_, refl, sym, ap, ap₂, subst, _∙_}
-use mathlib.Core.Bool.{true, false}
+use mathlib.Core.Path.{_≡_, refl, sym, ap, _∙_}
+use mathlib.Core.Bool.{true}
 use mathlib.Core.List.{List, _++_}
 use native.Mathlib.Omega.{arith}
 use borrow.Author.Tests.{le-leb, lt-leb}
@@ -12,7 +12,7 @@ use Rattle.calculus.specs.declared.truth.Truth.{Truth}
 use Rattle.calculus.specs.Answer.{after}
 use Rattle.calculus.specs.Refusal.{output-too-short}
 use Rattle.calculus.specs.Domain.{domain}
-use Rattle.calculus.specs.Model.{run, answers}
+use Rattle.calculus.specs.Model.{run}
 use Rattle.instance.specs.declared.header.Header.{Header}
 use Rattle.instance.specs.Header.{maxColumns}
 use Rattle.instance.specs.Sound.{sound, rows}
@@ -25,9 +25,9 @@ use Rattle.answer.specs.Ask.{askable, ask, askedBuffer}
 use Rattle.answer.specs.Rerun.{Rerun}
 use Rattle.answer.proofs.RerunLaws.{verdict-asked, demand-three}
 use Rattle.rerun.specs.declared.reran.Reran.{Reran}
-use Rattle.rerun.specs.declared.reran.Reran.the-variants.{Verdicts, Refused}
+use Rattle.rerun.specs.declared.reran.Reran.the-variants.{Refused}
 use Rattle.rerun.specs.Fills.{fillsOf, filledCandidate, stored}
-use Rattle.rerun.specs.Rerun.{bothRuns, secondOf, goesOn, book, bookWords, start, runA, runB, listA, begun, reran, reranWords, reranCandidate, reranAnswers, reranBuffer, Claim}
+use Rattle.rerun.specs.Rerun.{bothRuns, secondOf, bookWords, runA, runB, listA, begun, reran, reranWords, reranCandidate, reranAnswers, reranBuffer, Claim}
 use Rattle.rerun.proofs.BookLaws.{candidate-run}
 
 -- an ask leaves no shorter list

@@ -1,5 +1,5 @@
 -- `host::plotask_ask` meets its contract: a header slice of another length is refused, and any other makes the library's call. Assumes nothing.
-use mathlib.Core.Path.{_≡_, sym, ap, _∙_}
+use mathlib.Core.Path.{sym, ap, _∙_}
 use Rattle.answer.specs.declared.asked.Asked.{Asked}
 use Rattle.answer.specs.declared.asked.Asked.the-variants.{Refused}
 use Rattle.answer.specs.Ask.{ask, askedBuffer}

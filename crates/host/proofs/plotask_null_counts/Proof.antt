@@ -1,5 +1,5 @@
 -- `host::plotask_null_counts` meets its contract: a header slice of another length is refused, and any other makes the library's call. Assumes nothing.
-use mathlib.Core.Path.{_≡_, sym, ap, _∙_}
+use mathlib.Core.Path.{sym, ap, _∙_}
 use Rattle.calculus.specs.declared.answer.Answer.{Answer}
 use Rattle.calculus.specs.Answer.{numberOf}
 use Rattle.instance.specs.NullCounts.{counted, countedWords}

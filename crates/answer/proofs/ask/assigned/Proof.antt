@@ -3,7 +3,6 @@ use Prim.Native.Nat.{ℕ, _≤_, _-_}
 use mathlib.Core.List.{List}
 use mathlib.Core.Path.{_≡_, refl, ap, _∙_}
 use native.Mathlib.Omega.{arith}
-use borrow.Author.Needs.{needs}
 use lib.ListN.{length, getD, set}
 use Rattle.answer.proofs.Assigned.{partly, partly-more, partly-all}
 use Rattle.answer.proofs.ask.assigned.Statement.{statement}

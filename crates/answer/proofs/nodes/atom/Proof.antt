@@ -1,5 +1,5 @@
 -- `answer::nodes::atom` meets its contract: an atom costs 1 plus the rows of its relation. Assumes nothing.
-use mathlib.Core.Path.{_≡_, sym, ap, _∙_}
+use mathlib.Core.Path.{sym, ap, _∙_}
 use Prim.Native.Nat.{ℕ, _+_}
 use native.Mathlib.Omega.{arith}
 use lib.ListN.{getD}

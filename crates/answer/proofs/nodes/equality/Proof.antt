@@ -1,5 +1,5 @@
 -- `answer::nodes::equality` meets its contract: an equality costs 1. Assumes nothing.
-use mathlib.Core.Path.{_≡_, sym, ap, _∙_}
+use mathlib.Core.Path.{sym, ap, _∙_}
 use native.Mathlib.Omega.{arith}
 use Prim.Native.Nat.{ℕ}
 use Rattle.calculus.specs.declared.truth.Truth.{Truth}

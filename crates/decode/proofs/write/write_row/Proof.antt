@@ -1,14 +1,12 @@
 -- `decode::write::write_row` meets its contract. The loop's invariant: the words written so far and the cells that are still to be read make up
 -- the row, and the part's other words stay. Assumes nothing.
-use Prim.Native.Nat.{ℕ, suc, _+_, _-_, _/_, _%_, _≤_, _<_}
-use mathlib.Core.Path.{_≡_, refl, sym, ap, _∙_}
+use Prim.Native.Nat.{_+_, _-_, _%_, _≤_, _<_}
+use mathlib.Core.Path.{_≡_, _∙_}
 use mathlib.Core.Logic.{⊎-elim}
-use mathlib.Core.List.{List, [], _∷_, _++_}
 use native.Mathlib.Omega.{arith}
-use borrow.Author.Needs.{needs}
 use lib.ListN.{length, length-set}
 use lib.Seq.{drop-set-lt}
-use Rattle.decode.proofs.Written.{cellsRead, allRead, WritingRow, row-starts, written-step, blank-step, row-ends}
+use Rattle.decode.proofs.Written.{WritingRow, row-starts, written-step, blank-step, row-ends}
 use Rattle.decode.proofs.write.write_row.Statement.{statement}
 use Rattle.decode.proofs.write.write_row.Tie as tie
 use Rattle.decode.proofs.write.write_row.Reads as reads

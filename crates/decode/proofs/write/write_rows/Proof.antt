@@ -1,10 +1,9 @@
 -- `decode::write::write_rows` meets its contract. The loop's invariant: the rows written so far and those that are still to be read make up the
 -- card's words. Assumes nothing.
-use Prim.Native.Nat.{ℕ, _+_, _-_, _*_, _≤_, _<_}
-use mathlib.Core.Path.{_≡_, refl, sym, ap, _∙_}
+use Prim.Native.Nat.{ℕ, _+_, _-_}
 use native.Mathlib.Omega.{arith}
 use borrow.Author.Needs.{needs}
-use lib.ListN.{length, getD, length-drop}
+use lib.ListN.{getD, length-drop}
 use Rattle.instance.proofs.Parts.{part-to-end, put-to-end}
 use Rattle.decode.proofs.WritingRows.{WritingRows, Found, find, rows-start, rows-end}
 use Rattle.decode.proofs.write.write_rows.Statement.{statement}

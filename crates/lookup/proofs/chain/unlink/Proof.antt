@@ -1,6 +1,6 @@
 -- `lookup::chain::unlink` meets its contract: the words before place i are their values, and those from it on are as they were. Assumes
 -- nothing.
-use Prim.Native.Nat.{ℕ, _≤_, _-_, _+_}
+use Prim.Native.Nat.{ℕ, _≤_, _-_}
 use mathlib.Core.Path.{_≡_, refl, sym, ap, _∙_}
 use mathlib.Core.List.{List}
 use native.Mathlib.Omega.{arith}

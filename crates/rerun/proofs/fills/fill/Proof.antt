@@ -6,7 +6,7 @@ use native.Mathlib.Omega.{arith}
 use borrow.Author.Needs.{needs}
 use borrow.Author.Tests.{leb-true}
 use Rattle.calculus.specs.declared.answer.Answer.{Answer}
-use Rattle.calculus.specs.declared.answer.Answer.the-variants.{Done, Refused}
+use Rattle.calculus.specs.declared.answer.Answer.the-variants.{Done}
 use Rattle.calculus.specs.Answer.{after}
 use lib.Dec.{leb}
 use Rattle.calculus.specs.Cell.{nulls, put}
