@@ -6,7 +6,8 @@ use mathlib.Core.List.{List, []}
 use native.Mathlib.Nat.{zero-add}
 use native.Mathlib.Numerals.{add-one}
 use native.Mathlib.Omega.{arith}
-use lib.ListN.{length, getD, set, drop}
+use lib.ListN.{length, getD, set, drop, List·getD-eq-default}
+use lib.Dec.{eqb}
 use lib.Seq.{drop-cons, drop-length, set-set, set-getD}
 use Rattle.calculus.specs.declared.truth.Truth.{Truth}
 use Rattle.calculus.specs.Kleene.{Junction, join, unit, negate}
@@ -19,29 +20,39 @@ use Rattle.instance.proofs.Rows.{headed}
 use Rattle.lookup.proofs.Tuples.{tuples-few}
 use Rattle.query.specs.Check.{isTerm}
 use Rattle.instance.specs.Rows.{rowsFrom}
-use Rattle.query.specs.Words.{Kind, rowStands, equals, noKind, negates, joins, ranges, kindOf, wordAt, nodeCount}
+use Rattle.query.specs.Words.{Kind, kinds, rowStands, equals, noKind, negates, joins, ranges, kindOf, wordAt, nodeCount}
 use Rattle.query.specs.Tree.{formulaBy, formulaAt, termOf, termsAt}
 use Rattle.query.specs.Passed.{NodeBy}
 use Rattle.answer.specs.declared.evaluated.Evaluated.{Evaluated}
 use Rattle.answer.specs.declared.evaluated.Evaluated.the-variants.{Verdict, Spent}
 use Rattle.answer.specs.Within.{within}
-use Rattle.answer.specs.Ready.{Ready, outcomeAt, Right}
+use Rattle.answer.specs.Ready.{Ready, outcomeAt, Right, junctionOf}
 use Rattle.answer.proofs.Budget.{spent, verdict, was-spent, was-verdict}
 use Rattle.answer.proofs.Steps.{sofar, unit-left, start, next-spent, next-low, next-settled, next-more, end, last-spent, last-verdict}
 
--- a number that is none of 1 to 7 is no kind
-pub no-other-kind :
-    (w : ℕ) → (w ≡ 1 → ⊥) → (w ≡ 2 → ⊥) → (w ≡ 3 → ⊥) → (w ≡ 4 → ⊥) → (w ≡ 5 → ⊥) → (w ≡ 6 → ⊥) → (w ≡ 7 → ⊥) → kindOf w ≡ noKind
+-- The kinds by their numbers: 4 and 5 join two children, 6 and 7 range over values, and none is above 7.
+pub joins-by : (w : ℕ) → 1 ≤ w → w < 6 → (w ≡ 1 → ⊥) → (w ≡ 2 → ⊥) → (w ≡ 3 → ⊥) → kindOf w ≡ joins (junctionOf (eqb w 4))
 unfolding kindOf
-no-other-kind zero a b c d e f g = refl
-no-other-kind (suc zero) a b c d e f g = absurd (a refl)
-no-other-kind (suc (suc zero)) a b c d e f g = absurd (b refl)
-no-other-kind (suc (suc (suc zero))) a b c d e f g = absurd (c refl)
-no-other-kind (suc (suc (suc (suc zero)))) a b c d e f g = absurd (d refl)
-no-other-kind (suc (suc (suc (suc (suc zero))))) a b c d e f g = absurd (e refl)
-no-other-kind (suc (suc (suc (suc (suc (suc zero)))))) a b c d e f g = absurd (f refl)
-no-other-kind (suc (suc (suc (suc (suc (suc (suc zero))))))) a b c d e f g = absurd (g refl)
-no-other-kind (suc (suc (suc (suc (suc (suc (suc (suc w)))))))) a b c d e f g = refl
+joins-by zero h l a b c = absurd (omega arith)
+joins-by (suc zero) h l a b c = absurd (a refl)
+joins-by (suc (suc zero)) h l a b c = absurd (b refl)
+joins-by (suc (suc (suc zero))) h l a b c = absurd (c refl)
+joins-by (suc (suc (suc (suc zero)))) h l a b c = refl
+joins-by (suc (suc (suc (suc (suc zero))))) h l a b c = refl
+joins-by (suc (suc (suc (suc (suc (suc w)))))) h l a b c = absurd (omega arith)
+
+pub ranges-by : (w : ℕ) → 6 ≤ w → w < 8 → kindOf w ≡ ranges (junctionOf (eqb w 7))
+unfolding kindOf
+ranges-by w h l = go (w - 6) refl
+  where
+    go : (d : ℕ) → w - 6 ≡ d → kindOf w ≡ ranges (junctionOf (eqb w 7))
+    go zero e = let is : w ≡ 6 = omega arith in rw is
+    go (suc zero) e = let is : w ≡ 7 = omega arith in rw is
+    go (suc (suc d)) e = absurd (omega arith)
+
+pub none-above : (w : ℕ) → 8 ≤ w → kindOf w ≡ noKind
+unfolding kindOf
+none-above w h = List·getD-eq-default kinds noKind h
 
 -- what a node that stands says of its children, by its kind
 pub stands-by :

@@ -8,7 +8,7 @@ use lib.ListN.{length, getD, set, length-set}
 use lib.Seq.{set-getD}
 use Rattle.query.specs.Words.{noKind, negates, joins, ranges, kindOf, wordAt, nodeCount}
 use Rattle.answer.specs.Ready.{junctionOf}
-use Rattle.answer.proofs.Children.{no-other-kind, stands-by, negated-spent, negated-verdict, both-left-spent, both-settled, both-low, both-right-spent, both-verdict, right-low, Walking, set-again, set-back, walk-starts, walk-ends, walk-spent, walk-settled, walk-more}
+use Rattle.answer.proofs.Children.{joins-by, ranges-by, none-above, stands-by, negated-spent, negated-verdict, both-left-spent, both-settled, both-low, both-right-spent, both-verdict, right-low, Walking, set-again, set-back, walk-starts, walk-ends, walk-spent, walk-settled, walk-more}
 use borrow.Fn.Kinds.{In}
 use borrow.Fn.PlainCycle.{Measures, is, falls, and}
 use Rattle.answer.proofs.nodes.both.Reads as both
@@ -199,20 +199,18 @@ unfolding kindOf
 evaluate-negated-requires t c κs = (omega (arith, c .before .before .before .before .before .before .pre .0), (c .before .before .before .before .before .before .pre .1, ap kindOf (sym (c .before .before .word .ensures) ∙ c .before .match .keys3)))
 
 evaluate-both-requires : (t : ℕ) → evaluate-lts.Need-both-requires (evaluate-claims t) (evaluate-at t) evaluate.Post
-unfolding kindOf
-evaluate-both-requires t c κs = (omega (arith, c .before .before .before .before .before .before .pre .0), (c .before .before .before .before .before .before .pre .1, ap kindOf (sym (c .before .before .word .ensures) ∙ c .before .match .keys4)))
-
-evaluate-both-requires-2 : (t : ℕ) → evaluate-lts.Need-both-requires-2 (evaluate-claims t) (evaluate-at t) evaluate.Post
-unfolding kindOf
-evaluate-both-requires-2 t c κs = (omega (arith, c .before .before .before .before .before .before .pre .0), (c .before .before .before .before .before .before .pre .1, ap kindOf (sym (c .before .before .word .ensures) ∙ c .before .match .keys5)))
+evaluate-both-requires t c κs =
+    let rest = c .before .before .before in
+    let start = rest .before .before .before .before .before in
+    let is = joins-by (rest .before .word .result) (c .before .before .if1 .left) (c .before .if2 .taken) (rest .match .rest .0 .0 .1) (rest .match .rest .0 .1) (rest .match .rest .1) in
+    (omega (arith, start .pre .0), (start .pre .1, ap kindOf (sym (rest .before .word .ensures)) ∙ is))
 
 evaluate-walk-requires : (t : ℕ) → evaluate-lts.Need-walk-requires (evaluate-claims t) (evaluate-at t) evaluate.Post
-unfolding kindOf
-evaluate-walk-requires t c κs = (omega (arith, c .before .before .before .before .before .before .pre .0), (c .before .before .before .before .before .before .pre .1, ap kindOf (sym (c .before .before .word .ensures) ∙ c .before .match .keys6)))
-
-evaluate-walk-requires-2 : (t : ℕ) → evaluate-lts.Need-walk-requires-2 (evaluate-claims t) (evaluate-at t) evaluate.Post
-unfolding kindOf
-evaluate-walk-requires-2 t c κs = (omega (arith, c .before .before .before .before .before .before .pre .0), (c .before .before .before .before .before .before .pre .1, ap kindOf (sym (c .before .before .word .ensures) ∙ c .before .match .keys7)))
+evaluate-walk-requires t c κs =
+    let rest = c .before .before .before .before in
+    let start = rest .before .before .before .before .before in
+    let is = ranges-by (rest .before .word .result) (c .before .before .if2 .left) (c .before .if3 .taken) in
+    (omega (arith, start .pre .0), (start .pre .1, ap kindOf (sym (rest .before .word .ensures)) ∙ is))
 
 evaluate-returns : (t : ℕ) → evaluate-lts.Need-returns (evaluate-claims t) (evaluate-at t) evaluate.Post
 evaluate-returns t c = (refl, c .atom .ensures)
@@ -227,20 +225,21 @@ evaluate-returns-4 : (t : ℕ) → evaluate-lts.Need-returns-4 (evaluate-claims 
 evaluate-returns-4 t c = c .both .ensures
 
 evaluate-returns-5 : (t : ℕ) → evaluate-lts.Need-returns-5 (evaluate-claims t) (evaluate-at t) evaluate.Post
-evaluate-returns-5 t c = c .both2 .ensures
+evaluate-returns-5 t c = c .walk .ensures
 
 evaluate-returns-6 : (t : ℕ) → evaluate-lts.Need-returns-6 (evaluate-claims t) (evaluate-at t) evaluate.Post
-evaluate-returns-6 t c = c .walk .ensures
+unfolding kindOf
+evaluate-returns-6 t c =
+    let word = c .before .before in
+    let ev = word .before .before .before .before .pre .1 in
+    let none : word .word .result ≡ 0 = omega (arith, c .if1 .taken) in
+    absurd (stands-by _ _ _ _ _ _ _ noKind (ev .ready) (ev .known) (ap kindOf (sym (word .word .ensures) ∙ none)))
 
 evaluate-returns-7 : (t : ℕ) → evaluate-lts.Need-returns-7 (evaluate-claims t) (evaluate-at t) evaluate.Post
-evaluate-returns-7 t c = c .walk2 .ensures
-
-evaluate-returns-8 : (t : ℕ) → evaluate-lts.Need-returns-8 (evaluate-claims t) (evaluate-at t) evaluate.Post
-evaluate-returns-8 t c =
-    let start = c .before .before .before .before .before in
-    let ev = start .pre .1 in
-    let none = ap kindOf (sym (c .before .word .ensures)) ∙ no-other-kind (c .before .word .result) (c .match .rest .0 .0 .0 .0 .0 .0 .1) (c .match .rest .0 .0 .0 .0 .0 .1) (c .match .rest .0 .0 .0 .0 .1) (c .match .rest .0 .0 .0 .1) (c .match .rest .0 .0 .1) (c .match .rest .0 .1) (c .match .rest .1) in
-    absurd (stands-by _ _ _ _ _ _ _ noKind (ev .ready) (ev .known) none)
+evaluate-returns-7 t c =
+    let word = c .before .before .before .before in
+    let ev = word .before .before .before .before .pre .1 in
+    absurd (stands-by _ _ _ _ _ _ _ noKind (ev .ready) (ev .known) (ap kindOf (sym (word .word .ensures)) ∙ none-above (word .word .result) (c .if3 .left)))
 
 negated-word-requires : (t : ℕ) → negated-lts.Need-word-requires (negated-claims t) (negated-at t) negated.Post
 negated-word-requires t c κs = (c .before .before .before .pre .1 .0 .known, omega arith)
@@ -507,17 +506,14 @@ pub +both+evaluate+negated+walk-spec : {M : Type 1} → statement M
     (evaluate-equality-requires t)
     (evaluate-negated-requires t)
     (evaluate-both-requires t)
-    (evaluate-both-requires-2 t)
     (evaluate-walk-requires t)
-    (evaluate-walk-requires-2 t)
     (evaluate-returns t)
     (evaluate-returns-2 t)
     (evaluate-returns-3 t)
     (evaluate-returns-4 t)
     (evaluate-returns-5 t)
     (evaluate-returns-6 t)
-    (evaluate-returns-7 t)
-    (evaluate-returns-8 t))
+    (evaluate-returns-7 t))
     (λ t. negated-lts.spec (
       word-reads.Asked,
       word-reads.Learnt,
