@@ -1,0 +1,309 @@
+// Questions: the readings, what a wrong program would say instead, and the refusals.
+ghost use Prim.Native.Nat.{_≤_};
+use super::question::NONE;
+use super::question::flat;
+use super::show;
+use answer::ask::ask;
+use instance::header::Header;
+use instance::substitute::substitute;
+
+// One sheet of one column.
+fn one_sheet(used: u32) -> Header {
+    Header {
+        relations: 1,
+        arities: [1, 0, 0, 0, 0, 0, 0, 0],
+        used,
+    }
+}
+
+// Two sheets of one column.
+fn two_sheets(used: u32) -> Header {
+    Header {
+        relations: 2,
+        arities: [1, 1, 0, 0, 0, 0, 0, 0],
+        used,
+    }
+}
+
+// Asks, and shows the answer and the working list that is left.
+fn asked(name: &[u8], header: Header, plot: &[u32], query: &[u32], candidate: &[u32], budget: u32) {
+    let mut list = [9u32; 4];
+    let answer = ask(header, plot, query, candidate, &mut list, budget);
+    show::asked(name, answer);
+    show::words(&list);
+}
+
+// A question of so many nodes.
+fn one(
+    name: &[u8],
+    header: Header,
+    plot: &[u32],
+    nodes: [[u32; 8]; 7],
+    count: usize,
+    candidate: &[u32],
+    budget: u32,
+)
+    requires { ⌜ count ≤ 7 ⌝ }
+{
+    let words = flat(nodes);
+    asked(name, header, plot, &words[..count * 8], candidate, budget);
+}
+
+// Sheet 0 has the row (201), sheet 1 the row (m1).
+const CHANNELS: [u32; 4] = [0, 201, 1, 1_000_001];
+
+fn channels(name: &[u8], query: &[u32], candidate: &[u32], budget: u32) {
+    asked(name, two_sheets(4), &CHANNELS, query, candidate, budget);
+}
+
+// The candidate stands in sheet 0 and not in sheet 1.
+const WITHOUT: [[u32; 8]; 7] = [
+    [4, 1, 2, 0, 0, 0, 0, 0],
+    [1, 0, 2_000_000, 0, 0, 0, 0, 0],
+    [3, 3, 0, 0, 0, 0, 0, 0],
+    [1, 1, 2_000_000, 0, 0, 0, 0, 0],
+    NONE,
+    NONE,
+    NONE,
+];
+
+fn without(name: &[u8], plot: &[u32], budget: u32) {
+    one(name, two_sheets(4), plot, WITHOUT, 4, &[201], budget);
+}
+
+// The same after a fill of mark 1.
+fn filled(name: &[u8], cell: u32) {
+    let mut plot = CHANNELS;
+    substitute(two_sheets(4), &mut plot, 1, cell);
+    without(name, &plot, 100);
+}
+
+// Reading 6, before and after fills, and reading 11.
+pub fn in_one_sheet_only() {
+    without(b"201 in sheet 0 and not in 1", &CHANNELS, 100);
+    filled(b"after m1 by 201", 201);
+    filled(b"after m1 by 202", 202);
+    without(b"with 3 looks", &CHANNELS, 3);
+    without(b"with 4 looks", &CHANNELS, 4);
+}
+
+// Reading 7: sheet 0 without (sheet 0 without sheet 1).
+pub fn without_twice() {
+    let nodes = [
+        [4, 1, 2, 0, 0, 0, 0, 0],
+        [1, 0, 2_000_000, 0, 0, 0, 0, 0],
+        [3, 3, 0, 0, 0, 0, 0, 0],
+        [4, 4, 5, 0, 0, 0, 0, 0],
+        [1, 0, 2_000_000, 0, 0, 0, 0, 0],
+        [3, 6, 0, 0, 0, 0, 0, 0],
+        [1, 1, 2_000_000, 0, 0, 0, 0, 0],
+    ];
+    one(
+        b"201 in sheet 0 and not (in sheet 0 and not in 1)",
+        two_sheets(4),
+        &CHANNELS,
+        nodes,
+        7,
+        &[201],
+        100,
+    );
+}
+
+// Reading 8: some x in the sheet and (x = 0 or not x = 0). An unknown does not stop the and.
+pub fn excluded_middle() {
+    let nodes = [
+        [6, 0, 1, 0, 0, 0, 0, 0],
+        [4, 2, 3, 0, 0, 0, 0, 0],
+        [1, 0, 2_000_000, 0, 0, 0, 0, 0],
+        [5, 4, 5, 0, 0, 0, 0, 0],
+        [2, 2_000_000, 0, 0, 0, 0, 0, 0],
+        [3, 6, 0, 0, 0, 0, 0, 0],
+        [2, 2_000_000, 0, 0, 0, 0, 0, 0],
+    ];
+    one(
+        b"some x in the sheet and (x = 0 or not x = 0)",
+        one_sheet(2),
+        &[0, 1_000_001],
+        nodes,
+        7,
+        &[],
+        100,
+    );
+}
+
+// Reading 9, and a question over no rows with no look to spend.
+pub fn no_rows() {
+    let some = [
+        6u32,
+        3,
+        1,
+        0,
+        0,
+        0,
+        0,
+        0,
+        2,
+        2_000_003,
+        2_000_003,
+        0,
+        0,
+        0,
+        0,
+        0,
+    ];
+    let every = [
+        7u32,
+        3,
+        1,
+        0,
+        0,
+        0,
+        0,
+        0,
+        2,
+        2_000_003,
+        2_000_003,
+        0,
+        0,
+        0,
+        0,
+        0,
+    ];
+    asked(b"no rows: some x, x = x", one_sheet(0), &[], &some, &[], 0);
+    asked(
+        b"no rows: every x, x = x",
+        one_sheet(0),
+        &[],
+        &every,
+        &[],
+        0,
+    );
+}
+
+// Reading 10: the values stand in their order, each once.
+pub fn every_is_seven() {
+    let query = [7u32, 0, 1, 0, 0, 0, 0, 0, 2, 2_000_000, 7, 0, 0, 0, 0, 0];
+    let mut plot = [0u32, 1_000_001, 0, 8];
+    asked(
+        b"rows (m1), (8): every x, x = 7",
+        one_sheet(4),
+        &plot,
+        &query,
+        &[],
+        100,
+    );
+    substitute(one_sheet(4), &mut plot, 1, 8);
+    asked(b"after m1 by 8", one_sheet(4), &plot, &query, &[], 100);
+}
+
+// The candidate, asked of a sheet of two columns with one row.
+fn pair(name: &[u8], row: [u32; 2], candidate: [u32; 2]) {
+    let header = Header {
+        relations: 1,
+        arities: [2, 0, 0, 0, 0, 0, 0, 0],
+        used: 3,
+    };
+    let plot = [0u32, row[0], row[1]];
+    let query = [1u32, 0, 2_000_000, 2_000_001, 0, 0, 0, 0];
+    asked(name, header, &plot, &query, &candidate, 100);
+}
+
+// Rows are unified as a whole: (1, m1) and (m1, 2) are not one row.
+pub fn whole_rows() {
+    pair(
+        b"(1, m1) where (m1, 2) stands",
+        [1_000_001, 2],
+        [1, 1_000_001],
+    );
+    pair(
+        b"(1, 2) where (m1, m2) stands",
+        [1_000_001, 1_000_002],
+        [1, 2],
+    );
+    pair(
+        b"(m1, m1) where (m1, m1) stands",
+        [1_000_001, 1_000_001],
+        [1_000_001, 1_000_001],
+    );
+    pair(b"(m7, 2) where (1, 2) stands", [1, 2], [1_000_007, 2]);
+}
+
+// The nearest quantifier binds, also before the candidate.
+pub fn bound_again() {
+    let plot = [0u32, 1, 0, 2];
+    let hides = [6u32, 0, 1, 0, 0, 0, 0, 0, 2, 2_000_000, 2, 0, 0, 0, 0, 0];
+    asked(
+        b"some x: x = 2, with x = 5 in the candidate",
+        one_sheet(4),
+        &plot,
+        &hides,
+        &[5],
+        100,
+    );
+    let again = [
+        [7, 0, 1, 0, 0, 0, 0, 0],
+        [4, 2, 3, 0, 0, 0, 0, 0],
+        [6, 0, 4, 0, 0, 0, 0, 0],
+        [3, 5, 0, 0, 0, 0, 0, 0],
+        [2, 2_000_000, 2, 0, 0, 0, 0, 0],
+        [2, 2_000_000, 2, 0, 0, 0, 0, 0],
+        NONE,
+    ];
+    one(
+        b"every x: (some x: x = 2) and not x = 2",
+        one_sheet(4),
+        &plot,
+        again,
+        6,
+        &[],
+        100,
+    );
+}
+
+// Refusals that come before the nodes.
+pub fn refused() {
+    let nothing = [0u32; 8];
+    let seven = [1u32; 7];
+    asked(
+        b"an unsound plot and no question",
+        two_sheets(3),
+        &CHANNELS,
+        &[],
+        &[201],
+        0,
+    );
+    channels(b"no question", &[], &[1_000_000], 0);
+    channels(b"7 words", &seven, &[201], 0);
+    channels(b"a candidate of 7", &nothing, &seven, 0);
+    channels(b"a candidate that is no cell", &nothing, &[1_000_000], 0);
+}
+
+// A question of one node.
+fn node(name: &[u8], words: [u32; 8]) {
+    channels(name, &words, &[201], 0);
+}
+
+// Refusals of a node, and a list that is too short.
+pub fn refused_nodes() {
+    node(b"kind 0", NONE);
+    node(
+        b"a sheet that the head lacks",
+        [1, 2, 2_000_000, 0, 0, 0, 0, 1],
+    );
+    node(
+        b"a word that is not named",
+        [1, 1, 2_000_009, 0, 0, 0, 0, 1],
+    );
+    node(
+        b"a variable that nothing binds",
+        [1, 1, 2_000_009, 0, 0, 0, 0, 0],
+    );
+    node(b"no such term", [1, 1, 2_000_016, 0, 0, 0, 0, 0]);
+    node(b"a node that is its own child", [3, 0, 0, 0, 0, 0, 0, 0]);
+    node(b"variable 16 quantified", [6, 16, 0, 0, 0, 0, 0, 0]);
+    let mut short = [9u32];
+    let query = [1u32, 0, 2_000_000, 0, 0, 0, 0, 0];
+    let answer = ask(two_sheets(4), &CHANNELS, &query, &[201], &mut short, 0);
+    show::asked(b"a list of 1 word for 2 cells", answer);
+    show::words(&short);
+}

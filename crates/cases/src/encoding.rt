@@ -1,0 +1,60 @@
+// Cards that are written and read back.
+use super::show;
+use calculus::answer::Answer;
+use decode::decode;
+use encode::encode;
+use instance::header::Header;
+
+// Decodes the first bytes, as many as a card took.
+fn decode_first(bytes: &[u8], size: usize) {
+    let mut plot = [8u32; 12];
+    if bytes.len() < size {
+        return;
+    }
+    let stored = decode(&bytes[..size], &mut plot);
+    let answer = stored.answer;
+    show::answer(b"read again", answer);
+    show::words(&plot);
+}
+
+// Decodes a card, encodes what it gave, and decodes that again.
+fn there_and_back(name: &[u8], bytes: &[u8]) {
+    let mut plot = [7u32; 12];
+    let first = decode(bytes, &mut plot);
+    let header = first.header;
+    show::words(&plot);
+    let mut out = [0xEEu8; 30];
+    let written = encode(header, &plot, &mut out);
+    show::answer(name, written);
+    show::bytes(&out);
+    let Answer::Done(size) = written else {
+        return;
+    };
+    decode_first(&out, size as usize);
+}
+
+pub fn round_trip() {
+    let blanks = [2u8, 1, 2, 0, 3, 0, 0, 1, 2, 0x0F, 0x42, 0x45, 1, 0];
+    there_and_back(b"a card with blanks, written whole", &blanks);
+}
+
+pub fn refused() {
+    let plot = [0u32, 5];
+    let header = Header {
+        relations: 1,
+        arities: [1, 0, 0, 0, 0, 0, 0, 0],
+        used: 2,
+    };
+    let mut short = [0xEEu8; 8];
+    let answer = encode(header, &plot, &mut short);
+    show::answer(b"nine bytes into eight", answer);
+    show::bytes(&short);
+    let mut broken = header;
+    broken.used = 1;
+    let unsound = encode(broken, &plot, &mut short);
+    show::answer(b"a card of an unsound plot", unsound);
+    let mut exact = [0xEEu8; 9];
+    let done = encode(header, &plot, &mut exact);
+    show::answer(b"nine bytes into nine", done);
+    show::bytes(&exact);
+}

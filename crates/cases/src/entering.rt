@@ -1,0 +1,166 @@
+// Rows that are entered, and rows and plots that are refused.
+use super::show;
+use instance::header::Header;
+use instance::insert::insert;
+
+// Two sheets, of one column and of two.
+fn two_sheets(used: u32) -> Header {
+    Header {
+        relations: 2,
+        arities: [1, 2, 0, 0, 0, 0, 0, 0],
+        used,
+    }
+}
+
+// Enters a row, shows what is answered, and hands back the header.
+fn enter(name: &[u8], header: Header, plot: &mut [u32], relation: u32, cells: &[u32]) -> Header {
+    let stored = insert(header, plot, relation, cells);
+    let answer = stored.answer;
+    show::answer(name, answer);
+    stored.header
+}
+
+pub fn rows() {
+    let mut plot = [7u32; 7];
+    let one = [999_999u32];
+    let pair = [1_000_200u32, 1_000_001];
+    let first = enter(b"a row of one cell", two_sheets(0), &mut plot, 0, &one);
+    let second = enter(b"a row of two marks", first, &mut plot, 1, &pair);
+    show::header(second);
+    show::words(&plot);
+    let third = enter(
+        b"two words more, which fill the slice",
+        second,
+        &mut plot,
+        0,
+        &one,
+    );
+    let last = enter(b"no room for another", third, &mut plot, 0, &one);
+    show::header(last);
+    show::words(&plot);
+}
+
+pub fn refused() {
+    let mut plot = [7u32; 4];
+    let one = [5u32];
+    let low = [1_000_000u32];
+    let high = [1_000_201u32];
+    let none = [5u32; 0];
+    enter(b"sheet 2 of two", two_sheets(0), &mut plot, 2, &one);
+    enter(
+        b"one cell for two columns",
+        two_sheets(0),
+        &mut plot,
+        1,
+        &one,
+    );
+    enter(
+        b"no cell for one column",
+        two_sheets(0),
+        &mut plot,
+        0,
+        &none,
+    );
+    enter(b"1,000,000 entered", two_sheets(0), &mut plot, 0, &low);
+    enter(b"1,000,201 entered", two_sheets(0), &mut plot, 0, &high);
+    show::words(&plot);
+}
+
+// Enters nothing that a rule forbids, into a plot with the given header and words.
+fn unsound(name: &[u8], relations: u32, arities: [u32; 8], used: u32, words: [u32; 4]) {
+    let mut plot = words;
+    let one = [5u32];
+    let header = Header {
+        relations,
+        arities,
+        used,
+    };
+    enter(name, header, &mut plot, 0, &one);
+}
+
+pub fn unsound_headers() {
+    let words = [0u32; 4];
+    unsound(b"no sheet", 0, [0, 0, 0, 0, 0, 0, 0, 0], 0, words);
+    unsound(b"nine sheets", 9, [1, 1, 1, 1, 1, 1, 1, 1], 0, words);
+    unsound(
+        b"a sheet of no column",
+        1,
+        [0, 0, 0, 0, 0, 0, 0, 0],
+        0,
+        words,
+    );
+    unsound(
+        b"a sheet of seven columns",
+        1,
+        [7, 0, 0, 0, 0, 0, 0, 0],
+        0,
+        words,
+    );
+    unsound(
+        b"columns of a sheet that does not exist",
+        1,
+        [1, 0, 0, 0, 0, 0, 0, 1],
+        0,
+        words,
+    );
+    unsound(
+        b"more words in use than the slice has",
+        1,
+        [1, 0, 0, 0, 0, 0, 0, 0],
+        5,
+        words,
+    );
+}
+
+pub fn unsound_words() {
+    let arities = [1u32, 2, 0, 0, 0, 0, 0, 0];
+    unsound(b"a sheet number too high", 2, arities, 2, [2, 5, 0, 0]);
+    unsound(
+        b"a word that is no cell",
+        2,
+        arities,
+        2,
+        [0, 1_000_000, 0, 0],
+    );
+    unsound(
+        b"a row that lacks its last cell",
+        2,
+        arities,
+        2,
+        [1, 5, 0, 0],
+    );
+    unsound(b"the same row, whole", 2, arities, 3, [1, 5, 5, 0]);
+}
+
+// Enters the same row so many times.
+fn repeat(header: Header, plot: &mut [u32], cells: &[u32], times: u32) -> Header {
+    let mut now = header;
+    let mut i = 0;
+    while i < times {
+        let stored = insert(now, plot, 0, cells);
+        now = stored.header;
+        i += 1;
+    }
+    now
+}
+
+// Rows of two words until 4,096 are in use, and one more.
+pub fn until_full() {
+    let mut plot = [0u32; 4098];
+    let one = [5u32];
+    let empty = Header {
+        relations: 1,
+        arities: [1, 0, 0, 0, 0, 0, 0, 0],
+        used: 0,
+    };
+    let nearly = repeat(empty, &mut plot, &one, 2047);
+    let full = enter(
+        b"the row that makes 4,096 words",
+        nearly,
+        &mut plot,
+        0,
+        &one,
+    );
+    let last = enter(b"one row more", full, &mut plot, 0, &one);
+    show::header(last);
+}

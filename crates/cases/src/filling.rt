@@ -1,0 +1,67 @@
+// Fills, and what the census says of them.
+use super::show;
+use calculus::answer::Answer;
+use instance::header::Header;
+use instance::null_counts::null_counts;
+use instance::substitute::substitute;
+
+// A sheet of two columns with the rows (m200, m1) and (m1, 5).
+fn header() -> Header {
+    Header {
+        relations: 1,
+        arities: [2, 0, 0, 0, 0, 0, 0, 0],
+        used: 6,
+    }
+}
+
+const ROWS: [u32; 8] = [0, 1_000_200, 1_000_001, 0, 1_000_001, 5, 1_000_001, 7];
+
+// Fills in a fresh copy of the rows, and shows the words and the counts of marks 1, 2 and 200 afterwards.
+fn fill(name: &[u8], mark: u32, cell: u32) {
+    let mut plot = ROWS;
+    let answer = substitute(header(), &mut plot, mark, cell);
+    show::answer(name, answer);
+    if let Answer::Done(_) = answer {
+        show::words(&plot);
+        let mut counts = [9u32; 201];
+        null_counts(header(), &plot, &mut counts);
+        let some = [counts[0], counts[1], counts[199], counts[200]];
+        show::words(&some);
+    }
+}
+
+pub fn accepted() {
+    fill(b"mark 1 by 201", 1, 201);
+    fill(b"mark 1 by mark 2", 1, 1_000_002);
+    fill(b"mark 1 by mark 200", 1, 1_000_200);
+    fill(b"mark 1 by itself", 1, 1_000_001);
+    fill(b"mark 200 by 0", 200, 0);
+}
+
+pub fn refused() {
+    fill(b"mark 0", 0, 201);
+    fill(b"mark 201", 201, 201);
+    fill(b"mark 1 by 1,000,000", 1, 1_000_000);
+    fill(b"mark 1 by 1,000,201", 1, 1_000_201);
+    fill(b"mark 2, which stands in no cell", 2, 201);
+    let mut plot = ROWS;
+    let mut broken = header();
+    broken.used = 5;
+    let answer = substitute(broken, &mut plot, 1, 201);
+    show::answer(b"a fill of an unsound plot", answer);
+    show::words(&plot);
+}
+
+pub fn census() {
+    let plot = ROWS;
+    let mut short = [9u32; 199];
+    let answer = null_counts(header(), &plot, &mut short);
+    show::answer(b"a census into 199 words", answer);
+    let mut counts = [9u32; 200];
+    let mut broken = header();
+    broken.relations = 0;
+    let refused = null_counts(broken, &plot, &mut counts);
+    show::answer(b"a census of an unsound plot", refused);
+    let done = null_counts(header(), &plot, &mut counts);
+    show::answer(b"a census into 200 words", done);
+}
