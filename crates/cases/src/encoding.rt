@@ -38,23 +38,23 @@ pub fn round_trip() {
     there_and_back(b"a card with blanks, written whole", &blanks);
 }
 
-pub fn refused() {
+// Writes a card of one row, with so many words in use, and shows the bytes afterwards.
+fn write_card(name: &[u8], used: u32, out: &mut [u8]) {
     let plot = [0u32, 5];
     let header = Header {
         relations: 1,
         arities: [1, 0, 0, 0, 0, 0, 0, 0],
-        used: 2,
+        used,
     };
+    let answer = encode(header, &plot, out);
+    show::answer(name, answer);
+    show::bytes(out);
+}
+
+pub fn refused() {
     let mut short = [0xEEu8; 8];
-    let answer = encode(header, &plot, &mut short);
-    show::answer(b"nine bytes into eight", answer);
-    show::bytes(&short);
-    let mut broken = header;
-    broken.used = 1;
-    let unsound = encode(broken, &plot, &mut short);
-    show::answer(b"a card of an unsound plot", unsound);
     let mut exact = [0xEEu8; 9];
-    let done = encode(header, &plot, &mut exact);
-    show::answer(b"nine bytes into nine", done);
-    show::bytes(&exact);
+    write_card(b"nine bytes into eight", 2, &mut short);
+    write_card(b"a card of an unsound plot", 1, &mut exact);
+    write_card(b"nine bytes into nine", 2, &mut exact);
 }

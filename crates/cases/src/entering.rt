@@ -40,30 +40,23 @@ pub fn rows() {
     show::words(&plot);
 }
 
-pub fn refused() {
+// Enters a row into two empty sheets that refuse it, and shows the words afterwards.
+fn turned_away(name: &[u8], relation: u32, cells: &[u32]) {
     let mut plot = [7u32; 4];
+    enter(name, two_sheets(0), &mut plot, relation, cells);
+    show::words(&plot);
+}
+
+pub fn refused() {
     let one = [5u32];
     let low = [1_000_000u32];
     let high = [1_000_201u32];
     let none = [5u32; 0];
-    enter(b"sheet 2 of two", two_sheets(0), &mut plot, 2, &one);
-    enter(
-        b"one cell for two columns",
-        two_sheets(0),
-        &mut plot,
-        1,
-        &one,
-    );
-    enter(
-        b"no cell for one column",
-        two_sheets(0),
-        &mut plot,
-        0,
-        &none,
-    );
-    enter(b"1,000,000 entered", two_sheets(0), &mut plot, 0, &low);
-    enter(b"1,000,201 entered", two_sheets(0), &mut plot, 0, &high);
-    show::words(&plot);
+    turned_away(b"sheet 2 of two", 2, &one);
+    turned_away(b"one cell for two columns", 1, &one);
+    turned_away(b"no cell for one column", 0, &none);
+    turned_away(b"1,000,000 entered", 0, &low);
+    turned_away(b"1,000,201 entered", 0, &high);
 }
 
 // Enters nothing that a rule forbids, into a plot with the given header and words.

@@ -44,6 +44,11 @@ pub fn refused() {
     fill(b"mark 1 by 1,000,000", 1, 1_000_000);
     fill(b"mark 1 by 1,000,201", 1, 1_000_201);
     fill(b"mark 2, which stands in no cell", 2, 201);
+    unsound();
+}
+
+// A fill where the last row lacks a cell.
+fn unsound() {
     let mut plot = ROWS;
     let mut broken = header();
     broken.used = 5;
@@ -52,16 +57,19 @@ pub fn refused() {
     show::words(&plot);
 }
 
-pub fn census() {
+// A census of the rows, with so many sheets.
+fn count(name: &[u8], relations: u32, counts: &mut [u32]) {
     let plot = ROWS;
+    let mut told = header();
+    told.relations = relations;
+    let answer = null_counts(told, &plot, counts);
+    show::answer(name, answer);
+}
+
+pub fn census() {
     let mut short = [9u32; 199];
-    let answer = null_counts(header(), &plot, &mut short);
-    show::answer(b"a census into 199 words", answer);
     let mut counts = [9u32; 200];
-    let mut broken = header();
-    broken.relations = 0;
-    let refused = null_counts(broken, &plot, &mut counts);
-    show::answer(b"a census of an unsound plot", refused);
-    let done = null_counts(header(), &plot, &mut counts);
-    show::answer(b"a census into 200 words", done);
+    count(b"a census into 199 words", 1, &mut short);
+    count(b"a census of an unsound plot", 0, &mut counts);
+    count(b"a census into 200 words", 1, &mut counts);
 }
