@@ -50,14 +50,15 @@ fn atom(
     ensures right { λ r. ⌜ Right (now (arities .entry)) (now (words .entry)) (now (query .entry)) node (now (env .entry)) budget r ⌝ }
 {
     let relation = word(query, node, 1);
-    let cost = 1 + counts[relation];
+    let rows = counts[relation];
+    let cost = 1 + rows;
     if budget < cost {
         return Evaluated::Spent;
     }
     let arity = arities[relation] as usize;
     let row = asked_row(query, node, arity, env);
     Evaluated::Verdict(
-        stands(words, arities, relations, relation as u32, &row),
+        stands(words, arities, relations, relation as u32, rows, &row),
         cost,
     )
 }

@@ -1,6 +1,6 @@
 -- The tuples of a relation, row by row, and how many there can be. Assumes nothing.
 use Prim.Native.Nat.{ℕ, zero, suc, _≤_}
-use mathlib.Core.Path.{_≡_}
+use mathlib.Core.Path.{_≡_, refl}
 use mathlib.Core.Bool.{Bool, true, false, cond}
 use mathlib.Core.List.{List, [], _∷_}
 use native.Mathlib.Omega.{arith}
@@ -39,3 +39,7 @@ rows-le ars (suc left) (w ∷ ws) = omega (arith, rows-le ars left ws)
 -- words hold no more tuples than words
 pub tuples-few : (r : ℕ) (ars : List ℕ) (ws : List ℕ) → length (tuples r (rowsFrom ars 0 ws)) ≤ length ws
 tuples-few r ars ws = omega (arith, tuples-le r (rowsFrom ars 0 ws), rows-le ars 0 ws)
+
+pub no-tuples : (ts : List (List ℕ)) → length ts ≡ 0 → ts ≡ []
+no-tuples [] e = refl
+no-tuples (t ∷ ts) e = absurd (omega arith)

@@ -10,22 +10,25 @@ use super::row::Match;
 use super::row::compare;
 use calculus::truth::Truth;
 
-// Row by row; a row of another relation costs one step, and an identical row ends the walk.
+// Row by row; a row of another relation costs one step. An identical row ends the walk, and so does the last of the relation's rows.
 pub fn stands(
     words: &[u32],
     arities: &[u32; 8],
     relations: u32,
     relation: u32,
+    rows: u32,
     row: &[u32; 6],
 ) -> Truth
     requires { ⌜ Standing relations (now arities) (now words) ⌝ }
     requires { ⌜ (relation < relations) × (length (now row) ≡ maxColumns) ⌝ }
+    requires { ⌜ rows ≡ length (tuples relation (rowsFrom (now arities) 0 (now words))) ⌝ }
     ensures { λ r. ⌜ r ≡ stands (tuples relation (rowsFrom (now (arities .entry)) 0 (now (words .entry)))) (take (arityOf (now (arities .entry)) relation) (now (row .entry))) ⌝ }
 {
     let arity = arities[relation as usize] as usize;
     let mut possible = false;
+    let mut more = rows;
     let mut i = 0;
-    while i < words.len() {
+    while 0 < more {
         let w = words[i];
         if w == relation {
             match compare(words, i + 1, row, arity) {
@@ -37,6 +40,7 @@ pub fn stands(
                 }
                 Match::Apart => {}
             }
+            more -= 1;
         }
         i += 1 + arities[w as usize] as usize;
     }

@@ -17,15 +17,15 @@ use Rattle.answer.proofs.nodes.atom.Tie as tie
 word-requires : tie.Need-word-requires
 word-requires c κs = search needs
 
-mul-cost : tie.Need-mul-cost
-mul-cost c =
+mul-rows : tie.Need-mul-rows
+mul-rows c =
     let ev = c .before .before .before .before .pre .0 in
     let is = c .before .before .before .before .pre .1 in
     let a = atom-stands _ _ _ _ _ _ _ (ev .ready) (ev .known) is in
     omega (arith, c .word .ensures, a .eight)
 
-element-copy-out-cost : tie.Need-element-copy-out-cost
-element-copy-out-cost c =
+element-copy-out-rows : tie.Need-element-copy-out-rows
+element-copy-out-rows c =
     let ev = c .before .before .before .before .pre .0 in
     let is = c .before .before .before .before .pre .1 in
     let a = atom-stands _ _ _ _ _ _ _ (ev .ready) (ev .known) is in
@@ -86,7 +86,10 @@ stands-requires c κs =
     let ev = c .before .before .before .before .before .before .before .before .before .pre .0 in
     let is = c .before .before .before .before .before .before .before .before .before .pre .1 in
     let a = atom-stands _ _ _ _ _ _ _ (ev .ready) (ev .known) is in
-    (record { header = ev .ready .header; few = ev .ready .few; words = ev .ready .words }, (omega (arith, c .before .before .before .before .before .word .ensures, a .relation), c .before .asked-row .ensures .0))
+    let is-word = c .before .before .before .before .before .word .ensures in (
+      record { header = ev .ready .header; few = ev .ready .few; words = ev .ready .words },
+      ((omega (arith, is-word, a .relation), c .before .asked-row .ensures .0), rw is-word (a .counted)),
+    )
 
 returns-2 : tie.Need-returns-2
 returns-2 c =
@@ -109,8 +112,8 @@ atom-spec =
     tie.close
     (tie.spec
     word-requires
-    mul-cost
-    element-copy-out-cost
+    mul-rows
+    element-copy-out-rows
     add-cost
     returns
     mul-arity

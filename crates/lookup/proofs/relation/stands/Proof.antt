@@ -6,7 +6,7 @@ use mathlib.Core.Logic.{⊎-elim}
 use mathlib.Core.List.{List}
 use native.Mathlib.Omega.{arith}
 use borrow.Author.Needs.{needs}
-use lib.ListN.{length, getD, take, drop}
+use lib.ListN.{length, getD, take, drop, length-drop}
 use Rattle.calculus.specs.declared.truth.Truth.{Truth}
 use Rattle.calculus.specs.declared.truth.Truth.the-variants.{False, Unknown}
 use Rattle.calculus.specs.Closed.{stands, tuples}
@@ -15,27 +15,28 @@ use Rattle.instance.specs.Rows.{wordsStand, rowsFrom}
 use Rattle.lookup.specs.declared.row.Match.{Match}
 use Rattle.lookup.specs.declared.row.Match.the-variants.{Identical, Unifies, Apart}
 use Rattle.lookup.specs.Matching.{matching}
-use Rattle.lookup.proofs.Walk.{AtRow, row-here, rows-end, relation-few, arity-few}
-use Rattle.lookup.proofs.Tuples.{tuples-here, tuples-other}
+use Rattle.lookup.proofs.Walk.{AtRow, row-here, relation-few, arity-few}
+use Rattle.lookup.proofs.Tuples.{tuples-here, tuples-other, tuples-few, no-tuples}
 use Rattle.lookup.proofs.Atom.{truthFrom, truth-starts, truth-ends, truthAfter, truth-step}
 use Rattle.lookup.proofs.relation.stands.Statement.{statement}
 use Rattle.lookup.proofs.relation.stands.Tie as tie
 
 abbrev Inv-loop : tie.InvT-loop
-Inv-loop words arities relations relation row arity possible₀ i₀ possible i =
+Inv-loop words arities relations relation rows row arity possible₀ more₀ i₀ possible more i =
     (i ≤ length words) × (wordsStand relations arities 0 (drop i words) ≡ true)
     × (stands (tuples relation (rowsFrom arities 0 words)) (take (arityOf arities relation) row)
     ≡ truthFrom possible (tuples relation (rowsFrom arities 0 (drop i words))) (take (arityOf arities relation) row))
+    × (more ≡ length (tuples relation (rowsFrom arities 0 (drop i words))))
 
 abbrev μ-loop : tie.MeasureT-loop
-μ-loop words arities relations relation row arity possible₀ i₀ possible i = length words - i
+μ-loop words arities relations relation rows row arity possible₀ more₀ i₀ possible more i = length words - i
 
 module _ (c : tie.Start Inv-loop μ-loop) where
   relation-low : c .args .relation < maxRelations
-  relation-low = relation-few (c .args .relations) (c .args .arities .now) (c .args .words .now) _ (c .pre .0) (c .pre .1 .0)
+  relation-low = relation-few (c .args .relations) (c .args .arities .now) (c .args .words .now) _ (c .pre .0) (c .pre .1 .0 .0)
 
   arity-low : arityOf (c .args .arities .now) (c .args .relation) ≤ maxColumns
-  arity-low = arity-few (c .args .relations) (c .args .arities .now) (c .args .words .now) _ (c .pre .0) (c .pre .1 .0)
+  arity-low = arity-few (c .args .relations) (c .args .arities .now) (c .args .words .now) _ (c .pre .0) (c .pre .1 .0 .0)
 
 mul-arity : tie.Need-mul-arity Inv-loop μ-loop
 mul-arity c = omega (arith, relation-low (c .before))
@@ -47,13 +48,7 @@ cast-arity : tie.Need-cast-arity Inv-loop μ-loop
 cast-arity c = omega (arith, arity-low (c .before .before))
 
 loop-holds : tie.Need-loop-holds Inv-loop μ-loop
-loop-holds c = (omega arith, c .before .before .pre .0 .words, truth-starts _ _)
-
-mul-w : tie.Need-mul-w Inv-loop μ-loop
-mul-w c = omega arith
-
-shared-slice-read-w : tie.Need-shared-slice-read-w Inv-loop μ-loop
-shared-slice-read-w c = omega arith
+loop-holds c = (omega arith, c .before .before .pre .0 .words, truth-starts _ _, c .before .before .pre .1 .1)
 
 -- the row at place i
 module _ (c : tie.In-loop Inv-loop μ-loop) where
@@ -90,8 +85,12 @@ module _ (c : tie.In-loop Inv-loop μ-loop) where
   abbrev answer : Truth
   answer = stands (tuples relation (rowsFrom ars 0 ws)) cells
 
+  -- rows of the relation are to come, so words are
+  within : i < length ws
+  within = omega (arith, c .loop-test .taken, c .before .loop .inv .3, tuples-few relation ars (drop i ws), length-drop i ws)
+
   here : AtRow n ars ws i
-  here = row-here n ars ws i (omega arith) (c .before .loop .inv .1)
+  here = row-here n ars ws i within (c .before .loop .inv .1)
 
   few : w < maxRelations
   few = relation-few n ars ws w (start .pre .0) (here .relation)
@@ -109,6 +108,18 @@ module _ (c : tie.In-loop Inv-loop μ-loop) where
       ∙ truth-step possible _ behind cells
       ∙ ap (λ (m : Match). truthAfter m possible behind cells) (ap (matching cells) cut ∙ told)
 
+  one-less : w ≡ relation → c .before .loop .more - 1 ≡ length behind
+  one-less e = omega (arith, c .before .loop .inv .3 ∙ ap length (ap (tuples relation) (here .rows) ∙ tuples-here relation _ _ e))
+
+  no-less : (w ≡ relation → ⊥) → c .before .loop .more ≡ length behind
+  no-less ne = c .before .loop .inv .3 ∙ ap length (ap (tuples relation) (here .rows) ∙ tuples-other relation _ _ ne)
+
+mul-w : tie.Need-mul-w Inv-loop μ-loop
+mul-w c = omega (arith, within c)
+
+shared-slice-read-w : tie.Need-shared-slice-read-w Inv-loop μ-loop
+shared-slice-read-w c = within (c .before)
+
 add-compare : tie.Need-add-compare Inv-loop μ-loop
 add-compare c = omega arith
 
@@ -116,7 +127,7 @@ compare-requires : tie.Need-compare-requires Inv-loop μ-loop
 compare-requires c κs =
     let b = c .before .before in
     let cut : arityOf (ars b) (w b) ≡ arityOf (ars b) (relation b) = ap (arityOf (ars b)) (c .if1 .taken) in
-    (omega (arith, here b .within), arity-low (start b), start b .pre .1 .1)
+    (omega (arith, here b .within), arity-low (start b), start b .pre .1 .0 .1)
 
 enum-told : tie.Need-enum-told Inv-loop μ-loop
 enum-told c = search needs
@@ -131,6 +142,9 @@ enum-told-2 c = search needs
 
 enum-told-3 : tie.Need-enum-told-3 Inv-loop μ-loop
 enum-told-3 c = search needs
+
+sub-more : tie.Need-sub-more Inv-loop μ-loop
+sub-more c = omega (arith, c .before .before .before .before .loop-test .taken)
 
 cast-i : tie.Need-cast-i Inv-loop μ-loop
 cast-i c = omega (arith, few (c .before .before))
@@ -159,14 +173,16 @@ loop-again c =
       here b .within,
       here b .stands,
       ⊎-elim
-          (λ a. rw (a .4) (same b (a .0 .taken) Unifies (sym (a .1 .ensures) ∙ a .3 .given .1)))
-          (⊎-elim
-          (λ a. rw (a .4) (same b (a .0 .taken) Apart (sym (a .1 .ensures) ∙ a .3 .given .1)))
-          (λ a. rw (a .1) (other b (a .0 .left))))
+          (λ a. rw (a .3) (⊎-elim
+          (λ m. rw (m .2) (same b (a .0 .taken) Unifies (sym (a .1 .ensures) ∙ m .1 .given .1)))
+          (λ m. rw (m .2) (same b (a .0 .taken) Apart (sym (a .1 .ensures) ∙ m .1 .given .1)))
+          (a .2 .came)))
+          (λ a. rw (a .1) (other b (a .0 .left)))
           (c .before .if1 .came),
+      ⊎-elim (λ a. rw (a .4) (one-less b (a .0 .taken))) (λ a. rw (a .2) (no-less b (a .0 .left))) (c .before .if1 .came),
     )
 
--- past the last row
+-- past the relation's last row
 at-end :
     (c : tie.After-loop Inv-loop μ-loop) (possible : Bool) → c .before .loop .possible ≡ possible →
     stands
@@ -175,10 +191,9 @@ at-end :
     (arityOf (c .before .before .before .before .args .arities .now) (c .before .before .before .before .args .relation))
     (c .before .before .before .before .args .row .now)) ≡
     cond possible Unknown False
-unfolding tuples
 at-end c possible e =
     let a = c .before .before .before .before .args in
-    let none = rows-end (a .arities .now) (a .words .now) (c .before .loop .i) (omega arith) in
+    let none = no-tuples (tuples (a .relation) (rowsFrom (a .arities .now) 0 (drop (c .before .loop .i) (a .words .now)))) (omega (arith, c .loop-test .left, c .before .loop .inv .3)) in
     c .before .loop .inv .2 ∙ rw (e, none) (truth-ends possible _)
 
 returns-2 : tie.Need-returns-2 Inv-loop μ-loop
@@ -205,6 +220,7 @@ stands-spec =
     returns
     enum-told-2
     enum-told-3
+    sub-more
     cast-i
     mul-i
     element-copy-out-i
