@@ -55,15 +55,15 @@ fn evaluate_top(
 {
     let mut env = assigned(candidate);
     evaluate(
-        relations,
-        arities,
-        words,
         query,
-        counts,
-        values,
         0,
         &mut env,
         budget,
+        values,
+        relations,
+        arities,
+        words,
+        counts,
     )
 }
 

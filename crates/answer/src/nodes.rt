@@ -35,15 +35,15 @@ fn assign(env: &mut [u32; 16], variable: usize, cell: u32)
 
 // An atom.
 fn atom(
-    relations: u32,
-    arities: &[u32; 8],
-    words: &[u32],
     query: &[u32],
-    counts: &[u32; 8],
-    values: &[u32],
     node: usize,
     env: &[u32; 16],
     budget: u32,
+    values: &[u32],
+    relations: u32,
+    arities: &[u32; 8],
+    words: &[u32],
+    counts: &[u32; 8],
 ) -> Evaluated
     requires { ⌜ Evaluable relations (now arities) (now words) (now query) (now counts) (now values) node (now env) ⌝ }
     requires { ⌜ kindOf (wordAt (now query) node 0) ≡ rowStands ⌝ }
@@ -65,15 +65,15 @@ fn atom(
 
 // An equality.
 fn equality(
-    relations: u32,
-    arities: &[u32; 8],
-    words: &[u32],
     query: &[u32],
-    counts: &[u32; 8],
-    values: &[u32],
     node: usize,
     env: &[u32; 16],
     budget: u32,
+    values: &[u32],
+    relations: u32,
+    arities: &[u32; 8],
+    words: &[u32],
+    counts: &[u32; 8],
 ) -> Evaluated
     requires { ⌜ Evaluable relations (now arities) (now words) (now query) (now counts) (now values) node (now env) ⌝ }
     requires { ⌜ kindOf (wordAt (now query) node 0) ≡ equals ⌝ }
@@ -112,15 +112,15 @@ fn unit(every: bool) -> Truth
 }
 
 fn negated(
-    relations: u32,
-    arities: &[u32; 8],
-    words: &[u32],
     query: &[u32],
-    counts: &[u32; 8],
-    values: &[u32],
     node: usize,
     env: &mut [u32; 16],
     budget: u32,
+    values: &[u32],
+    relations: u32,
+    arities: &[u32; 8],
+    words: &[u32],
+    counts: &[u32; 8],
 ) -> Evaluated
     requires { ⌜ Evaluable relations (now arities) (now words) (now query) (now counts) (now values) node (now env) ⌝ }
     requires { ⌜ kindOf (wordAt (now query) node 0) ≡ negates ⌝ }
@@ -129,15 +129,15 @@ fn negated(
 {
     let child = word(query, node, 1);
     let Evaluated::Verdict(truth, cost) = evaluate(
-        relations,
-        arities,
-        words,
         query,
-        counts,
-        values,
         child,
         env,
         budget,
+        values,
+        relations,
+        arities,
+        words,
+        counts,
     ) else {
         return Evaluated::Spent;
     };
@@ -145,16 +145,16 @@ fn negated(
 }
 
 fn both(
-    relations: u32,
-    arities: &[u32; 8],
-    words: &[u32],
     query: &[u32],
-    counts: &[u32; 8],
-    values: &[u32],
     node: usize,
     every: bool,
     env: &mut [u32; 16],
     budget: u32,
+    values: &[u32],
+    relations: u32,
+    arities: &[u32; 8],
+    words: &[u32],
+    counts: &[u32; 8],
 ) -> Evaluated
     requires { ⌜ Evaluable relations (now arities) (now words) (now query) (now counts) (now values) node (now env) ⌝ }
     requires { ⌜ kindOf (wordAt (now query) node 0) ≡ joins (junctionOf every) ⌝ }
@@ -164,15 +164,15 @@ fn both(
     let left = word(query, node, 1);
     let right = word(query, node, 2);
     let Evaluated::Verdict(a, paid) = evaluate(
-        relations,
-        arities,
-        words,
         query,
-        counts,
-        values,
         left,
         env,
         budget,
+        values,
+        relations,
+        arities,
+        words,
+        counts,
     ) else {
         return Evaluated::Spent;
     };
@@ -180,15 +180,15 @@ fn both(
         return Evaluated::Verdict(a, paid);
     }
     let Evaluated::Verdict(b, more) = evaluate(
-        relations,
-        arities,
-        words,
         query,
-        counts,
-        values,
         right,
         env,
         budget - paid,
+        values,
+        relations,
+        arities,
+        words,
+        counts,
     ) else {
         return Evaluated::Spent;
     };
@@ -196,16 +196,16 @@ fn both(
 }
 
 fn walk(
-    relations: u32,
-    arities: &[u32; 8],
-    words: &[u32],
     query: &[u32],
-    counts: &[u32; 8],
-    values: &[u32],
     node: usize,
     every: bool,
     env: &mut [u32; 16],
     budget: u32,
+    values: &[u32],
+    relations: u32,
+    arities: &[u32; 8],
+    words: &[u32],
+    counts: &[u32; 8],
 ) -> Evaluated
     requires { ⌜ Evaluable relations (now arities) (now words) (now query) (now counts) (now values) node (now env) ⌝ }
     requires { ⌜ kindOf (wordAt (now query) node 0) ≡ ranges (junctionOf every) ⌝ }
@@ -221,15 +221,15 @@ fn walk(
     while i < values.len() {
         assign(env, variable, values[i]);
         let Evaluated::Verdict(one, paid) = evaluate(
-            relations,
-            arities,
-            words,
             query,
-            counts,
-            values,
             child,
             env,
             budget - cost,
+            values,
+            relations,
+            arities,
+            words,
+            counts,
         ) else {
             assign(env, variable, old);
             return Evaluated::Spent;
@@ -247,15 +247,15 @@ fn walk(
 }
 
 pub fn evaluate(
-    relations: u32,
-    arities: &[u32; 8],
-    words: &[u32],
     query: &[u32],
-    counts: &[u32; 8],
-    values: &[u32],
     node: usize,
     env: &mut [u32; 16],
     budget: u32,
+    values: &[u32],
+    relations: u32,
+    arities: &[u32; 8],
+    words: &[u32],
+    counts: &[u32; 8],
 ) -> Evaluated
     requires { ⌜ Evaluable relations (now arities) (now words) (now query) (now counts) (now values) node (now env) ⌝ }
     ensures kept { λ r. ⌜ now (env .exit) ≡ now (env .entry) ⌝ }
@@ -264,61 +264,61 @@ pub fn evaluate(
     let kind = word(query, node, 0);
     match kind {
         1 => atom(
-            relations,
-            arities,
-            words,
             query,
-            counts,
-            values,
             node,
             env,
             budget,
+            values,
+            relations,
+            arities,
+            words,
+            counts,
         ),
         2 => equality(
-            relations,
-            arities,
-            words,
             query,
-            counts,
-            values,
             node,
             env,
             budget,
+            values,
+            relations,
+            arities,
+            words,
+            counts,
         ),
         3 => negated(
-            relations,
-            arities,
-            words,
             query,
-            counts,
-            values,
             node,
             env,
             budget,
-        ),
-        4 | 5 => both(
+            values,
             relations,
             arities,
             words,
-            query,
             counts,
-            values,
+        ),
+        4 | 5 => both(
+            query,
             node,
             kind == 4,
             env,
             budget,
-        ),
-        6 | 7 => walk(
+            values,
             relations,
             arities,
             words,
-            query,
             counts,
-            values,
+        ),
+        6 | 7 => walk(
+            query,
             node,
             kind == 7,
             env,
             budget,
+            values,
+            relations,
+            arities,
+            words,
+            counts,
         ),
         _ => Evaluated::Spent,
     }

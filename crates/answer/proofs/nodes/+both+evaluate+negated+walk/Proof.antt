@@ -35,16 +35,16 @@ use Rattle.answer.proofs.nodes.+both+evaluate+negated+walk.{statement}
 use Rattle.answer.proofs.nodes.+both+evaluate+negated+walk.Tie.{close}
 
 abbrev μ-both : Measures 6 both-kinds.ps ℕ
-μ-both κs a = 2 * (nodeCount (a .1 .1 .1 .0 .now) - a .1 .1 .1 .1 .1 .1 .0)
+μ-both κs a = 2 * (nodeCount (a .0 .now) - a .1 .0)
 
 abbrev μ-evaluate : Measures 6 evaluate-kinds.ps ℕ
-μ-evaluate κs a = 2 * (nodeCount (a .1 .1 .1 .0 .now) - a .1 .1 .1 .1 .1 .1 .0) + 1
+μ-evaluate κs a = 2 * (nodeCount (a .0 .now) - a .1 .0) + 1
 
 abbrev μ-negated : Measures 6 negated-kinds.ps ℕ
-μ-negated κs a = 2 * (nodeCount (a .1 .1 .1 .0 .now) - a .1 .1 .1 .1 .1 .1 .0)
+μ-negated κs a = 2 * (nodeCount (a .0 .now) - a .1 .0)
 
 abbrev μ-walk : Measures 6 walk-kinds.ps ℕ
-μ-walk κs a = 2 * (nodeCount (a .1 .1 .1 .0 .now) - a .1 .1 .1 .1 .1 .1 .0)
+μ-walk κs a = 2 * (nodeCount (a .0 .now) - a .1 .0)
 
 abbrev both-at : ℕ → In 6 both-kinds.ps
 both-at t = and 6 both-kinds.ps (is 6 both-kinds.ps μ-both t) both.Pre
@@ -278,11 +278,11 @@ negated-returns-2 t c =
     (child .0, rw (c .not .ensures) (negated-verdict _ _ _ _ (ev .known) (start .pre .1 .1) (down .0) _ _ _ _ (rw (c .before .before .before .before .before .before .word .ensures, c .before .before .truth .given .1) at (child .1))))
 
 abbrev walk-Inv-loop : walk-lts.InvT-loop
-walk-Inv-loop relations arities words query counts values node every env₀ budget variable child old truth₀ cost₀ i₀ env truth cost i =
+walk-Inv-loop query node every env₀ budget values relations arities words counts variable child old truth₀ cost₀ i₀ env truth cost i =
     Walking arities words query node (junctionOf every) env₀ values budget truth cost i × (set env variable old ≡ env₀)
 
 abbrev walk-μ-loop : walk-lts.MeasureT-loop
-walk-μ-loop relations arities words query counts values node every env₀ budget variable child old truth₀ cost₀ i₀ env truth cost i =
+walk-μ-loop query node every env₀ budget values relations arities words counts variable child old truth₀ cost₀ i₀ env truth cost i =
     length values - i
 
 walk-word-requires : (t : ℕ) → walk-lts.Need-word-requires (walk-claims t) (walk-at t) walk.Post walk-Inv-loop walk-μ-loop
@@ -352,7 +352,7 @@ walk-here t c =
     ap (λ (v : ℕ). set (c .before .before .before .before .before .before .before .before .before .before .before .before .before .before .args .env .now) v (getD (c .before .before .before .before .before .before .before .before .before .before .before .before .before .before .args .values .now) (c .before .before .before .before .before .before .loop .i) 0)) (c .before .before .before .before .before .before .before .before .before .before .word .ensures)
 
 -- putting the old cell back restores the assignment
-walk-back : (t : ℕ) (c : walk-lts.After-evaluate (walk-claims t) (walk-at t) walk.Post walk-Inv-loop walk-μ-loop) → set (c .evaluate .last .1 .1 .1 .1 .1 .1 .1 .0) (c .before .before .before .before .before .before .before .before .before .before .word .result) (getD (c .before .before .before .before .before .before .before .before .before .before .before .before .before .before .args .env .now) (c .before .before .before .before .before .before .before .before .before .before .word .result) 0) ≡ c .before .before .before .before .before .before .before .before .before .before .before .before .before .before .args .env .now
+walk-back : (t : ℕ) (c : walk-lts.After-evaluate (walk-claims t) (walk-at t) walk.Post walk-Inv-loop walk-μ-loop) → set (c .evaluate .last .1 .1 .0) (c .before .before .before .before .before .before .before .before .before .before .word .result) (getD (c .before .before .before .before .before .before .before .before .before .before .before .before .before .before .args .env .now) (c .before .before .before .before .before .before .before .before .before .before .word .result) 0) ≡ c .before .before .before .before .before .before .before .before .before .before .before .before .before .before .args .env .now
 walk-back t c =
     ap (λ (l : List ℕ). set l (c .before .before .before .before .before .before .before .before .before .before .word .result) (getD (c .before .before .before .before .before .before .before .before .before .before .before .before .before .before .args .env .now) (c .before .before .before .before .before .before .before .before .before .before .word .result) 0))
     (c .evaluate .ensures .0 ∙ c .before .before .assign .ensures ∙ set-again _ (c .before .before .before .before .before .before .loop .env) _ _ _ (c .before .before .before .before .before .before .loop .inv .1)) ∙
