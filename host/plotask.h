@@ -21,12 +21,14 @@
  *
  * - It returns 0 where it is accepted, and else the number of the refusal (enum plotask_refusal). Of several faults it returns the one that
  *   comes first in the call's list of refusals.
- * - It takes every content and every length, and ends. There is nothing to test first.
+ * - It takes every number, every length and every content of a slice, and ends. There is nothing to test first.
  * - A refused call changes nothing that it was lent. One exception: the working list of a question that is refused with 46.
  * - An accepted call changes only what is named under "writes". What stands behind that keeps its content.
  * - A slice is a pointer and a length. The length counts elements: words for uint32_t, bytes for uint8_t.
- * - What C must see to: that many elements stand behind the pointer. It is aligned for its type and not null, also where the length is 0;
- *   then the address of any variable of the type will do. Nothing that a call writes overlaps with anything else that is lent to it.
+ * - What no call can test, and C must see to: a pointer is not null, is aligned for its type, and has as many elements behind it as the length
+ *   says; where the length is 0, the address of any variable of the type will do. This holds for count, truth and cost as well. What a pointer
+ *   without const lends, the whole slice, overlaps with nothing else that is lent to the same call, also where the call would write none of it:
+ *   the cells of a row to enter are a copy, and no part of the plot.
  * - It allocates nothing, keeps nothing after it returns, and has no variables of its own. Calls on different plots may run at the same time,
  *   and so may calls that only read one plot, each question with its own working list.
  *
@@ -34,16 +36,22 @@
  *
  * A cell is a 32-bit number. 0 to 999,999 is an inked value. 1,000,000 + m is mark m, m from 1 to 200. Everything else is no cell.
  * A plot is a struct plotask_header and an array of words. A row is one word with its sheet number, counted from 0, and then its cells. The rows
- * stand one behind the other from the first word, in the order in which they were entered. Equal rows may stand twice and mean what one would.
+ * stand one behind the other from the first word, in the order in which they were entered. Equal rows may stand twice: a verdict is what it would
+ * be with one of them, but each takes its look.
+ * A plot is sound where its header names 1 to 8 sheets, gives each of them 1 to 6 columns and every other sheet 0, and where the words in use are
+ * at most 4,096, at most as many as the slice has, and whole rows: sheet numbers that the header has, and cells. Every other plot is refused with 41.
+ * The plot's values are the different cells that stand in it, of all sheets and all columns, marks among them.
  *
  * MEMORY
  *
- *   plot                4,096 words   16,384 bytes
- *   working list        4,096 words   16,384 bytes   3,510 words are enough for every plot (PLOTASK_CELLS)
- *   question              800 words    3,200 bytes
- *   header, candidate      16 words       64 bytes
+ *   plot            4,096 words   16,384 bytes
+ *   working list    4,096 words   16,384 bytes   of which no plot needs more than 3,510 words (PLOTASK_CELLS)
+ *   question          800 words    3,200 bytes
+ *   header             10 words       40 bytes
+ *   candidate           6 words       24 bytes
  *
- * These are 36,032 bytes, within 40 KiB. Smaller arrays will do for smaller plots and questions.
+ * These are 36,032 bytes, within 40 KiB. Smaller arrays will do for smaller plots and questions. Between questions the working list is free: the
+ * bytes of a card (PLOTASK_CARD_BYTES at most) or the 200 words of a census may stand there.
  *
  * STACK, in bytes below the caller's own frame, as `make bench` measures it (docs/BENCHMARKS.md):
  *
@@ -88,18 +96,25 @@ enum {
     PLOTASK_VARIABLE_BASE = 2000000 /* variable 0 as a term */
 };
 
+/* A number as a word. */
+#ifdef __cplusplus
+#define PLOTASK_WORD(n) static_cast<uint32_t>(n)
+#else
+#define PLOTASK_WORD(n) ((uint32_t)(n))
+#endif
+
 /* Mark m, 1 to 200, as a cell; variable v, 0 to 15, as a term. */
-#define PLOTASK_MARK(m) ((uint32_t)PLOTASK_CONSTANTS + (uint32_t)(m))
-#define PLOTASK_VARIABLE(v) ((uint32_t)PLOTASK_VARIABLE_BASE + (uint32_t)(v))
+#define PLOTASK_MARK(m) (PLOTASK_WORD(PLOTASK_CONSTANTS) + PLOTASK_WORD(m))
+#define PLOTASK_VARIABLE(v) (PLOTASK_WORD(PLOTASK_VARIABLE_BASE) + PLOTASK_WORD(v))
 
 /* Verdicts, in their order. */
 enum plotask_truth {
     PLOTASK_FALSE = 0,   /* false however the marks are filled */
-    PLOTASK_UNKNOWN = 1, /* the rules cannot tell; the row may be certain all the same */
+    PLOTASK_UNKNOWN = 1, /* the rules cannot tell; it may still be the same however the marks are filled */
     PLOTASK_TRUE = 2     /* true however the marks are filled */
 };
 
-/* What a call returns. 10 to 29 come from the input, 41 to 46 from the state. */
+/* What a call returns. 10 to 29 tell of what was given, 41 to 46 of the plot and the room. */
 enum plotask_refusal {
     PLOTASK_DONE = 0,                    /* accepted */
     PLOTASK_INPUT_TOO_LONG = 10,         /* the program's input is over 16,384 bytes; no call of this header returns it */
@@ -113,13 +128,13 @@ enum plotask_refusal {
     PLOTASK_BYTES_LEFT_OVER = 18,        /* bytes follow the card's last row */
     PLOTASK_BAD_QUERY_LENGTH = 21,       /* the question has not 8 to 800 words, or no multiple of 8 */
     PLOTASK_BAD_NODE = 22,               /* a kind not 1 to 7, a word not named by its kind and not 0, or a number that is no term */
-    PLOTASK_BAD_CHILD = 23,              /* a child not above its parent, not below the node count or named already; or a node named by none */
+    PLOTASK_BAD_CHILD = 23,              /* a child's number not above its parent's, not below the node count, or named already; or a node named by none */
     PLOTASK_UNBOUND_VARIABLE = 24,       /* a quantifier's variable above 15, or a variable that nothing binds */
     PLOTASK_NO_SUCH_QUERY_RELATION = 25, /* the question names a sheet that the header lacks */
     PLOTASK_BAD_CANDIDATE = 26,          /* the candidate has more than 6 cells, or a number that is no cell */
     PLOTASK_WRONG_ROW_LENGTH = 27,       /* the entered row has not as many cells as the sheet has columns */
     PLOTASK_NO_SUCH_NULL = 29,           /* the mark to fill is not 1 to 200 */
-    PLOTASK_UNSOUND = 41,                /* the plot breaks a rule, its slice is shorter than the words in use, or the header is not ten words */
+    PLOTASK_UNSOUND = 41,                /* the plot is not sound, or the header is not ten words */
     PLOTASK_NO_ROOM = 42,                /* the words needed exceed 4,096 or the slice */
     PLOTASK_NULL_ABSENT = 43,            /* the mark to fill stands in no cell */
     PLOTASK_OUTPUT_TOO_SHORT = 44,       /* the output is shorter than the card, or than the census's 200 words */
@@ -134,8 +149,8 @@ enum plotask_kind {
     PLOTASK_NOT = 3,    /* not: child */
     PLOTASK_AND = 4,    /* and: left child, right child */
     PLOTASK_OR = 5,     /* or: left child, right child */
-    PLOTASK_SOME = 6,   /* some value of the plot: variable number 0 to 15, child */
-    PLOTASK_EVERY = 7   /* every value of the plot: variable number 0 to 15, child */
+    PLOTASK_SOME = 6,   /* some of the plot's values: variable number 0 to 15 (not PLOTASK_VARIABLE), child */
+    PLOTASK_EVERY = 7   /* every one of the plot's values: variable number 0 to 15 (not PLOTASK_VARIABLE), child */
 };
 
 /*
@@ -157,17 +172,25 @@ _Static_assert(sizeof(struct plotask_header) == 40, "a header is ten words");
 /* A header as the ten words that a call takes. */
 static inline uint32_t *plotask_header_words(struct plotask_header *header)
 {
+#ifdef __cplusplus
+    return reinterpret_cast<uint32_t *>(header);
+#else
     return (uint32_t *)(void *)header;
+#endif
 }
 
 static inline const uint32_t *plotask_const_header_words(const struct plotask_header *header)
 {
+#ifdef __cplusplus
+    return reinterpret_cast<const uint32_t *>(header);
+#else
     return (const uint32_t *)(const void *)header;
+#endif
 }
 
 /* Both arguments at once, words and length: plotask_insert(PLOTASK_HEADER(&header), plot, ...). The second is for a const header. */
-#define PLOTASK_HEADER(header) plotask_header_words(header), (size_t)PLOTASK_HEADER_WORDS
-#define PLOTASK_CONST_HEADER(header) plotask_const_header_words(header), (size_t)PLOTASK_HEADER_WORDS
+#define PLOTASK_HEADER(header) plotask_header_words(header), PLOTASK_HEADER_WORDS
+#define PLOTASK_CONST_HEADER(header) plotask_const_header_words(header), PLOTASK_HEADER_WORDS
 
 /*
  * Reading a card (decode): a card's bytes become a plot, from its first word on. What header and plot held before is not read.
@@ -175,7 +198,9 @@ static inline const uint32_t *plotask_const_header_words(const struct plotask_he
  * A card, high byte first: the number of sheets (1 byte), the columns of each (1 byte each), the number of rows (2 bytes), then the rows: the
  * sheet (1 byte), a bit map (1 byte; bit 0, worth 1, is column 0), and 3 bytes with a cell for each column whose bit stands, in column order.
  * A column whose bit does not stand is blank: it gets a mark of its own. With M the highest mark written anywhere in the card (0 if none),
- * the blanks get the marks M + 1, M + 2 and so on, in card order.
+ * the blanks get the marks M + 1, M + 2 and so on, in card order. Two sheets of one column, with the row (201) in sheet 0 and a blank in sheet 1:
+ *
+ *   2, 1, 1,  0, 2,  0, 1, 0, 0, 201,  1, 0
  *
  *   card, card_bytes      the card; every length
  *   header, header_words  ten words, PLOTASK_HEADER(&header)
@@ -202,8 +227,8 @@ uint32_t plotask_insert(uint32_t *header, size_t header_words, uint32_t *plot, s
                         size_t cell_count);
 
 /*
- * A fill (substitute): a cell is put in every cell of the plot that holds a mark. A verdict that was true or false stays so, where the mark
- * is filled in the candidate too; an unknown one may be settled. The looks do not rise.
+ * A fill (substitute): a cell is put in every cell of the plot that holds a mark. The candidate is the host's: where it holds the mark, the host
+ * puts the cell there as well. Then a verdict that was true or false stays so, an unknown one may be settled, and the looks do not rise.
  *
  *   header, header_words  ten words, PLOTASK_CONST_HEADER(&header) or PLOTASK_HEADER(&header)
  *   plot, plot_words      the plot
@@ -222,7 +247,7 @@ uint32_t plotask_substitute(const uint32_t *header, size_t header_words, uint32_
  *
  *   header, header_words  ten words, PLOTASK_CONST_HEADER(&header) or PLOTASK_HEADER(&header)
  *   plot, plot_words      the plot
- *   counts, counts_words  at least 200 words; counts[m - 1] gets the number of cells that hold mark m
+ *   counts, counts_words  at least 200 words; counts[m - 1] gets the number of cells that hold mark m, 0 for a mark that is free
  *   count                 gets 200
  *
  * Writes: the first 200 words of counts, and count.
@@ -250,12 +275,15 @@ uint32_t plotask_encode(const uint32_t *header, size_t header_words, const uint3
  *
  * A question is 1 to 100 nodes of 8 words; node 0 is the top. A node's first word is its kind (enum plotask_kind), the next ones what is named
  * there, the rest 0. A child is the number of a node, greater than its parent's; each node but 0 is a child of exactly one. A term is an inked
- * value or PLOTASK_VARIABLE(v). Variables 0 to k - 1 are the candidate's k cells; any other must be bound by a "some" or "every" above it.
- * The nearest one counts, also before the candidate. For "201 stands in sheet 0 and not in sheet 1", asked of the candidate (201):
+ * value or PLOTASK_VARIABLE(v); a term that is left out is 0, which is an inked value. Variables 0 to k - 1 are the candidate's k cells; any other
+ * must be bound by a "some" or "every" on the way up to the top. Where several bind one variable the nearest holds, and it holds in place of the
+ * candidate's cell. For "201 stands in sheet 0 and not in sheet 1", asked of the candidate (201):
  *
  *   { PLOTASK_AND, 1, 2 }, { PLOTASK_STANDS, 0, PLOTASK_VARIABLE(0) }, { PLOTASK_NOT, 3 }, { PLOTASK_STANDS, 1, PLOTASK_VARIABLE(0) }
  *
- * as uint32_t question[4][8], passed as (&question[0][0], 4 * PLOTASK_NODE_WORDS).
+ * as uint32_t question[4][8], passed as (&question[0][0], 4 * PLOTASK_NODE_WORDS). For "201 stands with some value in sheet 2, of two columns":
+ *
+ *   { PLOTASK_SOME, 1, 1 }, { PLOTASK_STANDS, 2, PLOTASK_VARIABLE(0), PLOTASK_VARIABLE(1) }
  *
  * Verdicts. "Row stands" is true where the very row stands in the sheet, false where no row of the sheet can be made equal to it by giving each
  * mark one value, else unknown. "Equal" is true for the same cell, false for two different inked values, else unknown. "Not" swaps true and
@@ -263,6 +291,8 @@ uint32_t plotask_encode(const uint32_t *header, size_t header_words, const uint3
  * plot's values; over none, "some" is false and "every" true.
  * Looks. "Equal" costs 1, "row stands" 1 and the number of rows of that sheet. The right child of "and" is not asked where the left is false,
  * of "or" where the left is true; "some" stops after the first true, "every" after the first false.
+ * Looks are no measure of time: "row stands" passes the rows of every sheet up to the last one of its own. The time that a question may take grows
+ * with its looks and with the words in use, at most with their product.
  *
  *   header, header_words        ten words, PLOTASK_CONST_HEADER(&header) or PLOTASK_HEADER(&header)
  *   plot, plot_words            the plot
@@ -273,8 +303,8 @@ uint32_t plotask_encode(const uint32_t *header, size_t header_words, const uint3
  *   truth                       gets the verdict (enum plotask_truth)
  *   cost                        gets the looks
  *
- * Writes: the plot's values, each once, in order of first standing, at the start of the list, also where the refusal is 46; and, where it is
- * accepted, truth and cost.
+ * Writes: the plot's values, each once, in order of first standing, at the start of the list (how many they are is not told), also where the
+ * refusal is 46; and, where it is accepted, truth and cost.
  * Refuses: 41, 21, 26; then the nodes by number, each 23 (a node that none names), 22 (kind), 25, 22 (words that must be 0), 24 (quantifier's
  * variable), 23 (children, left first), then its terms from left to right, each 22, 24; then 45, 46.
  */

@@ -1,5 +1,6 @@
-# The tests of the C side: the sample host's output, the boxes of docs/VERDICTS.md, document 01's readings, looks at the limit of 32 bits, the
-# library and the program against the reference, and the library once more with sanitizers around the C side. The last line is the total.
+# The tests of the C side: the sample host's output, the boxes of docs/VERDICTS.md, the header's own examples from C++, document 01's readings,
+# looks at the limit of 32 bits, the library and the program against the reference, and the library once more with sanitizers around the C side.
+# The last line is the total.
 # By hand, with any seed and number of rounds: make -C host test SEED=7 ROUNDS=30000
 
 SANITIZE ?= -g -fsanitize=address,undefined -fno-sanitize-recover=all
@@ -19,15 +20,20 @@ FEED = feed.c generate_input.c $(GENERATE) $(REFERENCE)
 TEST_HEADERS = plotask.h reference.h reference_plot.h reference_question.h reference_bytes.h random.h \
 	generate.h lent.h tally.h compare.h calls.h two_runs.h
 
-test: $(OUT)/example $(OUT)/verdicts $(OUT)/readings $(OUT)/limit $(OUT)/differential $(OUT)/differential_sanitized $(OUT)/feed
+CXXFLAGS := -std=c++11 -O2 -Wall -Wextra -Wpedantic -Wold-style-cast -Wconversion -Werror
+
+test: $(OUT)/example $(OUT)/verdicts $(OUT)/header $(OUT)/readings $(OUT)/limit $(OUT)/differential $(OUT)/differential_sanitized $(OUT)/feed
 	@{ $(MAKE) -s --no-print-directory example verdicts && \
-	$(LIMIT) $(OUT)/readings && $(LIMIT) $(OUT)/limit && \
+	$(LIMIT) $(OUT)/header && $(LIMIT) $(OUT)/readings && $(LIMIT) $(OUT)/limit && \
 	$(LIMIT) $(OUT)/differential $(SEED) $(ROUNDS) && \
 	$(LIMIT) $(OUT)/differential_sanitized $(SEED) $(SANITIZED_ROUNDS) && \
 	$(LIMIT) $(OUT)/feed $(PROGRAM) $(SEED) $(RUNS); } > $(OUT)/tests.log || { cat $(OUT)/tests.log; exit 1; }
 	@cat $(OUT)/tests.log
 	@awk '/^[0-9]+ passed, [0-9]+ failed$$/ { passed += $$1; failed += $$3 } \
 		END { printf "%d passed, %d failed\n", passed, failed }' $(OUT)/tests.log
+
+$(OUT)/header: header.cpp plotask.h $(LIBRARY) | $(OUT)
+	$(CXX) $(CXXFLAGS) header.cpp $(LIBRARY) -o $@
 
 $(OUT)/readings: $(READINGS) $(TEST_HEADERS) $(LIBRARY) | $(OUT)
 	$(CC) $(CFLAGS) $(READINGS) $(LIBRARY) -o $@
