@@ -4,32 +4,18 @@ ghost use Prim.Native.Nat.{_+_, _≤_, _<_};
 ghost use mathlib.Core.List.{_∷_, _++_};
 ghost use lib.ListN.{length, drop};
 ghost use Rattle.instance.specs.Insert.{inserted, insertedHeader, insertedWords};
-ghost use Rattle.instance.specs.Rows.{areCells};
+use super::cells::are_cells;
 use super::header::Header;
 use super::header::Stored;
 use super::header::WORDS;
 use super::scan::Scanned;
 use super::scan::scan;
 use calculus::answer::Answer;
-use calculus::cell::is_cell;
 use calculus::refusal::NO_ROOM;
 use calculus::refusal::NO_SUCH_RELATION;
 use calculus::refusal::NOT_A_CELL;
 use calculus::refusal::UNSOUND;
 use calculus::refusal::WRONG_ROW_LENGTH;
-
-pub fn are_cells(cells: &[u32]) -> bool
-    ensures { λ r. ⌜ r ≡ areCells (now (cells .entry)) ⌝ }
-{
-    let mut i = 0;
-    while i < cells.len() {
-        if !is_cell(cells[i]) {
-            return false;
-        }
-        i += 1;
-    }
-    true
-}
 
 fn check_insert(header: Header, plot: &[u32], relation: u32, cells: &[u32]) -> Answer
     ensures { λ r. ⌜ r ≡ inserted header (now (plot .entry)) relation (now (cells .entry)) ⌝ }

@@ -1,14 +1,15 @@
 // One pass over an instance that tells whether it is sound, and how many rows it has.
 ghost use mathlib.Core.Path.{_≡_};
+ghost use mathlib.Core.Bool.{true};
 ghost use Prim.Native.Nat.{_≤_};
 ghost use lib.ListN.{length};
 ghost use Rattle.instance.specs.Header.{headerStands, maxRelations, maxWords};
 ghost use Rattle.instance.specs.Sound.{scanned, scannedWords};
+use super::cells::are_cells;
 use super::header::COLUMNS;
 use super::header::Header;
 use super::header::RELATIONS;
 use super::header::WORDS;
-use calculus::cell::is_cell;
 
 pub enum Scanned {
     Rows(u32),
@@ -46,30 +47,26 @@ fn header_stands(relations: u32, arities: &[u32; 8]) -> bool
 
 // The number of rows that the words stand for, or that they stand for none.
 fn scan_words(relations: u32, arities: &[u32; 8], words: &[u32]) -> Scanned
-    requires { ⌜ (relations ≤ maxRelations) × (length (now words) ≤ maxWords) ⌝ }
+    requires { ⌜ (headerStands relations (now arities) ≡ true) × (length (now words) ≤ maxWords) ⌝ }
     ensures { λ r. ⌜ r ≡ scannedWords relations (now (arities .entry)) (now (words .entry)) ⌝ }
 {
     let mut rows: u32 = 0;
-    let mut left: u32 = 0;
     let mut i = 0;
     while i < words.len() {
         let w = words[i];
-        if left == 0 {
-            if relations <= w {
-                return Scanned::Unsound;
-            }
-            left = arities[w as usize];
-            rows += 1;
-        } else {
-            if !is_cell(w) {
-                return Scanned::Unsound;
-            }
-            left -= 1;
+        if relations <= w {
+            return Scanned::Unsound;
         }
-        i += 1;
-    }
-    if left != 0 {
-        return Scanned::Unsound;
+        let first = i + 1;
+        let next = first + arities[w as usize] as usize;
+        if words.len() < next {
+            return Scanned::Unsound;
+        }
+        if !are_cells(&words[first..next]) {
+            return Scanned::Unsound;
+        }
+        rows += 1;
+        i = next;
     }
     Scanned::Rows(rows)
 }

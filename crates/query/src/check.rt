@@ -10,7 +10,7 @@ ghost use Rattle.query.specs.Answers.{scopes, Long, Answers};
 use super::node::check_node;
 use calculus::refusal::BAD_CANDIDATE;
 use calculus::refusal::BAD_QUERY_LENGTH;
-use instance::insert::are_cells;
+use instance::cells::are_cells;
 
 // The nodes by number, up to the first refusal.
 fn check_nodes(

@@ -6,7 +6,6 @@ use native.Mathlib.Omega.{arith}
 use borrow.Author.Tests.{le-leb, lt-leb, not-true, not-false}
 use lib.ListN.{length-take}
 use lib.Seq.{length-take-le}
-use Rattle.instance.proofs.Rows.{headed}
 use Rattle.instance.specs.Sound.{sound, rows, scanned, scannedWords}
 use Rattle.instance.specs.Header.{headerStands}
 use borrow.Author.Needs.{needs}
@@ -41,9 +40,7 @@ stands : (c : tie.Else3) → headerStands (c .before .before .before .before .be
 stands c = sym (c .before .header-stands .ensures) ∙ not-false _ (c .if3 .left)
 
 scan-words-requires : tie.Need-scan-words-requires
-scan-words-requires c κs =
-    let few = headed _ _ (stands (c .before .before)) .few in
-    (few, simp (length-take) (omega arith))
+scan-words-requires c κs = (stands (c .before .before), simp (length-take) (omega arith))
 
 returns-4 : tie.Need-returns-4
 unfolding scanned sound scannedWords rows

@@ -1,29 +1,29 @@
--- `instance::scan::scan_words` meets its contract: what is left to see, from place i on, decides what it answers. Assumes nothing.
-use Prim.Native.Nat.{ℕ, _≤_, _-_, _+_}
+-- `instance::scan::scan_words` meets its contract: what is left to see, from the row at place i on, decides what it answers. Assumes nothing.
+use Prim.Native.Nat.{ℕ, _≤_, _<_, _-_, _+_}
 use mathlib.Core.Path.{_≡_, sym, ap, _∙_}
-use mathlib.Core.Logic.{⊎-elim}
-use mathlib.Core.Bool.{false, cond}
-use mathlib.Core.List.{List, _∷_}
+use mathlib.Core.Bool.{Bool, true, false, cond}
+use mathlib.Core.List.{List}
 use native.Mathlib.Nat.{zero-add}
 use native.Mathlib.Omega.{arith}
 use borrow.Author.Needs.{needs}
-use borrow.Author.Tests.{lt-ltb, le-ltb, eq-eqb, ne-eqb, not-true, not-false}
-use lib.ListN.{length, drop, getD}
-use lib.Seq.{drop-length}
-use lib.Dec.{ltb, eqb}
-use Rattle.calculus.specs.Cell.{isCell}
-use Rattle.instance.specs.declared.scan.Scanned.the-variants.{Rows, Unsound}
+use borrow.Author.Tests.{lt-ltb, le-ltb, not-true, not-false}
+use lib.ListN.{length, take, drop, getD, length-drop}
+use lib.Seq.{drop-length, drop-drop}
+use lib.Dec.{ltb}
+use Rattle.instance.specs.declared.scan.Scanned.the-variants.{Unsound}
 use Rattle.instance.specs.Header.{arityOf}
+use Rattle.instance.specs.Rows.{areCells}
 use Rattle.instance.specs.Sound.{scannedWords}
-use Rattle.instance.proofs.ScanSteps.{rest, scanFrom, scan-end, scan-row, scan-cell}
+use Rattle.instance.proofs.Rows.{Headed, headed}
+use Rattle.instance.proofs.ScanSteps.{rest, scanFrom, scan-end, scan-row, scan-cells, scan-short}
 use Rattle.instance.proofs.scan.scan_words.Statement.{statement}
 use Rattle.instance.proofs.scan.scan_words.Tie as tie
 
 abbrev Inv-loop : tie.InvT-loop
-Inv-loop relations arities words rows₀ left₀ i₀ rows left i = (i ≤ length words) × (rows ≤ i) × (scannedWords relations arities words ≡ scanFrom relations arities rows left (drop i words))
+Inv-loop relations arities words rows₀ i₀ rows i = (i ≤ length words) × (rows ≤ i) × (scannedWords relations arities words ≡ scanFrom relations arities rows 0 (drop i words))
 
 abbrev μ-loop : tie.MeasureT-loop
-μ-loop relations arities words rows₀ left₀ i₀ rows left i = length words - i
+μ-loop relations arities words rows₀ i₀ rows i = length words - i
 
 loop-holds : tie.Need-loop-holds Inv-loop μ-loop
 unfolding scannedWords scanFrom
@@ -35,7 +35,7 @@ mul-w c = omega arith
 shared-slice-read-w : tie.Need-shared-slice-read-w Inv-loop μ-loop
 shared-slice-read-w c = omega arith
 
--- the word at place i, and what is left behind it
+-- the row at place i, and what is left behind its relation's number
 module _ (c : tie.In-loop Inv-loop μ-loop) where
   abbrev n : ℕ
   n = c .before .before .before .args .relations
@@ -49,72 +49,102 @@ module _ (c : tie.In-loop Inv-loop μ-loop) where
   abbrev k : ℕ
   k = c .before .loop .rows
 
+  abbrev i : ℕ
+  i = c .before .loop .i
+
   abbrev w : ℕ
-  w = getD ws (c .before .loop .i) 0
+  w = getD ws i 0
 
   abbrev behind : List ℕ
-  behind = drop (c .before .loop .i + 1) ws
+  behind = drop (i + 1) ws
 
-  seen : scannedWords n ars ws ≡ scanFrom n ars k (c .before .loop .left) (w ∷ behind)
-  seen = c .before .loop .inv .2 ∙ ap (scanFrom n ars k (c .before .loop .left)) (rest ws (c .before .loop .i) (omega arith))
+  abbrev stands : Headed n ars
+  stands = headed n ars (c .before .before .before .pre .0)
 
-  at-row : c .before .loop .left ≡ 0 → scannedWords n ars ws ≡ cond (ltb w n) (scanFrom n ars (k + 1) (arityOf ars w) behind) Unsound
-  at-row e = seen ∙ scan-row n ars k _ w behind e
+  at-row : (b : Bool) → ltb w n ≡ b → scannedWords n ars ws ≡ cond b (scanFrom n ars (k + 1) (arityOf ars w) behind) Unsound
+  at-row b e =
+      c .before .loop .inv .2
+      ∙ ap (scanFrom n ars k 0) (rest ws i (omega arith))
+      ∙ scan-row n ars k w behind
+      ∙ ap (λ (b : Bool). cond b (scanFrom n ars (k + 1) (arityOf ars w) behind) Unsound) e
 
-  at-cell : (c .before .loop .left ≡ 0 → ⊥) → scannedWords n ars ws ≡ cond (isCell w) (scanFrom n ars k (c .before .loop .left - 1) behind) Unsound
-  at-cell e = seen ∙ scan-cell n ars k _ w behind e
+  -- its cells
+  module _ (known : w < n) where
+    too-few : length ws < i + 1 + arityOf ars w → scannedWords n ars ws ≡ Unsound
+    too-few l = at-row true (lt-ltb w n known) ∙ scan-short n ars (k + 1) (arityOf ars w) behind (omega (arith, length-drop (i + 1) ws))
+
+    past : (b : Bool) → i + 1 + arityOf ars w ≤ length ws → areCells (take (arityOf ars w) behind) ≡ b
+        → scannedWords n ars ws ≡ cond b (scanFrom n ars (k + 1) 0 (drop (i + 1 + arityOf ars w) ws)) Unsound
+    past b l e =
+        at-row true (lt-ltb w n known)
+        ∙ scan-cells n ars (k + 1) (arityOf ars w) behind (omega (arith, length-drop (i + 1) ws))
+        ∙ ap (λ (b : Bool). cond b (scanFrom n ars (k + 1) 0 (drop (arityOf ars w) behind)) Unsound) e
+        ∙ ap (λ (ws : List ℕ). cond b (scanFrom n ars (k + 1) 0 ws) Unsound) (drop-drop (arityOf ars w) (i + 1) ws)
 
 returns : tie.Need-returns Inv-loop μ-loop
-returns c = rw (at-row (c .before .before .before) (c .before .if1 .taken)) (simp (le-ltb _ _ (c .if2 .taken)))
+returns c = sym (at-row (c .before .before) false (le-ltb _ _ (c .if1 .taken)))
 
-cast-left : tie.Need-cast-left Inv-loop μ-loop
-cast-left c = omega (arith, c .before .before .shared-slice-known2 .given (c .before .before .before .before .loop .i))
+add-first : tie.Need-add-first Inv-loop μ-loop
+add-first c = omega arith
 
-mul-left : tie.Need-mul-left Inv-loop μ-loop
-mul-left c = omega arith
+cast-next : tie.Need-cast-next Inv-loop μ-loop
+cast-next c = omega (arith, stands (c .before .before) .few)
 
-element-copy-out-left : tie.Need-element-copy-out-left Inv-loop μ-loop
-element-copy-out-left c = omega arith
+mul-next : tie.Need-mul-next Inv-loop μ-loop
+mul-next c = omega (arith, stands (c .before .before) .few)
+
+element-copy-out-next : tie.Need-element-copy-out-next Inv-loop μ-loop
+element-copy-out-next c = omega (arith, stands (c .before .before) .few)
+
+cast-next-2 : tie.Need-cast-next-2 Inv-loop μ-loop
+cast-next-2 c = omega (arith, stands (c .before .before .before) .columns (w (c .before .before .before)) (c .before .if1 .left))
+
+add-next : tie.Need-add-next Inv-loop μ-loop
+add-next c = omega (arith, stands (c .before .before .before) .columns (w (c .before .before .before)) (c .before .if1 .left))
+
+returns-2 : tie.Need-returns-2 Inv-loop μ-loop
+returns-2 c = sym (too-few (c .before .before .before .before) (c .before .before .if1 .left) (c .if2 .taken))
+
+mul-are-cells : tie.Need-mul-are-cells Inv-loop μ-loop
+mul-are-cells c = omega arith
+
+sub-are-cells : tie.Need-sub-are-cells Inv-loop μ-loop
+sub-are-cells c = omega arith
+
+part-are-cells-start : tie.Need-part-are-cells-start Inv-loop μ-loop
+part-are-cells-start c = omega arith
+
+part-are-cells-end : tie.Need-part-are-cells-end Inv-loop μ-loop
+part-are-cells-end c = omega arith
+
+are-cells-requires : tie.Need-are-cells-requires Inv-loop μ-loop
+are-cells-requires c κs = search needs
+
+-- what the call of are_cells says of the row's cells
+told : (c : tie.After-are-cells Inv-loop μ-loop) → areCells (take (arityOf (ars (c .before .before .before .before .before .before)) (w (c .before .before .before .before .before .before))) (behind (c .before .before .before .before .before .before))) ≡ c .are-cells .result
+told c =
+    let b = c .before .before .before .before .before .before in
+    let size : arityOf (ars b) (w b) ≡ i b + 1 + arityOf (ars b) (w b) - (i b + 1) = omega arith in
+    ap (λ (m : ℕ). areCells (take m (behind b))) size ∙ sym (c .are-cells .ensures)
+
+returns-3 : tie.Need-returns-3 Inv-loop μ-loop
+returns-3 c =
+    sym (past (c .before .before .before .before .before .before .before) (c .before .before .before .before .before .if1 .left) false (c .before .before .before .if2 .left) (told (c .before) ∙ not-true _ (c .if3 .taken)))
 
 add-rows : tie.Need-add-rows Inv-loop μ-loop
 add-rows c = omega arith
-
-is-cell-requires : tie.Need-is-cell-requires Inv-loop μ-loop
-is-cell-requires c κs = search needs
-
-returns-2 : tie.Need-returns-2 Inv-loop μ-loop
-returns-2 c =
-    let e : isCell (w (c .before .before .before .before)) ≡ false = sym (c .before .is-cell .ensures) ∙ not-true _ (c .if3 .taken) in
-    rw (at-cell (c .before .before .before .before) (c .before .before .if1 .left), e)
-
-sub-left : tie.Need-sub-left Inv-loop μ-loop
-sub-left c = omega arith
-
-add-i : tie.Need-add-i Inv-loop μ-loop
-add-i c = omega arith
 
 loop-less : tie.Need-loop-less Inv-loop μ-loop
 loop-less c = omega arith
 
 loop-again : tie.Need-loop-again Inv-loop μ-loop
 loop-again c =
-    ⊎-elim
-    (λ a. (omega arith, omega arith, at-row (c .before .before) (a .0 .taken) ∙ simp (a .3, a .4, lt-ltb _ _ (a .1 .left))))
-    (λ a. (omega arith, omega arith, at-cell (c .before .before) (a .0 .left) ∙ simp (a .3, a .4, sym (a .1 .ensures) ∙ not-false _ (a .2 .left))))
-    (c .if1 .came)
-
-at-end : (c : tie.After-loop Inv-loop μ-loop)
-    → scannedWords (c .before .before .before .args .relations) (c .before .before .before .args .arities .now) (c .before .before .before .args .words .now)
-    ≡ cond (eqb (c .before .loop .left) 0) (Rows (c .before .loop .rows)) Unsound
-at-end c =
-    let e : c .before .loop .i ≡ length (c .before .before .before .args .words .now) = omega arith in
-    c .before .loop .inv .2 ∙ rw (e, drop-length) (scan-end _ _ _ _)
-
-returns-3 : tie.Need-returns-3 Inv-loop μ-loop
-returns-3 c = rw (at-end (c .before)) (simp (ne-eqb _ _ (c .if4 .taken)))
+    (omega arith, omega arith, past (c .before .before .before .before .before .before .before) (c .before .before .before .before .before .if1 .left) true (c .before .before .before .if2 .left) (told (c .before) ∙ not-false _ (c .if3 .left)))
 
 returns-4 : tie.Need-returns-4 Inv-loop μ-loop
-returns-4 c = rw (at-end (c .before)) (simp (eq-eqb _ _ (c .if4 .left)))
+returns-4 c =
+    let e : c .before .loop .i ≡ length (c .before .before .before .args .words .now) = omega arith in
+    sym (c .before .loop .inv .2 ∙ rw (e, drop-length) (scan-end _ _ _))
 
 pub scan-words-spec : {M : Type 1} → statement M
 scan-words-spec =
@@ -126,15 +156,20 @@ scan-words-spec =
     mul-w
     shared-slice-read-w
     returns
-    cast-left
-    mul-left
-    element-copy-out-left
-    add-rows
-    is-cell-requires
+    add-first
+    cast-next
+    mul-next
+    element-copy-out-next
+    cast-next-2
+    add-next
     returns-2
-    sub-left
-    add-i
+    mul-are-cells
+    sub-are-cells
+    part-are-cells-start
+    part-are-cells-end
+    are-cells-requires
+    returns-3
+    add-rows
     loop-less
     loop-again
-    returns-3
     returns-4)

@@ -1,4 +1,4 @@
--- `instance::insert::are_cells` meets its contract: the cells from place i on decide. Assumes nothing.
+-- `instance::cells::are_cells` meets its contract: the cells from place i on decide. Assumes nothing.
 use Prim.Native.Nat.{ℕ, _≤_, _-_, _+_}
 use mathlib.Core.Path.{_≡_, refl, sym, ap, _∙_}
 use mathlib.Core.Bool.{Bool, true, false, _&&_}
@@ -10,8 +10,8 @@ use lib.ListN.{length, drop}
 use lib.Seq.{drop-length}
 use Rattle.instance.specs.Rows.{areCells}
 use Rattle.instance.proofs.ScanSteps.{cells-rest}
-use Rattle.instance.proofs.insert.are_cells.Statement.{statement}
-use Rattle.instance.proofs.insert.are_cells.Tie as tie
+use Rattle.instance.proofs.cells.are_cells.Statement.{statement}
+use Rattle.instance.proofs.cells.are_cells.Tie as tie
 
 abbrev Inv-loop : tie.InvT-loop
 Inv-loop cells i₀ i = (i ≤ length cells) × (areCells cells ≡ areCells (drop i cells))
