@@ -2,3 +2,4 @@ pub mod Within
 pub mod Ready
 pub mod Ask
 pub mod Rerun
+pub mod Numbers

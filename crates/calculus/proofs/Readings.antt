@@ -17,7 +17,7 @@ use Rattle.calculus.specs.Fill.{countOf}
 use Rattle.calculus.specs.Kleene.{conj, disj, join, negate}
 use Rattle.calculus.specs.Formula.{Formula}
 use Rattle.calculus.specs.Model.{Fill, run}
-use Rattle.calculus.specs.Readings.{Reading, unify, asks, everyFill, outcome, Holds, AllHold, table, row, fill, question8}
+use Rattle.calculus.specs.Readings.{Reading, unify, asks, everyFill, outcome, Holds, AllHold, table, shortCuts, row, fill, question8}
 use Rattle.calculus.specs.Order.{ofBool}
 use Rattle.calculus.proofs.Agreement.{equality-bool}
 use Rattle.calculus.proofs.Truths.{same, same-is}
@@ -98,3 +98,7 @@ case-8 c k = rw (after-fill c k, eq-eqb c c refl, equality-bool c 0 k refl) (go 
 pub readings : AllHold table
 unfolding all-hold holds beq Claims eval unifiesWith without distinct tuples some identical stands equality countOf run cellsOf isCell put
 readings = each-holds table tt (case-8, tt)
+
+pub short-cuts : AllHold shortCuts
+unfolding all-hold holds Claims eval without distinct tuples some identical stands equality countOf run cellsOf isCell put
+short-cuts = each-holds shortCuts tt tt

@@ -90,3 +90,18 @@ table =
     ∷ asks (row 0 m1 ∷ row 0 8 ∷ []) [] [] (quantified conj 0 (equal x (const 7))) False 2
     ∷ asks (row 0 m1 ∷ row 0 8 ∷ []) [] (fill 1 8 ∷ []) (quantified conj 0 (equal x (const 7))) False 1
     ∷ []
+
+-- "And asks its right child only if the left is not false; or, only if the left is not true. Some stops after the first true, every after the first
+-- false": also where the left or the first is unknown.
+abbrev pub shortCuts : List Reading
+shortCuts =
+    asks [] [] [] (junction conj (equal (const 0) (const 1)) (equal (const 0) (const 0))) False 1
+    ∷ asks [] [] [] (junction disj (equal (const 0) (const 0)) (equal (const 0) (const 1))) True 1
+    ∷ asks [] [] [] (junction conj (equal (const 0) (const 0)) (equal (const 0) (const 1))) False 2
+    ∷ asks [] [] [] (junction disj (equal (const 0) (const 1)) (equal (const 0) (const 0))) True 2
+    ∷ asks [] (m1 ∷ []) [] (junction conj (equal x (const 0)) (equal (const 0) (const 1))) False 2
+    ∷ asks [] (m1 ∷ []) [] (junction disj (equal x (const 0)) (equal (const 0) (const 0))) True 2
+    ∷ asks (row 0 8 ∷ row 0 9 ∷ []) [] [] (quantified disj 0 (equal x (const 8))) True 1
+    ∷ asks (row 0 8 ∷ row 0 9 ∷ []) [] [] (quantified conj 0 (equal x (const 9))) False 1
+    ∷ asks (row 0 m1 ∷ row 0 9 ∷ []) [] [] (quantified disj 0 (equal x (const 9))) True 2
+    ∷ []

@@ -1,7 +1,7 @@
 // The calls for a host in C, on numbers and slices: each answers 0 where it is accepted, else the number of the refusal.
 ghost use mathlib.Core.Path.{_≡_};
-ghost use Rattle.calculus.specs.Answer.{numberOf};
-ghost use Rattle.host.specs.Words.{valueOf, askedNumber, verdictOf, looksOf};
+ghost use Rattle.calculus.specs.Answer.{numberOf, valueOf};
+ghost use Rattle.answer.specs.Numbers.{askedNumber, verdictOf, looksOf};
 ghost use Rattle.host.specs.Calls.{decodeAnswer, decodeHeader, decodeWords};
 ghost use Rattle.host.specs.Calls.{insertAnswer, insertHeader, insertWords};
 ghost use Rattle.host.specs.Calls.{substituteAnswer, substituteWords, countsAnswer, countsWords, encodeAnswer, encodeBytes};

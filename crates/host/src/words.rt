@@ -1,8 +1,10 @@
 // A header as words, and an answer as numbers.
 ghost use mathlib.Core.Path.{_≡_};
 ghost use lib.ListN.{length};
-ghost use Rattle.calculus.specs.Answer.{after, numberOf};
-ghost use Rattle.host.specs.Words.{valueOf, headerOf, headerWords, truthNumber, askedNumber, verdictOf, looksOf};
+ghost use Rattle.calculus.specs.Answer.{after, numberOf, valueOf};
+ghost use Rattle.calculus.specs.Kleene.{rank};
+ghost use Rattle.answer.specs.Numbers.{askedNumber, verdictOf, looksOf};
+ghost use Rattle.host.specs.Words.{headerOf, headerWords};
 use answer::asked::Asked;
 use calculus::answer::Answer;
 use calculus::truth::Truth;
@@ -74,7 +76,7 @@ pub fn value(answer: Answer, old: u32) -> u32
 }
 
 fn truth_number(truth: Truth) -> u32
-    ensures { λ r. ⌜ r ≡ truthNumber truth ⌝ }
+    ensures { λ r. ⌜ r ≡ rank truth ⌝ }
 {
     match truth {
         Truth::False => 0,

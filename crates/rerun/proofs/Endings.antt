@@ -27,7 +27,7 @@ use Rattle.answer.proofs.RerunLaws.{verdict-asked, demand-three}
 use Rattle.rerun.specs.declared.reran.Reran.{Reran}
 use Rattle.rerun.specs.declared.reran.Reran.the-variants.{Refused}
 use Rattle.rerun.specs.Fills.{fillsOf, filledCandidate, stored}
-use Rattle.rerun.specs.Rerun.{bothRuns, secondOf, bookWords, runA, runB, listA, begun, reran, reranWords, reranCandidate, reranAnswers, reranBuffer, Claim}
+use Rattle.rerun.specs.Rerun.{bothRuns, firstOf, secondOf, bookWords, runA, runB, listA, begun, reran, reranWords, reranCandidate, reranAnswers, reranBuffer, Claim}
 use Rattle.rerun.proofs.BookLaws.{candidate-run}
 
 -- an ask leaves no shorter list
@@ -39,6 +39,9 @@ longer h ws qs candidate buffer = go (askable h ws qs candidate buffer)
     go (answer.Done k) =
         omega (arith, length-append (domain (rows h ws)) (drop (length (domain (rows h ws))) buffer), length-drop (length (domain (rows h ws))) buffer)
     go (answer.Refused r) = omega arith
+
+first-both : (t : Truth) (n : ℕ) (b : Asked) (u : Truth) (k : ℕ) → b ≡ asked.Verdict u k → firstOf (bothRuns (asked.Verdict t n) b) ≡ asked.Verdict t n
+first-both t n b u k e = rw e refl
 
 second-both : (t : Truth) (n : ℕ) (b : Asked) → secondOf (bothRuns (asked.Verdict t n) b) ≡ b
 second-both t n (asked.Verdict u k) = refl
@@ -102,10 +105,11 @@ module _ (h : Header) (ws qs candidate buffer : List ℕ) (budget : ℕ) (fills 
           let q = sym e in
           let told : b ≡ runB h ws qs candidate buffer budget fills out = rw (← book-words, ← book-candidate, ← is-list) is-asked in
           let listed : buffer′ ≡ askedBuffer h (bookWords h ws qs candidate buffer budget fills out) qs (run (fillsOf fills) (modelOf h ws candidate) .candidate) (listA h ws qs candidate buffer budget fills out) = rw (← book-words, ← book-candidate, ← is-list) is-listed in
-          let claimed : (u : Truth) (k : ℕ) → runA h ws qs candidate buffer budget fills out ≡ asked.Verdict u k → Rerun h ws qs candidate (fillsOf fills) u k (secondOf (bothRuns (asked.Verdict t n) b)) =
+          let claimed : (u : Truth) (k : ℕ) → runA h ws qs candidate buffer budget fills out ≡ asked.Verdict u k → (firstOf (bothRuns (asked.Verdict t n) b) ≡ asked.Verdict u k) × Rerun h ws qs candidate (fillsOf fills) u k (secondOf (bothRuns (asked.Verdict t n) b)) =
           λ u k v.
-          rw (second-both t n b, is-asked, is-words, book-candidate)
-          (demand-three h ws qs candidate buffer budget (fillsOf fills) list budget (rw is-list (longer h ws qs candidate buffer)) (omega arith) u k v)
+          let d = demand-three h ws qs candidate buffer budget (fillsOf fills) list budget (rw is-list (longer h ws qs candidate buffer)) (omega arith) u k v in
+          let is-second : b ≡ ask h (filledWords h (fillsOf fills) ws) qs (run (fillsOf fills) (modelOf h ws candidate) .candidate) list budget = rw (is-asked, is-words, book-candidate) refl in
+          (first-both t n b (d .truth) (d .cost) (is-second ∙ d .answers) ∙ e ∙ v, rw (second-both t n b, is-second) d)
           in (
             rw (p, q) (ap (bothRuns (asked.Verdict t n)) told),
             (

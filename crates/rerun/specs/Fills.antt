@@ -3,8 +3,7 @@ use Prim.Native.Nat.{ℕ}
 use mathlib.Core.List.{List, [], _∷_, _++_, map}
 use lib.ListN.{length, drop}
 use Rattle.calculus.specs.declared.answer.Answer.{Answer}
-use Rattle.calculus.specs.declared.answer.Answer.the-variants.{Done, Refused}
-use Rattle.calculus.specs.Answer.{after}
+use Rattle.calculus.specs.Answer.{numberOf, valueOf, after}
 use Rattle.calculus.specs.Cell.{put}
 use Rattle.calculus.specs.Model.{Fill}
 use Rattle.instance.specs.declared.header.Header.{Header}
@@ -25,8 +24,7 @@ filledCandidate h (f ∷ fs) ws candidate =
 
 -- what a fill answers, in two words: the refusal's number or 0, and the count or 0
 abbrev pub answerPair : Answer → List ℕ
-answerPair (Done n) = 0 ∷ n ∷ []
-answerPair (Refused r) = r ∷ 0 ∷ []
+answerPair a = numberOf a ∷ valueOf a 0 ∷ []
 
 unfoldable pub answerWords : List Answer → List ℕ
 answerWords [] = []

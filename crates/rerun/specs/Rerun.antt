@@ -28,7 +28,11 @@ bothRuns (asked.Verdict a n) (asked.Verdict b k) = Verdicts a n b k
 bothRuns (asked.Verdict a n) (asked.Refused r) = Refused r
 bothRuns (asked.Refused r) b = Refused r
 
--- what a rerun's answer says of run B
+-- What a rerun's answer says of run A, and of run B; `answer/specs/Numbers.antt` has the paper's number and values of each.
+abbrev pub firstOf : Reran → Asked
+firstOf (Verdicts a n b k) = asked.Verdict a n
+firstOf (Refused r) = asked.Refused r
+
 abbrev pub secondOf : Reran → Asked
 secondOf (Verdicts a n b k) = asked.Verdict b k
 secondOf (Refused r) = asked.Refused r
@@ -84,7 +88,9 @@ module _ (h : Header) (ws qs candidate buffer : List ℕ) (budget : ℕ) (fills 
   unfoldable pub reranBuffer : List ℕ
   reranBuffer = cond hasPlace (after begun (askedBuffer h bookWords qs (book .candidate) listA) listA) buffer
 
-  -- demand 3, of the answer: where A gets a verdict, B is not refused, says at least what A said, costs no more, and is two-valued logic's where
-  -- no null is left
+  -- demand 3, of the answer: where A gets a verdict, the answer says so, B is not refused, says at least what A said, costs no more, and is
+  -- two-valued logic's where no null is left
   abbrev pub Claim : Reran → Type 0
-  Claim r = length fills ≤ length out → (t : Truth) (n : ℕ) → runA ≡ asked.Verdict t n → Rerun h ws qs candidate (fillsOf fills) t n (secondOf r)
+  Claim r =
+      length fills ≤ length out → (t : Truth) (n : ℕ) → runA ≡ asked.Verdict t n →
+      (firstOf r ≡ asked.Verdict t n) × Rerun h ws qs candidate (fillsOf fills) t n (secondOf r)

@@ -3,7 +3,7 @@ use mathlib.Core.Path.{sym, ap, _∙_}
 use Rattle.answer.specs.declared.asked.Asked.{Asked}
 use Rattle.answer.specs.declared.asked.Asked.the-variants.{Refused}
 use Rattle.answer.specs.Ask.{ask, askedBuffer}
-use Rattle.host.specs.Words.{askedNumber, verdictOf, looksOf}
+use Rattle.answer.specs.Numbers.{askedNumber, verdictOf, looksOf}
 use Rattle.host.specs.Calls.{askAnswer, askList}
 use Rattle.host.proofs.Headed.{kept-no, left}
 use borrow.Author.Needs.{needs}

@@ -1,9 +1,8 @@
 -- `host::plotask_substitute` meets its contract: a header slice of another length is refused, and any other makes the library's call. Assumes nothing.
 use mathlib.Core.Path.{sym, ap, _∙_}
 use Rattle.calculus.specs.declared.answer.Answer.{Answer}
-use Rattle.calculus.specs.Answer.{numberOf}
+use Rattle.calculus.specs.Answer.{numberOf, valueOf}
 use Rattle.instance.specs.Substitute.{substituted, substitutedWords}
-use Rattle.host.specs.Words.{valueOf}
 use Rattle.host.proofs.Headed.{headed-no, kept-no, answered, left}
 use Rattle.host.specs.Calls.{substituteAnswer, substituteWords}
 use borrow.Author.Needs.{needs}
