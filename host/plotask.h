@@ -55,12 +55,12 @@
  *
  * STACK, in bytes below the caller's own frame, as `make bench` measures it (docs/BENCHMARKS.md):
  *
- *   ask            3,392 for a question of 2 nodes, one below the other; 304 more for each level below; 33,184 for 100 nodes in one chain
- *   null counts      960
- *   encode           256
- *   insert           240
+ *   ask            2,920 for a question of 1 node, 3,304 for 2, one below the other, and 256 more for each level; 28,392 for 100 nodes in one chain
+ *   null counts      976
+ *   encode           272
+ *   insert           256
  *   decode           224
- *   substitute       160
+ *   substitute       176
  *
  * LINKING
  *
@@ -128,7 +128,7 @@ enum plotask_refusal {
     PLOTASK_BYTES_LEFT_OVER = 18,        /* bytes follow the card's last row */
     PLOTASK_BAD_QUERY_LENGTH = 21,       /* the question has not 8 to 800 words, or no multiple of 8 */
     PLOTASK_BAD_NODE = 22,               /* a kind not 1 to 7, a word not named by its kind and not 0, or a number that is no term */
-    PLOTASK_BAD_CHILD = 23,              /* a child's number not above its parent's, not below the node count, or named already; or a node named by none */
+    PLOTASK_BAD_CHILD = 23,              /* a child not numbered after its parent, no node, or named already; or a node named by none */
     PLOTASK_UNBOUND_VARIABLE = 24,       /* a quantifier's variable above 15, or a variable that nothing binds */
     PLOTASK_NO_SUCH_QUERY_RELATION = 25, /* the question names a sheet that the header lacks */
     PLOTASK_BAD_CANDIDATE = 26,          /* the candidate has more than 6 cells, or a number that is no cell */
