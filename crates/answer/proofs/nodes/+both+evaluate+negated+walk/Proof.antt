@@ -6,8 +6,12 @@ use borrow.Author.Needs.{needs}
 use mathlib.Core.List.{List}
 use lib.ListN.{length, getD, set, length-set}
 use lib.Seq.{set-getD}
+use Rattle.calculus.specs.Formula.{variables}
+use Rattle.query.specs.Passed.{NodeBy}
 use Rattle.query.specs.Words.{noKind, negates, joins, ranges, kindOf, wordAt, nodeCount}
-use Rattle.answer.specs.Ready.{junctionOf}
+use Rattle.answer.specs.declared.evaluated.Evaluated.{Evaluated}
+use Rattle.answer.specs.declared.evaluated.Evaluated.the-variants.{Spent}
+use Rattle.answer.specs.Ready.{Right, junctionOf}
 use Rattle.answer.proofs.Children.{joins-by, ranges-by, none-above, stands-by, negated-spent, negated-verdict, both-left-spent, both-settled, both-low, both-right-spent, both-verdict, right-low, Walking, set-again, set-back, walk-starts, walk-ends, walk-spent, walk-settled, walk-more}
 use borrow.Fn.Kinds.{In}
 use borrow.Fn.PlainCycle.{Measures, is, falls, and}
@@ -90,14 +94,39 @@ both-word-requires t c κs = (c .before .before .before .pre .1 .0 .known, omega
 both-word-requires-2 : (t : ℕ) → both-lts.Need-word-requires-2 (both-claims t) (both-at t) both.Post
 both-word-requires-2 t c κs = (c .before .before .before .before .pre .1 .0 .known, omega arith)
 
+-- what stands below a node that joins two others
+module _ (t : ℕ) (s : both-lts.Start (both-claims t) (both-at t) both.Post) where
+  both-down : NodeBy (s .args .relations) (s .args .arities .now) (s .args .query .now) (s .args .node) (joins (junctionOf (s .args .every)))
+  both-down = stands-by _ _ _ _ _ _ _ (joins (junctionOf (s .args .every))) (s .pre .1 .0 .ready) (s .pre .1 .0 .known) (s .pre .1 .1)
+
+-- what the left child answered, as the answer of the node that word 1 names
+module _ (t : ℕ) (e : both-lts.After-evaluate (both-claims t) (both-at t) both.Post) where
+  abbrev both-start : both-lts.Start (both-claims t) (both-at t) both.Post
+  both-start = e .before .before .before .before .before .before .before
+
+  left-told : (r : Evaluated) → e .evaluate .result ≡ r
+      → Right (both-start .args .arities .now) (both-start .args .words .now) (both-start .args .query .now) (wordAt (both-start .args .query .now) (both-start .args .node) 1) (both-start .args .env .now) (both-start .args .budget) r
+  left-told r is = rw (e .before .before .before .word .ensures, is) at (e .evaluate .ensures .1)
+
+-- what the right child answered, with what the left one has left of the budget
+module _ (t : ℕ) (e : both-lts.After-evaluate2 (both-claims t) (both-at t) both.Post) where
+  abbrev left-done : both-lts.After-evaluate (both-claims t) (both-at t) both.Post
+  left-done = e .before .before .before .before .before .before .before
+
+  abbrev right-start : both-lts.Start (both-claims t) (both-at t) both.Post
+  right-start = both-start t left-done
+
+  right-told : (r : Evaluated) → e .evaluate2 .result ≡ r
+      → Right (right-start .args .arities .now) (right-start .args .words .now) (right-start .args .query .now) (wordAt (right-start .args .query .now) (right-start .args .node) 2) (right-start .args .env .now) (right-start .args .budget - e .before .before .before .before .before .a .given .0 .1 .0) r
+  right-told r is =
+      rw (e .before .before .before .before .before .before .before .before .before .word2 .ensures, is, e .before .before .before .before .before .before .before .evaluate .ensures .0) at (e .evaluate2 .ensures .1)
+
 both-evaluate-requires : (t : ℕ) → both-lts.Need-evaluate-requires (both-claims t) (both-at t) both.Post
 both-evaluate-requires t c κs =
-    let start = c .before .before .before .before .before .before in
-    let ev = start .pre .1 .0 in
-    let is = start .pre .1 .1 in
-    let down = stands-by _ _ _ _ _ _ _ (joins (junctionOf (start .args .every))) (ev .ready) (ev .known) is in
+    let s = c .before .before .before .before .before .before in
+    let left = both-down t s .0 in
     rw (c .before .before .word .ensures)
-    (omega (arith, down .0 .0, down .0 .1, start .pre .0), record { ready = ev .ready; known = down .0 .1; sixteen = ev .sixteen })
+    (omega (arith, left .0, left .1, s .pre .0), record { ready = s .pre .1 .0 .ready; known = left .1; sixteen = s .pre .1 .0 .sixteen })
 
 both-enum-known-a : (t : ℕ) → both-lts.Need-enum-known-a (both-claims t) (both-at t) both.Post
 both-enum-known-a t c = search needs
@@ -107,41 +136,39 @@ both-enum-told t c = search needs
 
 both-returns : (t : ℕ) → both-lts.Need-returns (both-claims t) (both-at t) both.Post
 both-returns t c =
-    let start = c .before .before .before .before .before .before .before .before .before in
-    let ev = start .pre .1 .0 in
-    let is = start .pre .1 .1 in
-    let down = stands-by _ _ _ _ _ _ _ (joins (junctionOf (start .args .every))) (ev .ready) (ev .known) is in
-    let child = c .before .before .evaluate .ensures in
-    (child .0, both-left-spent _ _ _ _ (ev .known) _ is (down .0 .0) (down .1 .0) _ _ (rw (c .before .before .before .before .before .word .ensures, c .enum-told .given .1) at (child .1)))
+    let e = c .before .before in
+    let s = both-start t e in
+    let down = both-down t s in
+    (e .evaluate .ensures .0, both-left-spent _ _ _ _ (s .pre .1 .0 .known) _ (s .pre .1 .1) (down .0 .0) (down .1 .0) _ _ (left-told t e Spent (c .enum-told .given .1)))
 
 both-settles-requires : (t : ℕ) → both-lts.Need-settles-requires (both-claims t) (both-at t) both.Post
 both-settles-requires t c κs = search needs
 
 both-returns-2 : (t : ℕ) → both-lts.Need-returns-2 (both-claims t) (both-at t) both.Post
 both-returns-2 t c =
-    let start = c .before .before .before .before .before .before .before .before .before .before .before .before in
-    let ev = start .pre .1 .0 in
-    let is = start .pre .1 .1 in
-    let down = stands-by _ _ _ _ _ _ _ (joins (junctionOf (start .args .every))) (ev .ready) (ev .known) is in
-    let child = c .before .before .before .before .before .evaluate .ensures in
-    (child .0, both-settled _ _ _ _ (ev .known) _ is (down .0 .0) (down .1 .0) _ _ _ _ (rw (c .before .before .before .before .before .before .before .before .word .ensures, c .before .before .before .a .given .1) at (c .before .before .before .before .before .evaluate .ensures .1)) (sym (c .before .settles .ensures) ∙ c .if1 .taken))
+    let e = c .before .before .before .before .before in
+    let s = both-start t e in
+    let down = both-down t s in (
+      e .evaluate .ensures .0,
+      both-settled _ _ _ _ (s .pre .1 .0 .known) _ (s .pre .1 .1) (down .0 .0) (down .1 .0) _ _ _ _
+          (left-told t e _ (c .before .before .before .a .given .1))
+          (sym (c .before .settles .ensures) ∙ c .if1 .taken),
+    )
 
 both-sub-evaluate : (t : ℕ) → both-lts.Need-sub-evaluate (both-claims t) (both-at t) both.Post
 both-sub-evaluate t c =
-    let start = c .before .before .before .before .before .before .before .before .before .before .before .before .before in
-    let ev = start .pre .1 .0 in
-    let is = start .pre .1 .1 in
-    let down = stands-by _ _ _ _ _ _ _ (joins (junctionOf (start .args .every))) (ev .ready) (ev .known) is in
-    both-low _ _ _ _ (ev .known) _ is (down .0 .0) (down .1 .0) _ _ _ _ (rw (c .before .before .before .before .before .before .before .before .before .word .ensures, c .before .before .before .before .a .given .1) at (c .before .before .before .before .before .before .evaluate .ensures .1))
+    let e = c .before .before .before .before .before .before in
+    let s = both-start t e in
+    let down = both-down t s in
+    both-low _ _ _ _ (s .pre .1 .0 .known) _ (s .pre .1 .1) (down .0 .0) (down .1 .0) _ _ _ _ (left-told t e _ (c .before .before .before .before .a .given .1))
 
 both-evaluate-requires-2 : (t : ℕ) → both-lts.Need-evaluate-requires-2 (both-claims t) (both-at t) both.Post
 both-evaluate-requires-2 t c κs =
-    let start = c .before .before .before .before .before .before .before .before .before .before .before .before .before in
-    let ev = start .pre .1 .0 in
-    let is = start .pre .1 .1 in
-    let down = stands-by _ _ _ _ _ _ _ (joins (junctionOf (start .args .every))) (ev .ready) (ev .known) is in
-    rw (c .before .before .before .before .before .before .before .before .word2 .ensures)
-    (omega (arith, down .1 .0, down .1 .1, start .pre .0), record { ready = ev .ready; known = down .1 .1; sixteen = ap length (c .before .before .before .before .before .before .evaluate .ensures .0) ∙ ev .sixteen })
+    let e = c .before .before .before .before .before .before in
+    let s = both-start t e in
+    let right = both-down t s .1 in
+    rw (e .before .before .word2 .ensures)
+    (omega (arith, right .0, right .1, s .pre .0), record { ready = s .pre .1 .0 .ready; known = right .1; sixteen = ap length (e .evaluate .ensures .0) ∙ s .pre .1 .0 .sixteen })
 
 both-enum-known-b : (t : ℕ) → both-lts.Need-enum-known-b (both-claims t) (both-at t) both.Post
 both-enum-known-b t c = search needs
@@ -151,13 +178,15 @@ both-enum-told-2 t c = search needs
 
 both-returns-3 : (t : ℕ) → both-lts.Need-returns-3 (both-claims t) (both-at t) both.Post
 both-returns-3 t c =
-    let start = c .before .before .before .before .before .before .before .before .before .before .before .before .before .before .before .before in
-    let ev = start .pre .1 .0 in
-    let is = start .pre .1 .1 in
-    let down = stands-by _ _ _ _ _ _ _ (joins (junctionOf (start .args .every))) (ev .ready) (ev .known) is in
-    let child = c .before .before .before .before .before .before .before .before .before .evaluate .ensures in (
-      c .before .before .evaluate2 .ensures .0 ∙ child .0,
-      both-right-spent _ _ _ _ (ev .known) _ is (down .0 .0) (down .1 .0) _ _ _ _ (rw (c .before .before .before .before .before .before .before .before .before .before .before .before .word .ensures, c .before .before .before .before .before .before .before .a .given .1) at (c .before .before .before .before .before .before .before .before .before .evaluate .ensures .1)) (sym (c .before .before .before .before .before .settles .ensures) ∙ c .before .before .before .before .if1 .left) (rw (c .before .before .before .before .before .before .before .before .before .before .before .word2 .ensures, c .enum-told2 .given .1, c .before .before .before .before .before .before .before .before .before .evaluate .ensures .0) at (c .before .before .evaluate2 .ensures .1)),
+    let r = c .before .before in
+    let e = left-done t r in
+    let s = both-start t e in
+    let down = both-down t s in (
+      r .evaluate2 .ensures .0 ∙ e .evaluate .ensures .0,
+      both-right-spent _ _ _ _ (s .pre .1 .0 .known) _ (s .pre .1 .1) (down .0 .0) (down .1 .0) _ _ _ _
+          (left-told t e _ (r .before .before .before .before .before .a .given .1))
+          (sym (r .before .before .before .settles .ensures) ∙ r .before .before .if1 .left)
+          (right-told t r Spent (c .enum-told2 .given .1)),
     )
 
 both-join-requires : (t : ℕ) → both-lts.Need-join-requires (both-claims t) (both-at t) both.Post
@@ -165,22 +194,29 @@ both-join-requires t c κs = search needs
 
 both-add-t22 : (t : ℕ) → both-lts.Need-add-t22 (both-claims t) (both-at t) both.Post
 both-add-t22 t c =
-    let start = c .before .before .before .before .before .before .before .before .before .before .before .before .before .before .before .before .before .before in
-    let ev = start .pre .1 .0 in
-    let is = start .pre .1 .1 in
-    let down = stands-by _ _ _ _ _ _ _ (joins (junctionOf (start .args .every))) (ev .ready) (ev .known) is in
-    omega (arith, start .fits .budget, right-low _ _ _ _ (down .0 .1) _ _ _ _ (rw (c .before .before .before .before .before .before .before .before .before .before .before .before .before .before .word .ensures, c .before .before .before .before .before .before .before .before .before .a .given .1) at (c .before .before .before .before .before .before .before .before .before .before .before .evaluate .ensures .1)), right-low _ _ _ _ (down .1 .1) _ _ _ _ (rw (c .before .before .before .before .before .before .before .before .before .before .before .before .before .word2 .ensures, c .before .before .b .given .1, c .before .before .before .before .before .before .before .before .before .before .before .evaluate .ensures .0) at (c .before .before .before .before .evaluate2 .ensures .1)))
+    let r = c .before .before .before .before in
+    let e = left-done t r in
+    let s = both-start t e in
+    let down = both-down t s in
+    omega (
+      arith,
+      s .fits .budget,
+      right-low _ _ _ _ (down .0 .1) _ _ _ _ (left-told t e _ (r .before .before .before .before .before .a .given .1)),
+      right-low _ _ _ _ (down .1 .1) _ _ _ _ (right-told t r _ (c .before .before .b .given .1)),
+    )
 
 both-returns-4 : (t : ℕ) → both-lts.Need-returns-4 (both-claims t) (both-at t) both.Post
 both-returns-4 t c =
-    let start = c .before .before .before .before .before .before .before .before .before .before .before .before .before .before .before .before .before .before in
-    let ev = start .pre .1 .0 in
-    let is = start .pre .1 .1 in
-    let down = stands-by _ _ _ _ _ _ _ (joins (junctionOf (start .args .every))) (ev .ready) (ev .known) is in
-    let child = c .before .before .before .before .before .before .before .before .before .before .before .evaluate .ensures in (
-      c .before .before .before .before .evaluate2 .ensures .0 ∙ child .0,
+    let r = c .before .before .before .before in
+    let e = left-done t r in
+    let s = both-start t e in
+    let down = both-down t s in (
+      r .evaluate2 .ensures .0 ∙ e .evaluate .ensures .0,
       rw (c .join .ensures)
-          (both-verdict _ _ _ _ (ev .known) _ is (down .0 .0) (down .1 .0) _ _ _ _ (rw (c .before .before .before .before .before .before .before .before .before .before .before .before .before .before .word .ensures, c .before .before .before .before .before .before .before .before .before .a .given .1) at (c .before .before .before .before .before .before .before .before .before .before .before .evaluate .ensures .1)) (sym (c .before .before .before .before .before .before .before .settles .ensures) ∙ c .before .before .before .before .before .before .if1 .left) _ _ (rw (c .before .before .before .before .before .before .before .before .before .before .before .before .before .word2 .ensures, c .before .before .b .given .1, c .before .before .before .before .before .before .before .before .before .before .before .evaluate .ensures .0) at (c .before .before .before .before .evaluate2 .ensures .1))),
+          (both-verdict _ _ _ _ (s .pre .1 .0 .known) _ (s .pre .1 .1) (down .0 .0) (down .1 .0) _ _ _ _
+          (left-told t e _ (r .before .before .before .before .before .a .given .1))
+          (sym (r .before .before .before .settles .ensures) ∙ r .before .before .if1 .left) _ _
+          (right-told t r _ (c .before .before .b .given .1))),
     )
 
 evaluate-word-requires : (t : ℕ) → evaluate-lts.Need-word-requires (evaluate-claims t) (evaluate-at t) evaluate.Post
@@ -285,6 +321,56 @@ abbrev walk-μ-loop : walk-lts.MeasureT-loop
 walk-μ-loop query node every env₀ budget values relations arities words counts variable child old truth₀ cost₀ i₀ env truth cost i =
     length values - i
 
+-- what stands below a node that ranges over values
+module _ (t : ℕ) (s : walk-lts.Start (walk-claims t) (walk-at t) walk.Post walk-Inv-loop walk-μ-loop) where
+  walk-down : NodeBy (s .args .relations) (s .args .arities .now) (s .args .query .now) (s .args .node) (ranges (junctionOf (s .args .every)))
+  walk-down = stands-by _ _ _ _ _ _ _ (ranges (junctionOf (s .args .every))) (s .pre .1 .0 .ready) (s .pre .1 .0 .known) (s .pre .1 .1)
+
+-- once the child was asked at a value
+module _ (t : ℕ) (e : walk-lts.After-evaluate (walk-claims t) (walk-at t) walk.Post walk-Inv-loop walk-μ-loop) where
+  abbrev walk-loop : walk-lts.At-loop (walk-claims t) (walk-at t) walk.Post walk-Inv-loop walk-μ-loop
+  walk-loop = e .before .before .before .before .before .before
+
+  abbrev walk-start : walk-lts.Start (walk-claims t) (walk-at t) walk.Post walk-Inv-loop walk-μ-loop
+  walk-start = walk-loop .before .before .before .before .before .before .before .before
+
+  abbrev env₀ : List ℕ
+  env₀ = walk-start .args .env .now
+
+  abbrev qs : List ℕ
+  qs = walk-start .args .query .now
+
+  -- the variable, as the code has it and as the question's word
+  abbrev variable : ℕ
+  variable = e .before .before .before .before .before .before .before .before .before .before .word .result
+
+  abbrev value : ℕ
+  value = getD (walk-start .args .values .now) (walk-loop .loop .i) 0
+
+  -- the assignment at which the child was asked
+  here : e .before .before .assign .last .0 ≡ set env₀ (wordAt qs (walk-start .args .node) 1) value
+  here =
+      e .before .before .assign .ensures ∙ set-again _ (walk-loop .loop .env) _ _ _ (walk-loop .loop .inv .1) ∙
+      ap (λ (v : ℕ). set env₀ v value) (e .before .before .before .before .before .before .before .before .before .before .word .ensures)
+
+  -- putting the old cell back restores the assignment
+  back : set (e .evaluate .last .1 .1 .0) variable (getD env₀ variable 0) ≡ env₀
+  back =
+      ap (λ (l : List ℕ). set l variable (getD env₀ variable 0)) (e .evaluate .ensures .0 ∙ e .before .before .assign .ensures ∙ set-again _ (walk-loop .loop .env) _ _ _ (walk-loop .loop .inv .1)) ∙
+      set-back _ (walk-loop .loop .env) _ _ _ (walk-loop .loop .inv .1) refl
+
+  -- what the child answered, as the answer of the node that word 2 names, with what is left of the budget
+  child-told : (r : Evaluated) → e .evaluate .result ≡ r
+      → Right (walk-start .args .arities .now) (walk-start .args .words .now) qs (wordAt qs (walk-start .args .node) 2) (set env₀ (wordAt qs (walk-start .args .node) 1) value) (walk-start .args .budget - walk-loop .loop .cost) r
+  child-told r is = rw (e .before .before .before .before .before .before .before .before .before .word2 .ensures, is, here) at (e .evaluate .ensures .1)
+
+  -- the assignment is as long as it was, and the variable within it
+  assignable : (variable < variables) × (length (e .evaluate .last .1 .1 .0) ≡ variables)
+  assignable = (
+    omega (arith, e .before .before .before .before .before .before .before .before .before .before .word .ensures, walk-down t walk-start .0),
+    ap length (e .evaluate .ensures .0 ∙ here) ∙ length-set env₀ _ _ ∙ walk-start .pre .1 .0 .sixteen,
+  )
+
 walk-word-requires : (t : ℕ) → walk-lts.Need-word-requires (walk-claims t) (walk-at t) walk.Post walk-Inv-loop walk-μ-loop
 walk-word-requires t c κs = (c .before .before .before .pre .1 .0 .known, omega arith)
 
@@ -292,31 +378,18 @@ walk-word-requires-2 : (t : ℕ) → walk-lts.Need-word-requires-2 (walk-claims 
 walk-word-requires-2 t c κs = (c .before .before .before .before .pre .1 .0 .known, omega arith)
 
 walk-mul-old : (t : ℕ) → walk-lts.Need-mul-old (walk-claims t) (walk-at t) walk.Post walk-Inv-loop walk-μ-loop
-walk-mul-old t c =
-    let start = c .before .before .before .before .before in
-    let ev = start .pre .1 .0 in
-    let is = start .pre .1 .1 in
-    let down = stands-by _ _ _ _ _ _ _ (ranges (junctionOf (start .args .every))) (ev .ready) (ev .known) is in
-    omega (arith, c .before .word .ensures, down .0)
+walk-mul-old t c = omega (arith, c .before .word .ensures, walk-down t (c .before .before .before .before .before) .0)
 
 walk-element-copy-out-old : (t : ℕ) → walk-lts.Need-element-copy-out-old (walk-claims t) (walk-at t) walk.Post walk-Inv-loop walk-μ-loop
-walk-element-copy-out-old t c =
-    let start = c .before .before .before .before .before in
-    let ev = start .pre .1 .0 in
-    let is = start .pre .1 .1 in
-    let down = stands-by _ _ _ _ _ _ _ (ranges (junctionOf (start .args .every))) (ev .ready) (ev .known) is in
-    omega (arith, c .before .word .ensures, down .0)
+walk-element-copy-out-old t c = omega (arith, c .before .word .ensures, walk-down t (c .before .before .before .before .before) .0)
 
 walk-unit-requires : (t : ℕ) → walk-lts.Need-unit-requires (walk-claims t) (walk-at t) walk.Post walk-Inv-loop walk-μ-loop
 walk-unit-requires t c κs = search needs
 
 walk-loop-holds : (t : ℕ) → walk-lts.Need-loop-holds (walk-claims t) (walk-at t) walk.Post walk-Inv-loop walk-μ-loop
 walk-loop-holds t c =
-    let start = c .before .before .before .before .before .before .before in
-    let ev = start .pre .1 .0 in
-    let is = start .pre .1 .1 in
-    let down = stands-by _ _ _ _ _ _ _ (ranges (junctionOf (start .args .every))) (ev .ready) (ev .known) is in
-    (rw (c .unit .ensures) (walk-starts _ _ _ _ (ev .known) _ is (down .1 .0) _ _ (ev .ready .listed) _), set-getD _ _ 0)
+    let s = c .before .before .before .before .before .before .before in
+    (rw (c .unit .ensures) (walk-starts _ _ _ _ (s .pre .1 .0 .known) _ (s .pre .1 .1) (walk-down t s .1 .0) _ _ (s .pre .1 .0 .ready .listed) _), set-getD _ _ 0)
 
 walk-mul-assign : (t : ℕ) → walk-lts.Need-mul-assign (walk-claims t) (walk-at t) walk.Post walk-Inv-loop walk-μ-loop
 walk-mul-assign t c = omega arith
@@ -324,39 +397,26 @@ walk-mul-assign t c = omega arith
 walk-shared-slice-read-assign : (t : ℕ) → walk-lts.Need-shared-slice-read-assign (walk-claims t) (walk-at t) walk.Post walk-Inv-loop walk-μ-loop
 walk-shared-slice-read-assign t c = c .before .before .loop-test .taken
 
+-- the assignment stays as long as it was
+kept-long : (t : ℕ) (l : walk-lts.At-loop (walk-claims t) (walk-at t) walk.Post walk-Inv-loop walk-μ-loop) → length (l .loop .env) ≡ variables
+kept-long t l =
+    sym (length-set (l .loop .env) _ _) ∙ ap length (l .loop .inv .1) ∙ l .before .before .before .before .before .before .before .before .pre .1 .0 .sixteen
+
 walk-assign-requires : (t : ℕ) → walk-lts.Need-assign-requires (walk-claims t) (walk-at t) walk.Post walk-Inv-loop walk-μ-loop
 walk-assign-requires t c κs =
-    let start = c .before .before .before .before .before .before .before .before .before .before .before in
-    let ev = start .pre .1 .0 in
-    let is = start .pre .1 .1 in
-    let down = stands-by _ _ _ _ _ _ _ (ranges (junctionOf (start .args .every))) (ev .ready) (ev .known) is in
-    (omega (arith, c .before .before .before .before .before .before .before .word .ensures, down .0), sym (length-set (c .before .before .before .loop .env) _ _) ∙ ap length (c .before .before .before .loop .inv .1) ∙ ev .sixteen)
+    let l = c .before .before .before in
+    (omega (arith, l .before .before .before .before .word .ensures, walk-down t (l .before .before .before .before .before .before .before .before) .0), kept-long t l)
 
 walk-sub-evaluate : (t : ℕ) → walk-lts.Need-sub-evaluate (walk-claims t) (walk-at t) walk.Post walk-Inv-loop walk-μ-loop
 walk-sub-evaluate t c = c .before .before .before .before .before .loop .inv .0 .low
 
 walk-evaluate-requires : (t : ℕ) → walk-lts.Need-evaluate-requires (walk-claims t) (walk-at t) walk.Post walk-Inv-loop walk-μ-loop
 walk-evaluate-requires t c κs =
-    let start = c .before .before .before .before .before .before .before .before .before .before .before .before .before in
-    let ev = start .pre .1 .0 in
-    let is = start .pre .1 .1 in
-    let down = stands-by _ _ _ _ _ _ _ (ranges (junctionOf (start .args .every))) (ev .ready) (ev .known) is in
-    let long = ap length (c .before .assign .ensures) ∙ length-set (c .before .before .before .before .before .loop .env) _ _ ∙ sym (length-set (c .before .before .before .before .before .loop .env) _ _) ∙ ap length (c .before .before .before .before .before .loop .inv .1) ∙ ev .sixteen in
-    rw (c .before .before .before .before .before .before .before .before .word2 .ensures)
-    (omega (arith, down .1 .0, down .1 .1, start .pre .0), record { ready = ev .ready; known = down .1 .1; sixteen = long })
-
--- the assignment at which the child is asked
-walk-here : (t : ℕ) (c : walk-lts.After-evaluate (walk-claims t) (walk-at t) walk.Post walk-Inv-loop walk-μ-loop) → c .before .before .assign .last .0 ≡ set (c .before .before .before .before .before .before .before .before .before .before .before .before .before .before .args .env .now) (wordAt (c .before .before .before .before .before .before .before .before .before .before .before .before .before .before .args .query .now) (c .before .before .before .before .before .before .before .before .before .before .before .before .before .before .args .node) 1) (getD (c .before .before .before .before .before .before .before .before .before .before .before .before .before .before .args .values .now) (c .before .before .before .before .before .before .loop .i) 0)
-walk-here t c =
-    c .before .before .assign .ensures ∙ set-again _ (c .before .before .before .before .before .before .loop .env) _ _ _ (c .before .before .before .before .before .before .loop .inv .1) ∙
-    ap (λ (v : ℕ). set (c .before .before .before .before .before .before .before .before .before .before .before .before .before .before .args .env .now) v (getD (c .before .before .before .before .before .before .before .before .before .before .before .before .before .before .args .values .now) (c .before .before .before .before .before .before .loop .i) 0)) (c .before .before .before .before .before .before .before .before .before .before .word .ensures)
-
--- putting the old cell back restores the assignment
-walk-back : (t : ℕ) (c : walk-lts.After-evaluate (walk-claims t) (walk-at t) walk.Post walk-Inv-loop walk-μ-loop) → set (c .evaluate .last .1 .1 .0) (c .before .before .before .before .before .before .before .before .before .before .word .result) (getD (c .before .before .before .before .before .before .before .before .before .before .before .before .before .before .args .env .now) (c .before .before .before .before .before .before .before .before .before .before .word .result) 0) ≡ c .before .before .before .before .before .before .before .before .before .before .before .before .before .before .args .env .now
-walk-back t c =
-    ap (λ (l : List ℕ). set l (c .before .before .before .before .before .before .before .before .before .before .word .result) (getD (c .before .before .before .before .before .before .before .before .before .before .before .before .before .before .args .env .now) (c .before .before .before .before .before .before .before .before .before .before .word .result) 0))
-    (c .evaluate .ensures .0 ∙ c .before .before .assign .ensures ∙ set-again _ (c .before .before .before .before .before .before .loop .env) _ _ _ (c .before .before .before .before .before .before .loop .inv .1)) ∙
-    set-back _ (c .before .before .before .before .before .before .loop .env) _ _ _ (c .before .before .before .before .before .before .loop .inv .1) refl
+    let l = c .before .before .before .before .before in
+    let s = l .before .before .before .before .before .before .before .before in
+    let child = walk-down t s .1 in
+    rw (l .before .before .before .word2 .ensures)
+    (omega (arith, child .0, child .1, s .pre .0), record { ready = s .pre .1 .0 .ready; known = child .1; sixteen = ap length (c .before .assign .ensures) ∙ length-set (l .loop .env) _ _ ∙ kept-long t l })
 
 walk-enum-known-one : (t : ℕ) → walk-lts.Need-enum-known-one (walk-claims t) (walk-at t) walk.Post walk-Inv-loop walk-μ-loop
 walk-enum-known-one t c = search needs
@@ -365,32 +425,23 @@ walk-enum-told : (t : ℕ) → walk-lts.Need-enum-told (walk-claims t) (walk-at 
 walk-enum-told t c = search needs
 
 walk-assign-requires-2 : (t : ℕ) → walk-lts.Need-assign-requires-2 (walk-claims t) (walk-at t) walk.Post walk-Inv-loop walk-μ-loop
-walk-assign-requires-2 t c κs =
-    let start = c .before .before .before .before .before .before .before .before .before .before .before .before .before .before .before .before .before in
-    let ev = start .pre .1 .0 in
-    let is = start .pre .1 .1 in
-    let down = stands-by _ _ _ _ _ _ _ (ranges (junctionOf (start .args .every))) (ev .ready) (ev .known) is in (
-      omega (arith, c .before .before .before .before .before .before .before .before .before .before .before .before .before .word .ensures, down .0),
-      ap length (c .before .before .before .evaluate .ensures .0 ∙ walk-here t (c .before .before .before)) ∙ length-set (start .args .env .now) _ _ ∙ ev .sixteen,
-    )
+walk-assign-requires-2 t c κs = assignable t (c .before .before .before)
 
 walk-returns : (t : ℕ) → walk-lts.Need-returns (walk-claims t) (walk-at t) walk.Post walk-Inv-loop walk-μ-loop
 walk-returns t c =
-    let start = c .before .before .before .before .before .before .before .before .before .before .before .before .before .before .before .before .before .before in
-    let ev = start .pre .1 .0 in
-    let is = start .pre .1 .1 in
-    let down = stands-by _ _ _ _ _ _ _ (ranges (junctionOf (start .args .every))) (ev .ready) (ev .known) is in (
-      c .assign2 .ensures ∙ walk-back t (c .before .before .before .before),
-      walk-spent _ _ _ _ (ev .known) _ is (down .1 .0) _ _ (ev .ready .listed) _ _ _ _ (c .before .before .before .before .before .before .before .before .before .before .loop .inv .0) (c .before .before .before .before .before .before .before .before .before .loop-test .taken) (rw (c .before .before .before .before .before .before .before .before .before .before .before .before .before .word2 .ensures, c .before .before .enum-told .given .1, walk-here t (c .before .before .before .before)) at (c .before .before .before .before .evaluate .ensures .1)),
+    let e = c .before .before .before .before in
+    let s = walk-start t e in (
+      c .assign2 .ensures ∙ back t e,
+      walk-spent _ _ _ _ (s .pre .1 .0 .known) _ (s .pre .1 .1) (walk-down t s .1 .0) _ _ (s .pre .1 .0 .ready .listed) _ _ _ _
+          (walk-loop t e .loop .inv .0) (e .before .before .before .before .before .loop-test .taken)
+          (child-told t e Spent (c .before .before .enum-told .given .1)),
     )
 
 walk-add-cost : (t : ℕ) → walk-lts.Need-add-cost (walk-claims t) (walk-at t) walk.Post walk-Inv-loop walk-μ-loop
 walk-add-cost t c =
-    let start = c .before .before .before .before .before .before .before .before .before .before .before .before .before .before .before .before .before in
-    let ev = start .pre .1 .0 in
-    let is = start .pre .1 .1 in
-    let down = stands-by _ _ _ _ _ _ _ (ranges (junctionOf (start .args .every))) (ev .ready) (ev .known) is in
-    omega (arith, start .fits .budget, c .before .before .before .before .before .before .before .before .before .loop .inv .0 .low, right-low _ _ _ _ (down .1 .1) _ _ _ _ (rw (c .before .before .before .before .before .before .before .before .before .before .before .before .word2 .ensures, c .before .one .given .1, walk-here t (c .before .before .before)) at (c .before .before .before .evaluate .ensures .1)))
+    let e = c .before .before .before in
+    let s = walk-start t e in
+    omega (arith, s .fits .budget, walk-loop t e .loop .inv .0 .low, right-low _ _ _ _ (walk-down t s .1 .1) _ _ _ _ (child-told t e _ (c .before .one .given .1)))
 
 walk-join-requires : (t : ℕ) → walk-lts.Need-join-requires (walk-claims t) (walk-at t) walk.Post walk-Inv-loop walk-μ-loop
 walk-join-requires t c κs = search needs
@@ -399,74 +450,55 @@ walk-settles-requires : (t : ℕ) → walk-lts.Need-settles-requires (walk-claim
 walk-settles-requires t c κs = search needs
 
 walk-assign-requires-3 : (t : ℕ) → walk-lts.Need-assign-requires-3 (walk-claims t) (walk-at t) walk.Post walk-Inv-loop walk-μ-loop
-walk-assign-requires-3 t c κs =
-    let start = c .before .before .before .before .before .before .before .before .before .before .before .before .before .before .before .before .before .before .before .before .before in
-    let ev = start .pre .1 .0 in
-    let is = start .pre .1 .1 in
-    let down = stands-by _ _ _ _ _ _ _ (ranges (junctionOf (start .args .every))) (ev .ready) (ev .known) is in (
-      omega (arith, c .before .before .before .before .before .before .before .before .before .before .before .before .before .before .before .before .before .word .ensures, down .0),
-      ap length (c .before .before .before .before .before .before .before .evaluate .ensures .0 ∙ walk-here t (c .before .before .before .before .before .before .before)) ∙ length-set (start .args .env .now) _ _ ∙ ev .sixteen,
-    )
+walk-assign-requires-3 t c κs = assignable t (c .before .before .before .before .before .before .before)
 
 walk-returns-2 : (t : ℕ) → walk-lts.Need-returns-2 (walk-claims t) (walk-at t) walk.Post walk-Inv-loop walk-μ-loop
 walk-returns-2 t c =
-    let start = c .before .before .before .before .before .before .before .before .before .before .before .before .before .before .before .before .before .before .before .before .before .before in
-    let ev = start .pre .1 .0 in
-    let is = start .pre .1 .1 in
-    let down = stands-by _ _ _ _ _ _ _ (ranges (junctionOf (start .args .every))) (ev .ready) (ev .known) is in (
-      c .assign3 .ensures ∙ walk-back t (c .before .before .before .before .before .before .before .before),
+    let e = c .before .before .before .before .before .before .before .before in
+    let s = walk-start t e in (
+      c .assign3 .ensures ∙ back t e,
       rw (c .before .before .before .before .join .ensures)
-          (walk-settled _ _ _ _ (ev .known) _ is (down .1 .0) _ _ (ev .ready .listed) _ _ _ _ (c .before .before .before .before .before .before .before .before .before .before .before .before .before .before .loop .inv .0) (c .before .before .before .before .before .before .before .before .before .before .before .before .before .loop-test .taken) _ _ (rw (c .before .before .before .before .before .before .before .before .before .before .before .before .before .before .before .before .before .word2 .ensures, c .before .before .before .before .before .before .one .given .1, walk-here t (c .before .before .before .before .before .before .before .before)) at (c .before .before .before .before .before .before .before .before .evaluate .ensures .1))
+          (walk-settled _ _ _ _ (s .pre .1 .0 .known) _ (s .pre .1 .1) (walk-down t s .1 .0) _ _ (s .pre .1 .0 .ready .listed) _ _ _ _
+          (walk-loop t e .loop .inv .0) (e .before .before .before .before .before .loop-test .taken) _ _
+          (child-told t e _ (c .before .before .before .before .before .before .one .given .1))
           (sym (c .before .before .before .settles .ensures) ∙ c .before .before .if1 .taken)),
     )
 
 walk-add-i : (t : ℕ) → walk-lts.Need-add-i (walk-claims t) (walk-at t) walk.Post walk-Inv-loop walk-μ-loop
-walk-add-i t c = omega (arith, c .before .before .before .before .before .before .before .before .before .before .before .loop-test .taken, c .before .before .before .before .before .before .before .before .before .before .before .before .before .before .before .before .before .before .before .before .good)
+walk-add-i t c =
+    let e = c .before .before .before .before .before .before in
+    omega (arith, e .before .before .before .before .before .loop-test .taken, walk-start t e .good)
 
 walk-loop-less : (t : ℕ) → walk-lts.Need-loop-less (walk-claims t) (walk-at t) walk.Post walk-Inv-loop walk-μ-loop
 walk-loop-less t c = omega arith
 
 walk-loop-again : (t : ℕ) → walk-lts.Need-loop-again (walk-claims t) (walk-at t) walk.Post walk-Inv-loop walk-μ-loop
 walk-loop-again t c =
-    let start = c .before .before .before .before .before .before .before .before .before .before .before .before .before .before .before .before .before .before .before .before in
-    let ev = start .pre .1 .0 in
-    let is = start .pre .1 .1 in
-    let down = stands-by _ _ _ _ _ _ _ (ranges (junctionOf (start .args .every))) (ev .ready) (ev .known) is in (
+    let e = c .before .before .before .before .before .before in
+    let s = walk-start t e in (
       rw (c .before .before .join .ensures)
-          (walk-more _ _ _ _ (ev .known) _ is (down .1 .0) _ _ (ev .ready .listed) _ _ _ _ (c .before .before .before .before .before .before .before .before .before .before .before .before .loop .inv .0) (c .before .before .before .before .before .before .before .before .before .before .before .loop-test .taken) _ _ (rw (c .before .before .before .before .before .before .before .before .before .before .before .before .before .before .before .word2 .ensures, c .before .before .before .before .one .given .1, walk-here t (c .before .before .before .before .before .before)) at (c .before .before .before .before .before .before .evaluate .ensures .1))
+          (walk-more _ _ _ _ (s .pre .1 .0 .known) _ (s .pre .1 .1) (walk-down t s .1 .0) _ _ (s .pre .1 .0 .ready .listed) _ _ _ _
+          (walk-loop t e .loop .inv .0) (e .before .before .before .before .before .loop-test .taken) _ _
+          (child-told t e _ (c .before .before .before .before .one .given .1))
           (sym (c .before .settles .ensures) ∙ c .if1 .left)),
-      walk-back t (c .before .before .before .before .before .before),
+      back t e,
     )
 
 walk-assign-requires-4 : (t : ℕ) → walk-lts.Need-assign-requires-4 (walk-claims t) (walk-at t) walk.Post walk-Inv-loop walk-μ-loop
 walk-assign-requires-4 t c κs =
-    let start = c .before .before .before .before .before .before .before .before .before .before in
-    let ev = start .pre .1 .0 in
-    let is = start .pre .1 .1 in
-    let down = stands-by _ _ _ _ _ _ _ (ranges (junctionOf (start .args .every))) (ev .ready) (ev .known) is in
-    (omega (arith, c .before .before .before .before .before .before .word .ensures, down .0), sym (length-set (c .before .before .loop .env) _ _) ∙ ap length (c .before .before .loop .inv .1) ∙ ev .sixteen)
+    let l = c .before .before in
+    (omega (arith, l .before .before .before .before .word .ensures, walk-down t (l .before .before .before .before .before .before .before .before) .0), kept-long t l)
 
 walk-returns-3 : (t : ℕ) → walk-lts.Need-returns-3 (walk-claims t) (walk-at t) walk.Post walk-Inv-loop walk-μ-loop
 walk-returns-3 t c =
-    let start = c .before .before .before .before .before .before .before .before .before .before .before in
-    let ev = start .pre .1 .0 in
-    let is = start .pre .1 .1 in
-    let down = stands-by _ _ _ _ _ _ _ (ranges (junctionOf (start .args .every))) (ev .ready) (ev .known) is in (
-      c .assign4 .ensures ∙ c .before .before .before .loop .inv .1,
-      walk-ends _ _ _ _ (ev .known) _ is (down .1 .0) _ _ (ev .ready .listed) _ _ _ _ (c .before .before .before .loop .inv .0) (c .before .before .loop-test .left),
+    let l = c .before .before .before in
+    let s = l .before .before .before .before .before .before .before .before in (
+      c .assign4 .ensures ∙ l .loop .inv .1,
+      walk-ends _ _ _ _ (s .pre .1 .0 .known) _ (s .pre .1 .1) (walk-down t s .1 .0) _ _ (s .pre .1 .0 .ready .listed) _ _ _ _ (l .loop .inv .0) (c .before .before .loop-test .left),
     )
 
 pub +both+evaluate+negated+walk-spec : {M : Type 1} → statement M
-+both+evaluate+negated+walk-spec = close μ-both μ-evaluate μ-negated μ-walk (λ t. both-lts.spec (
-  word-reads.Asked,
-  word-reads.Learnt,
-  evaluate-below t,
-  evaluate.Post,
-  settles-reads.Asked,
-  settles-reads.Learnt,
-  join-reads.Asked,
-  join-reads.Learnt,
-)
++both+evaluate+negated+walk-spec = close μ-both μ-evaluate μ-negated μ-walk (λ t. both-lts.spec (both-claims t)
     (both-at t)
     both.Post
     (both-word-requires t)
@@ -485,20 +517,7 @@ pub +both+evaluate+negated+walk-spec : {M : Type 1} → statement M
     (both-join-requires t)
     (both-add-t22 t)
     (both-returns-4 t))
-    (λ t. evaluate-lts.spec (
-      word-reads.Asked,
-      word-reads.Learnt,
-      atom-reads.Asked,
-      atom-reads.Learnt,
-      equality-reads.Asked,
-      equality-reads.Learnt,
-      negated-below t,
-      negated.Post,
-      both-below t,
-      both.Post,
-      walk-below t,
-      walk.Post,
-    )
+    (λ t. evaluate-lts.spec (evaluate-claims t)
     (evaluate-at t)
     evaluate.Post
     (evaluate-word-requires t)
@@ -514,14 +533,7 @@ pub +both+evaluate+negated+walk-spec : {M : Type 1} → statement M
     (evaluate-returns-5 t)
     (evaluate-returns-6 t)
     (evaluate-returns-7 t))
-    (λ t. negated-lts.spec (
-      word-reads.Asked,
-      word-reads.Learnt,
-      evaluate-below t,
-      evaluate.Post,
-      not-reads.Asked,
-      not-reads.Learnt,
-    )
+    (λ t. negated-lts.spec (negated-claims t)
     (negated-at t)
     negated.Post
     (negated-word-requires t)
@@ -531,20 +543,7 @@ pub +both+evaluate+negated+walk-spec : {M : Type 1} → statement M
     (negated-returns t)
     (negated-not-requires t)
     (negated-returns-2 t))
-    λ t. walk-lts.spec (
-      word-reads.Asked,
-      word-reads.Learnt,
-      unit-reads.Asked,
-      unit-reads.Learnt,
-      assign-reads.Asked,
-      assign-reads.Learnt,
-      evaluate-below t,
-      evaluate.Post,
-      join-reads.Asked,
-      join-reads.Learnt,
-      settles-reads.Asked,
-      settles-reads.Learnt,
-    )
+    λ t. walk-lts.spec (walk-claims t)
     (walk-at t)
     walk.Post
     walk-Inv-loop
