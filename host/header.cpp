@@ -59,7 +59,7 @@ void card_and_difference()
 void some_value()
 {
     const uint32_t question[2][PLOTASK_NODE_WORDS] = {
-        {PLOTASK_SOME, 1, 1}, {PLOTASK_STANDS, 2, PLOTASK_VARIABLE(0), PLOTASK_VARIABLE(1)}};
+        {PLOTASK_SOME, 5, 1}, {PLOTASK_STANDS, 2, PLOTASK_VARIABLE(0), PLOTASK_VARIABLE(5)}};
     const uint32_t row[] = {201, 5};
     plotask_header header = {3, {1, 1, 2, 0, 0, 0, 0, 0}, 0};
     uint32_t plot[4] = {};

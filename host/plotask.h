@@ -16,19 +16,23 @@
  *   mark          (marked) null       the plot's values    active domain
  *   fill          substitute          working list         domain buffer
  *   census        null counts         entering             insert
+ *   reading       decode              writing              encode
+ *
+ * A card is a plot as bytes, to be read or written. A blank is a column that a card leaves open; reading gives it a mark of its own.
  *
  * THE RULES FOR EVERY CALL
  *
  * - It returns 0 where it is accepted, and else the number of the refusal (enum plotask_refusal). Of several faults it returns the one that
  *   comes first in the call's list of refusals.
  * - It takes every number, every length and every content of a slice, and ends. There is nothing to test first.
- * - A refused call changes nothing that it was lent. One exception: the working list of a question that is refused with 46.
+ * - A refused call changes nothing that it was lent. One exception: the working list of a question that is refused with 46 has the plot's values at
+ *   its start.
  * - An accepted call changes only what is named under "writes". What stands behind that keeps its content.
  * - A slice is a pointer and a length. The length counts elements: words for uint32_t, bytes for uint8_t.
  * - What no call can test, and C must see to: a pointer is not null, is aligned for its type, and has as many elements behind it as the length
  *   says; where the length is 0, the address of any variable of the type will do. This holds for count, truth and cost as well. What a pointer
  *   without const lends, the whole slice, overlaps with nothing else that is lent to the same call, also where the call would write none of it:
- *   the cells of a row to enter are a copy, and no part of the plot.
+ *   the host enters a row from cells of its own, not from a part of the plot.
  * - It allocates nothing, keeps nothing after it returns, and has no variables of its own. Calls on different plots may run at the same time,
  *   and so may calls that only read one plot, each question with its own working list.
  *
@@ -40,7 +44,8 @@
  * be with one of them, but each takes its look.
  * A plot is sound where its header names 1 to 8 sheets, gives each of them 1 to 6 columns and every other sheet 0, and where the words in use are
  * at most 4,096, at most as many as the slice has, and whole rows: sheet numbers that the header has, and cells. Every other plot is refused with 41.
- * The plot's values are the different cells that stand in it, of all sheets and all columns, marks among them.
+ * The plot's values are the different cells that stand in it, of all sheets and all columns, marks among them, in the order in which they first stand
+ * in the words.
  *
  * MEMORY
  *
@@ -50,10 +55,10 @@
  *   header             10 words       40 bytes
  *   candidate           6 words       24 bytes
  *
- * These are 36,032 bytes, within 40 KiB. Smaller arrays will do for smaller plots and questions. Between questions the working list is free: the
- * bytes of a card (PLOTASK_CARD_BYTES at most) or the 200 words of a census may stand there.
+ * These are 36,032 bytes, within 40 KiB. Smaller arrays will do for smaller plots and questions. Between questions the working list is free: a card
+ * (PLOTASK_CARD_BYTES at most) may stand there as (uint8_t *)list with 4 bytes for each word, or the 200 words of a census.
  *
- * STACK, in bytes below the caller's own frame, as `make bench` measures it (docs/BENCHMARKS.md):
+ * STACK, in bytes below the caller's own frame, as `make bench` measures it there (docs/BENCHMARKS.md):
  *
  *   ask            2,920 for a question of 1 node, 3,304 for 2, one below the other, and 256 more for each level; 28,392 for 100 nodes in one chain
  *   null counts      976
@@ -64,7 +69,8 @@
  *
  * LINKING
  *
- * `make lib` puts libplotask.a, plotask.h and plotask.pc in target/lib. The library is code for x86-64 Linux, and needs memcpy and memset.
+ * `cc host.c libplotask.a`. The library is code for x86-64 Linux, and needs memcpy and memset. In plotask's repository `make lib` puts
+ * libplotask.a, plotask.h and plotask.pc in target/lib.
  */
 #ifndef PLOTASK_H
 #define PLOTASK_H
@@ -110,14 +116,14 @@ enum {
 /* Verdicts, in their order. */
 enum plotask_truth {
     PLOTASK_FALSE = 0,   /* false however the marks are filled */
-    PLOTASK_UNKNOWN = 1, /* the rules cannot tell; it may still be the same however the marks are filled */
+    PLOTASK_UNKNOWN = 1, /* the rules cannot tell; it may still be true, or false, however the marks are filled */
     PLOTASK_TRUE = 2     /* true however the marks are filled */
 };
 
-/* What a call returns. 10 to 29 tell of what was given, 41 to 46 of the plot and the room. */
+/* What a call returns. 10 to 29 tell of what was given, 41 to 46 of the plot, the room and the allowance. */
 enum plotask_refusal {
     PLOTASK_DONE = 0,                    /* accepted */
-    PLOTASK_INPUT_TOO_LONG = 10,         /* the program's input is over 16,384 bytes; no call of this header returns it */
+    PLOTASK_INPUT_TOO_LONG = 10,         /* an input of the program plotask is over 16,384 bytes; no call returns it */
     PLOTASK_CUT_SHORT = 11,              /* the card ends too soon */
     PLOTASK_BAD_RELATION_COUNT = 12,     /* the card's number of sheets is not 1 to 8 */
     PLOTASK_BAD_ARITY = 13,              /* a column count of the card is not 1 to 6 */
@@ -228,7 +234,8 @@ uint32_t plotask_insert(uint32_t *header, size_t header_words, uint32_t *plot, s
 
 /*
  * A fill (substitute): a cell is put in every cell of the plot that holds a mark. The candidate is the host's: where it holds the mark, the host
- * puts the cell there as well. Then a verdict that was true or false stays so, an unknown one may be settled, and the looks do not rise.
+ * puts the cell there as well. Then a verdict that was true or false stays so, an unknown one may be settled, and the looks do not rise. The same
+ * holds of a mark that the candidate alone holds, which is the host's to fill: here it is refused with 43.
  *
  *   header, header_words  ten words, PLOTASK_CONST_HEADER(&header) or PLOTASK_HEADER(&header)
  *   plot, plot_words      the plot
@@ -247,7 +254,8 @@ uint32_t plotask_substitute(const uint32_t *header, size_t header_words, uint32_
  *
  *   header, header_words  ten words, PLOTASK_CONST_HEADER(&header) or PLOTASK_HEADER(&header)
  *   plot, plot_words      the plot
- *   counts, counts_words  at least 200 words; counts[m - 1] gets the number of cells that hold mark m, 0 for a mark that is free
+ *   counts, counts_words  at least 200 words; counts[m - 1] gets the number of cells of the plot that hold mark m; where that is 0,
+ *                         the mark is free for a new row, unless a candidate holds it
  *   count                 gets 200
  *
  * Writes: the first 200 words of counts, and count.
@@ -275,22 +283,23 @@ uint32_t plotask_encode(const uint32_t *header, size_t header_words, const uint3
  *
  * A question is 1 to 100 nodes of 8 words; node 0 is the top. A node's first word is its kind (enum plotask_kind), the next ones what is named
  * there, the rest 0. A child is the number of a node, greater than its parent's; each node but 0 is a child of exactly one. A term is an inked
- * value or PLOTASK_VARIABLE(v); a term that is left out is 0, which is an inked value. Variables 0 to k - 1 are the candidate's k cells; any other
- * must be bound by a "some" or "every" on the way up to the top. Where several bind one variable the nearest holds, and it holds in place of the
- * candidate's cell. For "201 stands in sheet 0 and not in sheet 1", asked of the candidate (201):
+ * value or PLOTASK_VARIABLE(v), v from 0 to 15, and no other number. Give "row stands" a term for each column: one that is left out is 0, which is
+ * an inked value. Variables 0 to k - 1 are the candidate's k cells; any other must be bound by a "some" or "every" on the way up to the top. Where
+ * several bind one variable the nearest holds, and it holds in place of the candidate's cell. For "201 stands in sheet 0 and not in sheet 1", asked
+ * of the candidate (201):
  *
  *   { PLOTASK_AND, 1, 2 }, { PLOTASK_STANDS, 0, PLOTASK_VARIABLE(0) }, { PLOTASK_NOT, 3 }, { PLOTASK_STANDS, 1, PLOTASK_VARIABLE(0) }
  *
  * as uint32_t question[4][8], passed as (&question[0][0], 4 * PLOTASK_NODE_WORDS). For "201 stands with some value in sheet 2, of two columns":
  *
- *   { PLOTASK_SOME, 1, 1 }, { PLOTASK_STANDS, 2, PLOTASK_VARIABLE(0), PLOTASK_VARIABLE(1) }
+ *   { PLOTASK_SOME, 5, 1 }, { PLOTASK_STANDS, 2, PLOTASK_VARIABLE(0), PLOTASK_VARIABLE(5) }
  *
  * Verdicts. "Row stands" is true where the very row stands in the sheet, false where no row of the sheet can be made equal to it by giving each
  * mark one value, else unknown. "Equal" is true for the same cell, false for two different inked values, else unknown. "Not" swaps true and
  * false. "And" takes the lower of two, "or" the higher, in the order false, unknown, true. "Some" is the highest and "every" the lowest over the
- * plot's values; over none, "some" is false and "every" true.
- * Looks. "Equal" costs 1, "row stands" 1 and the number of rows of that sheet. The right child of "and" is not asked where the left is false,
- * of "or" where the left is true; "some" stops after the first true, "every" after the first false.
+ * plot's values in their order; over none, "some" is false and "every" true.
+ * Looks. "Equal" costs 1, "row stands" 1 and the number of rows of that sheet, and the other kinds what their children cost. The right child of
+ * "and" is not asked where the left is false, of "or" where the left is true; "some" stops after the first true, "every" after the first false.
  * Looks are no measure of time: "row stands" passes the rows of every sheet up to the last one of its own. The time that a question may take grows
  * with its looks and with the words in use, at most with their product.
  *
