@@ -126,6 +126,47 @@ static void growth_table(void)
     growth_row("insert", prepare_calls, enter);
 }
 
+static double time_of(work *piece)
+{
+    double ns;
+
+    must_do(piece);
+    times_of(&piece, 1, &ns);
+    return ns;
+}
+
+/* The time of a look: what a question takes beyond one that asks no row, by its looks. */
+static void look_row(const char *name, void (*question)(struct sample *sample))
+{
+    double whole = 0, none = 0;
+    uint32_t looks = 0;
+
+    for (int pass = 0; pass < PASSES; pass++) {
+        question(&now);
+        double ns = time_of(ask);
+        whole = pass == 0 || ns < whole ? ns : whole;
+        looks = count;
+        ask_nothing(&now);
+        ns = time_of(ask);
+        none = pass == 0 || ns < none ? ns : none;
+    }
+    printf("| %s | %u | %.1f |\n", name, (unsigned)looks, (whole - none) / looks);
+}
+
+static void look_table(void)
+{
+    puts("\n## The time of a look\n");
+    puts("| question | looks | ns for a look |");
+    puts("|---|---|---|");
+    make_plot(&now, PLOTASK_COLUMNS, FULL_ROWS, FEW_VALUES);
+    look_row("for every value one row of a sheet with 585 rows, no match", ask_absent);
+    make_plot(&now, 1, PLOTASK_WORDS / 2 - 1, FEW_VALUES);
+    add_last_row(&now);
+    look_row("for every value one row of a sheet whose only row stands last, behind 2,047 of one cell", ask_last_row);
+    make_plot(&now, 1, 64, 64);
+    look_row("two nested quantifiers over 64 values, with equalities alone", ask_pairs);
+}
+
 static void stack_row(const char *name, work *piece)
 {
     must_do(piece);
@@ -173,6 +214,7 @@ int main(void)
     question_table();
     call_table();
     growth_table();
+    look_table();
     stack_table();
     return 0;
 }

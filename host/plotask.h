@@ -301,7 +301,7 @@ uint32_t plotask_encode(const uint32_t *header, size_t header_words, const uint3
  * Looks. "Equal" costs 1, "row stands" 1 and the number of rows of that sheet, and the other kinds what their children cost. The right child of
  * "and" is not asked where the left is false, of "or" where the left is true; "some" stops after the first true, "every" after the first false.
  * Looks are no measure of time: "row stands" passes the rows of every sheet up to the last one of its own. The time that a question may take grows
- * with its looks and with the words in use, at most with their product.
+ * with its looks and with the words in use, at most with their product. What a look takes is measured in docs/BENCHMARKS.md.
  *
  *   header, header_words        ten words, PLOTASK_CONST_HEADER(&header) or PLOTASK_HEADER(&header)
  *   plot, plot_words            the plot

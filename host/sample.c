@@ -82,6 +82,22 @@ void ask_pairs(struct sample *sample)
     add_node(sample, PLOTASK_EQUAL, PLOTASK_VARIABLE(0), PLOTASK_VARIABLE(1));
 }
 
+void add_last_row(struct sample *sample)
+{
+    sample->header.relations = 2;
+    sample->header.arities[1] = 1;
+    sample->plot[sample->header.used++] = 1;
+    sample->plot[sample->header.used++] = PLOTASK_CONSTANTS - 1;
+}
+
+void ask_last_row(struct sample *sample)
+{
+    sample->query_words = 0;
+    add_node(sample, PLOTASK_EVERY, 0, 1);
+    add_node(sample, PLOTASK_NOT, 2, 0);
+    add_node(sample, PLOTASK_STANDS, 1, PLOTASK_VARIABLE(0));
+}
+
 /* A chain's quantifiers bind variable 0; its row is of variable 1, the candidate's. */
 static void start_chain(struct sample *sample)
 {

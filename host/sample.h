@@ -37,6 +37,12 @@ void ask_absent(struct sample *sample);
 /* every v0: every v1: v0 = v1 or not v0 = v1 */
 void ask_pairs(struct sample *sample);
 
+/* Appends a row of one cell, which holds the highest inked value, in a sheet 1 of its own. */
+void add_last_row(struct sample *sample);
+
+/* every v0: not (v0) stands in sheet 1 */
+void ask_last_row(struct sample *sample);
+
 /* A chain of so many nodes: one kind above "a row of one value, which is not the plot's, stands in sheet 0". */
 void ask_chain(struct sample *sample, uint32_t kind, uint32_t nodes);
 

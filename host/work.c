@@ -7,11 +7,10 @@
 #include <string.h>
 
 struct sample now;
-uint32_t refusal, truth;
+uint32_t refusal, truth, count;
 answering *by_hand;
 
 static uint32_t list[PLOTASK_CELLS];
-static uint32_t count;
 static uint8_t card[PLOTASK_CARD_BYTES], written[PLOTASK_CARD_BYTES];
 static uint32_t card_bytes;
 static struct plotask_header read_header;

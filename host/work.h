@@ -8,8 +8,8 @@
 /* What all work reads. */
 extern struct sample now;
 
-/* What the last work answered: a refusal, where it is 0 a verdict. */
-extern uint32_t refusal, truth;
+/* What the last work answered: a refusal; where it is 0, a verdict or nothing, and a number, which is a question's looks. */
+extern uint32_t refusal, truth, count;
 
 /* A question that a loop in C answers: its verdict over so many listed values. Set before ask_scanning and ask_hashing. */
 typedef uint32_t answering(const uint32_t *values, size_t count);
