@@ -98,6 +98,10 @@ asked-verdict h ws qs candidate buffer budget a fits =
     let o = asked (modelOf h ws candidate) (formulaOf (h .arities) qs) in
     ap (λ (x : Answer). answeredBy x (within budget o)) (askable-done h ws qs candidate buffer a) ∙ ap evaluatedAs (verdict budget o fits)
 
+-- no refusal is a verdict
+pub not-refused : {t : Truth} {n r : ℕ} → Refused r ≡ Verdict t n → ⊥
+not-refused e = let z : _≡_ {A = ℕ} 0 1 = cc in omega arith
+
 -- the checks of run B are those of run A: a check turns on the candidate's length and cells alone, and fills keep both
 pub demand-three : DemandThree
 demand-three h ws qs candidate buffer budget fs buffer′ budget′ longer larger t n e =

@@ -27,7 +27,7 @@ use Rattle.decode.specs.Measure.{openedHead, measuredRecords, wordsIn, t
 use Rattle.decode.specs.Write.{WriteRows, wordsRead}
 use Rattle.card.proofs.Order.{read-first}
 use Rattle.decode.proofs.Fields.{written-or-blank, numbered-length}
-use Rattle.card.proofs.Arities.{arity-low}
+use Rattle.instance.proofs.Rows.{arity-low}
 use Rattle.decode.proofs.Records.{RecordRead, record-read}
 use Rattle.decode.proofs.Opening.{HeadRead}
 

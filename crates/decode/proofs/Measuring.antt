@@ -12,7 +12,7 @@ use Rattle.decode.specs.declared.measure.Needed.the-variants as needed
 use Rattle.card.specs.Format.{readRecord, readRecords}
 use Rattle.card.specs.Blanks.{blanks, highest}
 use Rattle.decode.specs.Measure.{measuredRecord, measuredRecords, wordsIn}
-use Rattle.card.proofs.Arities.{arity-low}
+use Rattle.instance.proofs.Rows.{arity-low}
 use Rattle.decode.proofs.Records.{record-read, step, added, added-none, added-more, records-more, records-refused}
 
 module _ (card : List ℕ) (start n : ℕ) (ars : List ℕ) (count : ℕ) where

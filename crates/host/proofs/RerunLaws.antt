@@ -4,7 +4,6 @@ use Prim.Native.Nat.{ℕ}
 use mathlib.Core.Path.{_≡_, refl, sym, ap, _∙_}
 use mathlib.Core.Bool.{Bool, true, false}
 use mathlib.Core.List.{List, [], _∷_}
-use native.Mathlib.Omega.{arith}
 use lib.ListN.{length}
 use lib.Dec.{eqb}
 use borrow.Author.Tests.{eqb-true}
@@ -16,14 +15,11 @@ use Rattle.instance.specs.Run.{filledWords, fillAnswers, modelOf}
 use Rattle.instance.specs.Substitute.{substituted, substitutedWords}
 use Rattle.answer.specs.declared.asked.Asked.the-variants as asked
 use Rattle.answer.specs.Ask.{ask}
-use Rattle.answer.proofs.RerunLaws.{demand-three}
+use Rattle.answer.proofs.RerunLaws.{not-refused, demand-three}
 use Rattle.host.specs.Words.{headerLength, headerOf}
 use Rattle.host.specs.Calls.{substituteAnswer, substituteWords, askAnswer}
 use Rattle.host.specs.Rerun.{wordsAfter, answersTo, ExportedDemandThree}
 use Rattle.host.proofs.Headed.{headed-yes, kept-yes}
-
-not-refused : {t : Truth} {n r : ℕ} → asked.Refused r ≡ asked.Verdict t n → ⊥
-not-refused e = let z : _≡_ {A = ℕ} 0 1 = cc in omega arith
 
 module _ (hs : List ℕ) (ten : length hs ≡ headerLength) where
   words-are : (fs : List Fill) (ws : List ℕ) → wordsAfter hs fs ws ≡ filledWords (headerOf hs) fs ws

@@ -23,7 +23,7 @@ use Rattle.answer.specs.declared.asked.Asked.{Asked}
 use Rattle.answer.specs.declared.asked.Asked.the-variants as asked
 use Rattle.answer.specs.Ask.{askable, ask, askedBuffer}
 use Rattle.answer.specs.Rerun.{Rerun}
-use Rattle.answer.proofs.RerunLaws.{verdict-asked, demand-three}
+use Rattle.answer.proofs.RerunLaws.{verdict-asked, not-refused, demand-three}
 use Rattle.rerun.specs.declared.reran.Reran.{Reran}
 use Rattle.rerun.specs.declared.reran.Reran.the-variants.{Refused}
 use Rattle.rerun.specs.Fills.{fillsOf, filledCandidate, stored}
@@ -46,9 +46,6 @@ first-both t n b u k e = rw e refl
 second-both : (t : Truth) (n : ℕ) (b : Asked) → secondOf (bothRuns (asked.Verdict t n) b) ≡ b
 second-both t n (asked.Verdict u k) = refl
 second-both t n (asked.Refused r) = refl
-
-not-refused : {t : Truth} {n r : ℕ} → asked.Refused r ≡ asked.Verdict t n → ⊥
-not-refused e = let z : _≡_ {A = ℕ} 0 1 = cc in omega arith
 
 module _ (h : Header) (ws qs candidate buffer : List ℕ) (budget : ℕ) (fills out : List ℕ) where
   -- what a call with these arguments answers and leaves

@@ -13,7 +13,6 @@ use Rattle.instance.specs.Header.{maxRelations}
 use Rattle.instance.specs.Sound.{sound, rows}
 use Rattle.instance.proofs.Rows.{headed, parts, scanned-sound, scanned-unsound, scanned-rows}
 use Rattle.card.specs.Encode.{cardBytes}
-use Rattle.card.proofs.Arities.{narrow}
 use Rattle.encode.proofs.RecordSteps.{more-stand}
 use Rattle.encode.proofs.Encoding.{all-written, record-size, card-size, refused-unsound, refused-short, done}
 use Rattle.encode.proofs.encode.Statement.{statement}
@@ -103,7 +102,7 @@ write-records-requires c κs =
     let b = c .before .before .before .before .before .before .before .before .before in
     let p = parts (h b) (ws b) (stands b) in
     let few = headed (h b .relations) (h b .arities) (p .header) .few in (
-      narrow (h b .relations) (h b .arities) (p .header),
+      headed (h b .relations) (h b .arities) (p .header) .narrow,
       (
         more-stand (h b .relations) maxRelations (h b .arities) few 0 _ (p .words),
         simp (length-take, length-drop)

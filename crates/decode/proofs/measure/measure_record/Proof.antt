@@ -9,7 +9,7 @@ use Rattle.card.specs.Format.{readRecord}
 use Rattle.decode.specs.Measure.{measuredRecord, measuredFields, readWritten}
 use Rattle.instance.proofs.Parts.{part-to-end}
 use Rattle.decode.proofs.Fields.{leading-within, leading-beyond}
-use Rattle.card.proofs.Arities.{arity-low}
+use Rattle.instance.proofs.Rows.{arity-low}
 use Rattle.decode.proofs.Records.{record-none, record-unknown, record-cut, record-beyond, record-measured, measuredAs}
 use borrow.Author.Needs.{needs}
 use Rattle.decode.proofs.measure.measure_record.Statement.{statement}
