@@ -53,4 +53,4 @@ pub exported-demand-three : ExportedDemandThree
 exported-demand-three hs ws qs candidate list budget fs list′ budget′ longer larger t n e =
     let ten = has-ten hs ws qs candidate list budget t n e in
     let d = demand-three (headerOf hs) ws qs candidate list budget fs list′ budget′ longer larger t n (sym (ask-is hs ten ws qs candidate list budget) ∙ e) in
-    (answers-are hs ten fs ws ∙ d .ran .answered, rw (ask-is hs ten (wordsAfter hs fs ws) qs (run fs (modelOf (headerOf hs) ws candidate) .candidate) list′ budget′, words-are hs ten fs ws) d)
+    (answers-are hs ten fs ws ∙ d .ran .answered, words-are hs ten fs ws, rw (ask-is hs ten (wordsAfter hs fs ws) qs (run fs (modelOf (headerOf hs) ws candidate) .candidate) list′ budget′, words-are hs ten fs ws) d)

@@ -1,4 +1,4 @@
-// Whether a list of numbers are cells.
+// Whether all numbers of a list are cells.
 ghost use mathlib.Core.Path.{_≡_};
 ghost use Rattle.instance.specs.Rows.{areCells};
 use calculus::cell::is_cell;
