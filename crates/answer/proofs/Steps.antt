@@ -3,12 +3,13 @@
 use Prim.Native.Nat.{ℕ, _+_, _-_, _≤_}
 use mathlib.Core.Path.{_≡_, refl, ap, _∙_}
 use mathlib.Core.Bool.{Bool, true, false, cond}
+use mathlib.Core.List.{List, [], _∷_}
 use native.Mathlib.Nat.{zero-add}
 use native.Mathlib.Omega.{arith}
 use Rattle.calculus.specs.declared.truth.Truth.{Truth}
 use Rattle.calculus.specs.declared.truth.Truth.the-variants.{False, Unknown, True}
 use Rattle.calculus.specs.Kleene.{Junction, conj, disj, join, unit}
-use Rattle.calculus.specs.Eval.{Outcome, settles, asked, joined}
+use Rattle.calculus.specs.Eval.{Outcome, settles, asked, joined, over}
 use Rattle.calculus.proofs.Bools.{never}
 use Rattle.calculus.proofs.Kleene.{join-comm, join-swap}
 use Rattle.answer.specs.declared.evaluated.Evaluated.the-variants.{Verdict, Spent}
@@ -27,9 +28,6 @@ unit-left disj False = refl
 unit-left disj Unknown = refl
 unit-left disj True = refl
 
-pub unit-right : (j : Junction) (t : Truth) → join j t (unit j) ≡ t
-unit-right j t = join-comm j t (unit j) ∙ unit-left j t
-
 -- a truth value that settles a junction is what it comes to
 settled : (j : Junction) (a t : Truth) → settles j a ≡ true → join j a t ≡ a
 settled conj False False e = refl
@@ -43,9 +41,17 @@ settled disj True True e = refl
 settled disj Unknown t e = never e
 settled disj False t e = never e
 
-join-assoc : (j : Junction) (a b c : Truth) → join j a (join j b c) ≡ join j (join j a b) c
+pub join-assoc : (j : Junction) (a b c : Truth) → join j a (join j b c) ≡ join j (join j a b) c
 join-assoc j a b c =
     ap (join j a) (join-comm j b c) ∙ join-swap j a c b ∙ join-comm j c (join j a b)
+
+pub join-same : (j : Junction) (a : Truth) → join j a a ≡ a
+join-same conj False = refl
+join-same conj Unknown = refl
+join-same conj True = refl
+join-same disj False = refl
+join-same disj Unknown = refl
+join-same disj True = refl
 
 pub start : (j : Junction) (o : Outcome) → sofar j (unit j) 0 o ≡ o
 start j o =
@@ -87,10 +93,18 @@ module _ (j : Junction) (b : ℕ) (t : Truth) (n : ℕ) (low : n ≤ b) (o p : O
         let pays : n + (o .cost + asked j (o .truth) (p .cost)) ≡ n + m + p .cost = omega (arith, w .cost, asks) in
         alike says pays
 
-pub end : (j : Junction) (b : ℕ) (t : Truth) (n : ℕ) → n ≤ b → within b (sofar j t n (record { truth = unit j; cost = 0 })) ≡ Verdict t n
-end j b t n low =
+-- a walk says what it starts from
+over-says : (s : Truth) (j : Junction) (f : ℕ → Outcome) (cs : List ℕ) → join j s (over s j f cs .truth) ≡ over s j f cs .truth
+over-says s j f [] = join-same j s
+over-says s j f (c ∷ cs) = join-swap j s (f c .truth) (over s j f cs .truth) ∙ ap (join j (f c .truth)) (over-says s j f cs)
+
+pub over-start : (s : Truth) (j : Junction) (f : ℕ → Outcome) (cs : List ℕ) → sofar j s 0 (over s j f cs) ≡ over s j f cs
+over-start s j f cs = alike (over-says s j f cs) (zero-add (over s j f cs .cost))
+
+pub end : (j : Junction) (b : ℕ) (t s : Truth) (n : ℕ) → join j t s ≡ t → n ≤ b → within b (sofar j t n (record { truth = s; cost = 0 })) ≡ Verdict t n
+end j b t s n said low =
     let pays : n + 0 ≡ n = omega arith in
-    ap (within b) (alike (unit-right j t) pays) ∙ verdict b (record { truth = t; cost = n }) low
+    ap (within b) (alike said pays) ∙ verdict b (record { truth = t; cost = n }) low
 
 -- the last thing asked
 module _ (j : Junction) (b : ℕ) (t : Truth) (n : ℕ) (low : n ≤ b) (o : Outcome) where

@@ -7,9 +7,8 @@ use mathlib.Core.List.{List}
 use lib.ListN.{length, getD}
 use Rattle.calculus.specs.Kleene.{Junction, conj, disj}
 use Rattle.calculus.specs.Formula.{variables}
-use Rattle.calculus.specs.Eval.{Outcome, eval}
+use Rattle.calculus.specs.Eval.{Outcome, Structure, eval}
 use Rattle.calculus.specs.Closed.{closed, tuples}
-use Rattle.calculus.specs.Domain.{domain}
 use Rattle.instance.specs.Header.{headerStands, maxRelations, maxColumns, maxWords}
 use Rattle.instance.specs.Rows.{wordsStand, rowsFrom}
 use Rattle.query.specs.Words.{nodeCount, nodeWords, maxNodes, wordAt}
@@ -18,6 +17,10 @@ use Rattle.query.specs.Check.{isTerm}
 use Rattle.query.specs.Passed.{NodeStands}
 use Rattle.answer.specs.declared.evaluated.Evaluated.{Evaluated}
 use Rattle.answer.specs.Within.{within}
+
+-- the structure that words stand for
+abbrev pub world : List ℕ → List ℕ → Structure
+world ars ws = closed (rowsFrom ars 0 ws)
 
 pub record Ready (n : ℕ) (ars ws qs counts values : List ℕ) : Type 0 where
   pub header : headerStands n ars ≡ true
@@ -29,11 +32,11 @@ pub record Ready (n : ℕ) (ars ws qs counts values : List ℕ) : Type 0 where
   pub nodes : (i : ℕ) → i < nodeCount qs → NodeStands n ars qs i
   pub counted : (r : ℕ) → r < n → getD counts r 0 ≡ length (tuples r (rowsFrom ars 0 ws))
   pub eight-counts : length counts ≡ maxRelations
-  pub listed : values ≡ domain (rowsFrom ars 0 ws)
+  pub listed : values ≡ world ars ws .range
 
--- the outcome of node i, with k nodes left, under an assignment
-abbrev pub outcomeAt : List ℕ → List ℕ → List ℕ → ℕ → ℕ → List ℕ → Outcome
-outcomeAt ars ws qs k i e = eval (closed (rowsFrom ars 0 ws)) (formulaAt ars qs k i) e
+-- the outcome of node i in a structure, with k nodes left, under an assignment
+abbrev pub outcomeAt : Structure → List ℕ → List ℕ → ℕ → ℕ → List ℕ → Outcome
+outcomeAt S ars qs k i e = eval S (formulaAt ars qs k i) e
 
 pub record Evaluable (n : ℕ) (ars ws qs counts values : List ℕ) (i : ℕ) (e : List ℕ) : Type 0 where
   pub ready : Ready n ars ws qs counts values
@@ -41,8 +44,11 @@ pub record Evaluable (n : ℕ) (ars ws qs counts values : List ℕ) (i : ℕ) (e
   pub sixteen : length e ≡ variables
 
 -- an answer is right for node i: with as many nodes left as there are, the outcome within the budget
+abbrev pub RightIn : Structure → List ℕ → List ℕ → ℕ → List ℕ → ℕ → Evaluated → Type 0
+RightIn S ars qs i e budget r = (k : ℕ) → nodeCount qs ≤ i + k → r ≡ within budget (outcomeAt S ars qs k i e)
+
 abbrev pub Right : List ℕ → List ℕ → List ℕ → ℕ → List ℕ → ℕ → Evaluated → Type 0
-Right ars ws qs i e budget r = (k : ℕ) → nodeCount qs ≤ i + k → r ≡ within budget (outcomeAt ars ws qs k i e)
+Right ars ws qs i e budget r = RightIn (world ars ws) ars qs i e budget r
 
 -- every is and, some is or
 abbrev pub junctionOf : Bool → Junction

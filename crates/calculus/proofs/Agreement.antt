@@ -9,7 +9,7 @@ use Rattle.calculus.specs.declared.truth.Truth.{Truth}
 use Rattle.calculus.specs.declared.truth.Truth.the-variants.{False, Unknown, True}
 use Rattle.calculus.specs.Cell.{isConstant, allConstant}
 use Rattle.calculus.specs.Row.{Row, cellsOf}
-use Rattle.calculus.specs.Kleene.{Junction, conj, disj, join, negate}
+use Rattle.calculus.specs.Kleene.{Junction, conj, disj, join, unit, negate}
 use Rattle.calculus.specs.Formula.{Formula, atom, equal, negation, junction, quantified, value, values, termInked, inked}
 use Rattle.calculus.specs.Eval.{Outcome, over, eval}
 use Rattle.calculus.specs.Unify.{under, unifies}
@@ -88,13 +88,13 @@ equality-bool a b p q = rw (and-true p q) (go (eqb a b))
 over-bool :
     (j : Junction) (f : ℕ → Outcome) (g : ℕ → Bool) (cs : List ℕ) → allConstant cs ≡ true →
     ((c : ℕ) → isConstant c ≡ true → f c .truth ≡ ofBool (g c)) →
-    over j f cs .truth ≡ ofBool (overB j g cs)
+    over (unit j) j f cs .truth ≡ ofBool (overB j g cs)
 unfolding allConstant
 over-bool conj f g [] k each = refl
 over-bool disj f g [] k each = refl
 over-bool j f g (c ∷ cs) k each =
     let b = both (isConstant c) (allConstant cs) k in
-    ap (λ (t : Truth). join j t (over j f cs .truth)) (each c (b .0)) ∙
+    ap (λ (t : Truth). join j t (over (unit j) j f cs .truth)) (each c (b .0)) ∙
     ap (λ (t : Truth). join j (ofBool (g c)) t) (over-bool j f g cs (b .1) each) ∙
     join-bool j (g c) (overB j g cs)
 

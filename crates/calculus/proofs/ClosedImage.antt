@@ -32,7 +32,7 @@ identical-unifies xs ys e =
     (record { valuation = record { value = λ c. 0; constant = λ c. refl }; equal = ap (map _) (identical-is xs ys e) })
 
 module _ (h : ℕ → ℕ) (keeps : Keeps h) where
-  identical-map : (xs ys : List ℕ) → identical xs ys ≡ true → identical (map h xs) (map h ys) ≡ true
+  pub identical-map : (xs ys : List ℕ) → identical xs ys ≡ true → identical (map h xs) (map h ys) ≡ true
   identical-map xs ys e = subst (λ (l : List ℕ). identical (map h xs) (map h l) ≡ true) (identical-is xs ys e) (identical-refl (map h xs))
 
   -- a valuation after h is a valuation
@@ -63,7 +63,7 @@ module _ (h : ℕ → ℕ) (keeps : Keeps h) where
       go false false false true f g k = never (g refl)
       go false false false false f g k = alike
 
-  equality-map : (a b : ℕ) → equality a b ⊑ equality (h a) (h b)
+  pub equality-map : (a b : ℕ) → equality a b ⊑ equality (h a) (h b)
   unfolding equality
   equality-map a b = go (eqb a b) refl (isConstant a && isConstant b) refl
     where
@@ -87,6 +87,7 @@ module _ (h : ℕ → ℕ) (keeps : Keeps h) where
       cost = le-of-eq (ap (λ (ts : List (List ℕ)). 1 + length ts) (tuples-map h r rs) ∙ ap (λ (n : ℕ). 1 + n) (length-map (tuples r rs) (map h)));
     };
     equals = equality-map;
+    starts = λ j. alike;
     ranges = domain-map rs;
   }
 

@@ -46,11 +46,11 @@ joined-mono j h k =
     record { truth = join-mono j (h .truth) (k .truth); cost = add-le-add (h .cost) (asked-mono j (h .truth) (k .cost)) }
 
 pub over-mono :
-    (j : Junction) (f g : ℕ → Outcome) (h : ℕ → ℕ) →
+    (j : Junction) {s t : Truth} → s ⊑ t → (f g : ℕ → Outcome) (h : ℕ → ℕ) →
     ((c : ℕ) → f c ⊑ₒ g (h c)) →
-    (cs : List ℕ) → over j f cs ⊑ₒ over j g (map h cs)
-over-mono j f g h each [] = ⊑ₒ-refl _
-over-mono j f g h each (c ∷ cs) = joined-mono j (each c) (over-mono j f g h each cs)
+    (cs : List ℕ) → over s j f cs ⊑ₒ over t j g (map h cs)
+over-mono j k f g h each [] = record { truth = k; cost = le-refl 0 }
+over-mono j k f g h each (c ∷ cs) = joined-mono j (each c) (over-mono j k f g h each cs)
 
 -- What was asked before may be left out: it says nothing new, and is not paid again.
 when-again : (b : Bool) (m n : ℕ) → cond b 0 n ≤ cond b 0 (m + cond b 0 n)
@@ -61,41 +61,41 @@ when-under : (b d : Bool) (a m n : ℕ) → cond b 0 m ≤ cond b 0 n → cond b
 when-under true d a m n h = le-refl 0
 when-under false d a m n h = add-le-add (le-refl a) (when-mono d h)
 
-module _ (j : Junction) (f : ℕ → Outcome) where
+module _ (s : Truth) (j : Junction) (f : ℕ → Outcome) where
   record Again (t : Truth) (p q : Outcome) : Type 0 where
     says : join j t (q .truth) ≡ join j t (p .truth)
     pays : asked j t (q .cost) ≤ asked j t (p .cost)
 
   again-keep :
       (x c : ℕ) (b : Bool) → (T b → c ≡ x) → (cs rest : List ℕ) →
-      Again (f x .truth) (over j f cs) (over j f rest) →
-      Again (f x .truth) (over j f (c ∷ cs)) (over j f (cond b rest (c ∷ rest)))
+      Again (f x .truth) (over s j f cs) (over s j f rest) →
+      Again (f x .truth) (over s j f (c ∷ cs)) (over s j f (cond b rest (c ∷ rest)))
   again-keep x c true e cs rest r =
-      subst (λ (y : ℕ). Again (f x .truth) (joined j (f y) (over j f cs)) (over j f rest)) (sym (e tt))
+      subst (λ (y : ℕ). Again (f x .truth) (joined j (f y) (over s j f cs)) (over s j f rest)) (sym (e tt))
       (record {
-        says = r .says ∙ sym (join-idem j (f x .truth) (over j f cs .truth));
-        pays = le-trans (r .pays) (when-again (settles j (f x .truth)) (f x .cost) (over j f cs .cost));
+        says = r .says ∙ sym (join-idem j (f x .truth) (over s j f cs .truth));
+        pays = le-trans (r .pays) (when-again (settles j (f x .truth)) (f x .cost) (over s j f cs .cost));
       })
   again-keep x c false e cs rest r = record {
     says =
-        join-swap j (f x .truth) (f c .truth) (over j f rest .truth) ∙
+        join-swap j (f x .truth) (f c .truth) (over s j f rest .truth) ∙
         ap (join j (f c .truth)) (r .says) ∙
-        join-swap j (f c .truth) (f x .truth) (over j f cs .truth);
-    pays = when-under (settles j (f x .truth)) (settles j (f c .truth)) (f c .cost) (over j f rest .cost) (over j f cs .cost) (r .pays);
+        join-swap j (f c .truth) (f x .truth) (over s j f cs .truth);
+    pays = when-under (settles j (f x .truth)) (settles j (f c .truth)) (f c .cost) (over s j f rest .cost) (over s j f cs .cost) (r .pays);
   }
 
-  again : (x : ℕ) (cs : List ℕ) → Again (f x .truth) (over j f cs) (over j f (without x cs))
+  again : (x : ℕ) (cs : List ℕ) → Again (f x .truth) (over s j f cs) (over s j f (without x cs))
   unfolding without
   again x [] = record { says = refl; pays = le-refl _ }
   again x (c ∷ cs) = again-keep x c (eqb c x) (eqb→eq c x) cs (without x cs) (again x cs)
 
-  pub over-distinct : (cs : List ℕ) → over j f cs ⊑ₒ over j f (distinct cs)
+  pub over-distinct : (cs : List ℕ) → over s j f cs ⊑ₒ over s j f (distinct cs)
   unfolding distinct
   over-distinct [] = ⊑ₒ-refl _
   over-distinct (c ∷ cs) =
       let r = again c (distinct cs) in
       ⊑ₒ-trans (joined-mono j (⊑ₒ-refl (f c)) (over-distinct cs))
       (record {
-        truth = subst (λ (t : Truth). join j (f c .truth) (over j f (distinct cs) .truth) ⊑ t) (sym (r .says)) alike;
+        truth = subst (λ (t : Truth). join j (f c .truth) (over s j f (distinct cs) .truth) ⊑ t) (sym (r .says)) alike;
         cost = add-le-add (le-refl _) (r .pays);
       })

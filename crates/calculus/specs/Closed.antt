@@ -8,6 +8,7 @@ use Rattle.calculus.specs.declared.truth.Truth.{Truth}
 use Rattle.calculus.specs.declared.truth.Truth.the-variants.{False, Unknown, True}
 use Rattle.calculus.specs.Cell.{isConstant}
 use Rattle.calculus.specs.Row.{Row}
+use Rattle.calculus.specs.Kleene.{unit}
 use Rattle.calculus.specs.Unify.{unifies}
 use Rattle.calculus.specs.Domain.{domain}
 use Rattle.calculus.specs.Eval.{Structure}
@@ -41,5 +42,6 @@ abbrev pub closed : List Row → Structure
 closed rs = record {
   holds = λ r row. record { truth = stands (tuples r rs) row; cost = 1 + length (tuples r rs) };
   equals = equality;
+  start = unit;
   range = domain rs;
 }

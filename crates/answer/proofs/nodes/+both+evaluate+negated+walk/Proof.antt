@@ -11,7 +11,7 @@ use Rattle.query.specs.Passed.{NodeBy}
 use Rattle.query.specs.Words.{noKind, negates, joins, ranges, kindOf, wordAt, nodeCount}
 use Rattle.answer.specs.declared.evaluated.Evaluated.{Evaluated}
 use Rattle.answer.specs.declared.evaluated.Evaluated.the-variants.{Spent}
-use Rattle.answer.specs.Ready.{Right, junctionOf}
+use Rattle.answer.specs.Ready.{world, Right, junctionOf}
 use Rattle.answer.proofs.Children.{joins-by, ranges-by, none-above, stands-by, negated-spent, negated-verdict, both-left-spent, both-settled, both-low, both-right-spent, both-verdict, right-low, Walking, set-again, set-back, walk-starts, walk-ends, walk-spent, walk-settled, walk-more}
 use borrow.Fn.Kinds.{In}
 use borrow.Fn.PlainCycle.{Measures, is, falls, and}
@@ -315,7 +315,7 @@ negated-returns-2 t c =
 
 abbrev walk-Inv-loop : walk-lts.InvT-loop
 walk-Inv-loop query node every env₀ budget values relations arities words counts variable child old truth₀ cost₀ i₀ env truth cost i =
-    Walking arities words query node (junctionOf every) env₀ values budget truth cost i × (set env variable old ≡ env₀)
+    Walking (world arities words) arities query node (junctionOf every) env₀ values budget truth cost i × (set env variable old ≡ env₀)
 
 abbrev walk-μ-loop : walk-lts.MeasureT-loop
 walk-μ-loop query node every env₀ budget values relations arities words counts variable child old truth₀ cost₀ i₀ env truth cost i =
