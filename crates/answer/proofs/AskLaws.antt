@@ -23,7 +23,7 @@ use Rattle.instance.specs.Rows.{wordsOf, rowsFrom}
 use Rattle.instance.specs.Sound.{sound, rows}
 use Rattle.instance.specs.Run.{modelOf}
 use Rattle.instance.proofs.Rows.{headed, parts}
-use Rattle.instance.proofs.Kept.{sound-words}
+use Rattle.instance.proofs.Headers.{sound-words}
 use Rattle.query.specs.Words.{nodeCount}
 use Rattle.query.specs.Tree.{formulaOf}
 use Rattle.query.specs.Scope.{Scopes}

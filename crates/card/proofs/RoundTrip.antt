@@ -16,10 +16,11 @@ use Rattle.calculus.specs.Row.{Row}
 use Rattle.instance.specs.declared.header.Header.{Header}
 use Rattle.instance.specs.Header.{headerStands, maxRelations, maxWords}
 use Rattle.instance.specs.Rows.{areCells, rowsStand, wordsOf, rowsFrom}
-use Rattle.instance.specs.Sound.{sound, rows}
+use Rattle.instance.specs.Sound.{sound, rows, headerFor}
 use Rattle.calculus.proofs.Bools.{both}
 use Rattle.calculus.proofs.Cells.{cell-below}
 use Rattle.instance.proofs.Rows.{row-parts, words-back, stand-rows, parts}
+use Rattle.instance.proofs.Headers.{sound-header}
 use Rattle.card.specs.Parse.{read}
 use Rattle.card.specs.Format.{written, Card, readCard}
 use Rattle.card.specs.Blanks.{blanksIn, blanks, highestIn, highest, numbered, numberedRows}
@@ -93,7 +94,7 @@ module _ (h : Header) (rs : List Row) (stands : headerStands (h .relations) (h .
   pub decode-rows : (slice : List ℕ) → length (wordsOf rs) ≤ length slice
       → decoded (cardBytes h rs) slice ≡ record {
         answer = Done (length (wordsOf rs));
-        header = record { relations = h .relations; arities = h .arities; used = length (wordsOf rs) };
+        header = headerFor (h .relations) (h .arities) rs;
         words = wordsOf rs ++ drop (length (wordsOf rs)) slice;
       }
   unfolding decoded decodedFrom accepted
@@ -119,7 +120,8 @@ decode-encode h ws slice e eight room =
     let back : wordsOf (rowsFrom ars 0 us) ≡ us = words-back n ars 0 us (s .words) in
     let size : length (wordsOf (rowsFrom ars 0 us)) ≡ h .used = ap length back ∙ length-take-le (h .used) ws (s .within) in
     let all = decode-rows h (rowsFrom ars 0 us) (s .header) eight (stand-rows n ars 0 us (s .words)) (omega arith) slice (omega arith) in
-    rw (size, back) at all
+    let same = sound-header h ws e in
+    rw (same, size, back) at all
 
 -- what an accepted call of the writer has
 encoded-told : (h : Header) (ws out : List ℕ) (n : ℕ) → encoded h ws out ≡ Done n → (sound h ws ≡ true) × (length (cardBytes h (rows h ws)) ≡ n)

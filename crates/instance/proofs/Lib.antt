@@ -5,6 +5,7 @@ pub mod Fills
 pub mod Counts
 pub mod Accepted
 pub mod NullLaws
+pub mod Headers
 pub mod Kept
 pub mod Run
 pub mod Parts

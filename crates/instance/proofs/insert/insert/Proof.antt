@@ -9,6 +9,7 @@ use Rattle.instance.specs.declared.header.Header.{Header}
 use Rattle.instance.specs.Insert.{inserted, insertedHeader, insertedWords}
 use Rattle.instance.proofs.Passes.{row-put}
 use Rattle.instance.proofs.Accepted.{Inserted, insert-accepted}
+use Rattle.instance.proofs.Kept.{entered-used}
 use borrow.Author.Needs.{needs}
 use Rattle.instance.proofs.insert.insert.Statement.{statement}
 use Rattle.instance.proofs.insert.insert.Tie as tie
@@ -83,7 +84,7 @@ unfolding insertedHeader insertedWords
 returns-2 c = let a = c .before .before .before .before in (
   sym (done a),
   (
-    simp (done a) (ap (λ (n : ℕ). record { relations = h a .relations; arities = h a .arities; used = n }) (accepted a .used)),
+    simp (done a) (ap (λ (n : ℕ). record { relations = h a .relations; arities = h a .arities; used = n }) (entered-used (h a) (ws a) (r a) (cs a) (k a) (accepted a))),
     simp (done a) (row-put _ (r a) (cs a) (ws a) _ (c .before .before .write-row .ensures)),
   ),
 )
