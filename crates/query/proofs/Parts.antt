@@ -17,7 +17,7 @@ use Rattle.query.specs.Scope.{Scopes, naming, binding}
 use Rattle.query.specs.Answers.{Long}
 use Rattle.query.specs.Check.{Checked, passed, refused, andThen, unless, restIsZero, isTerm, isBound, isChild, checkTerms, checkChild, checkBy, checkNode, checkNodes}
 
-refused-passed : {A : Type 0} {r : ℕ} {t : Scopes} → refused r ≡ passed t → A
+pub refused-passed : {A : Type 0} {r : ℕ} {t : Scopes} → refused r ≡ passed t → A
 refused-passed e = let z : _≡_ {A = ℕ} 0 1 = cc in absurd (omega arith)
 
 pub unless-passed : (b : Bool) (r : ℕ) (k : Checked) {t : Scopes} → unless b r k ≡ passed t → (b ≡ true) × (k ≡ passed t)
@@ -25,12 +25,12 @@ unless-passed true r k e = (refl, e)
 unless-passed false r k e = refused-passed e
 
 -- what is known between two steps
-record Between (k : Checked) (f : Scopes → Checked) (t : Scopes) : Type 0 where
-  known : Scopes
-  first : k ≡ passed known
-  second : f known ≡ passed t
+pub record Between (k : Checked) (f : Scopes → Checked) (t : Scopes) : Type 0 where
+  pub known : Scopes
+  pub first : k ≡ passed known
+  pub second : f known ≡ passed t
 
-then-passed : (k : Checked) (f : Scopes → Checked) {t : Scopes} → andThen k f ≡ passed t → Between k f t
+pub then-passed : (k : Checked) (f : Scopes → Checked) {t : Scopes} → andThen k f ≡ passed t → Between k f t
 then-passed (passed s) f e = record { known = s; first = refl; second = e }
 then-passed (refused r) f e = refused-passed e
 

@@ -3,4 +3,6 @@ pub mod Tree
 pub mod Scope
 pub mod Check
 pub mod Answers
+pub mod WellFormed
+pub mod Faults
 pub mod Passed
