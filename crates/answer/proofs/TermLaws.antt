@@ -7,15 +7,16 @@ use native.Mathlib.Nat.{add-zero, add-suc, suc-add}
 use native.Mathlib.Numerals.{add-one}
 use native.Mathlib.Omega.{arith}
 use lib.ListN.{length, take, set}
-use lib.Seq.{take-suc-set}
 use lib.Dec.{leb, ltb}
 use borrow.Author.Tests.{le-leb, lt-leb, le-ltb, ltb-true}
 use Rattle.calculus.specs.Cell.{constants}
-use Rattle.calculus.specs.Formula.{Term, const, var, value, values, variables}
+use Rattle.calculus.specs.Formula.{Term, const, var, value, values, variables, padded}
+use Rattle.instance.specs.Header.{maxColumns}
 use Rattle.query.specs.Words.{wordAt}
 use Rattle.query.specs.Tree.{variableBase, termOf, termsAt}
 use Rattle.query.specs.Check.{isTerm}
 use Rattle.calculus.proofs.Bools.{both}
+use Rattle.answer.proofs.Assigned.{padded-more, padded-length, padded-front}
 
 pub below-base : (w : ℕ) → w < variableBase → termOf w ≡ const w
 unfolding termOf
@@ -42,12 +43,26 @@ pub values-more : (e : List ℕ) (ts : List Term) (t : Term) → values e (ts ++
 values-more e [] t = refl
 values-more e (s ∷ ts) t = ap (λ (l : List ℕ). value e s ∷ l) (values-more e ts t)
 
+terms-long : (qs : List ℕ) (i j k : ℕ) (e : List ℕ) → length (values e (termsAt qs i j k)) ≡ k
+unfolding termsAt
+terms-long qs i j zero e = refl
+terms-long qs i j (suc k) e = ap suc (terms-long qs i (suc j) k e)
+
 -- one term more of a row
 pub row-more :
-    (qs : List ℕ) (i : ℕ) (e row : List ℕ) (j v : ℕ) → j < length row → take j row ≡ values e (termsAt qs i 2 j) →
-    v ≡ value e (termOf (wordAt qs i (2 + j))) → take (j + 1) (set row j v) ≡ values e (termsAt qs i 2 (j + 1))
+    (qs : List ℕ) (i : ℕ) (e row : List ℕ) (j v : ℕ) → j < maxColumns → row ≡ padded maxColumns (values e (termsAt qs i 2 j)) →
+    v ≡ value e (termOf (wordAt qs i (2 + j))) → set row j v ≡ padded maxColumns (values e (termsAt qs i 2 (j + 1)))
 row-more qs i e row j v room so-far is =
-    ap (λ (n : ℕ). take n (set row j v)) (add-one j) ∙ take-suc-set row j v room ∙
-    ap (λ (l : List ℕ). l ++ v ∷ []) so-far ∙ ap (λ (x : ℕ). values e (termsAt qs i 2 j) ++ x ∷ []) is ∙
+    ap (λ (l : List ℕ). set l j v) so-far ∙ padded-more maxColumns (values e (termsAt qs i 2 j)) j v (terms-long qs i 2 j e) room ∙
+    ap (padded maxColumns)
+    (ap (λ (x : ℕ). values e (termsAt qs i 2 j) ++ x ∷ []) is ∙
     sym (values-more e (termsAt qs i 2 j) (termOf (wordAt qs i (2 + j)))) ∙ ap (values e) (sym (terms-more qs i 2 j)) ∙
-    ap (λ (n : ℕ). values e (termsAt qs i 2 n)) (sym (add-one j))
+    ap (λ (n : ℕ). values e (termsAt qs i 2 n)) (sym (add-one j)))
+
+-- a row of so many terms, with 0 behind them, is six words long and has the terms in front
+module _ (qs : List ℕ) (i : ℕ) (e row : List ℕ) (arity : ℕ) (is : row ≡ padded maxColumns (values e (termsAt qs i 2 arity))) where
+  pub row-six : arity ≤ maxColumns → length row ≡ maxColumns
+  row-six narrow = ap length is ∙ padded-length maxColumns (values e (termsAt qs i 2 arity)) (omega (arith, terms-long qs i 2 arity e))
+
+  pub row-front : take arity row ≡ values e (termsAt qs i 2 arity)
+  row-front = ap (take arity) is ∙ padded-front maxColumns arity (values e (termsAt qs i 2 arity)) (terms-long qs i 2 arity e)

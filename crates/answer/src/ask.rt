@@ -10,7 +10,10 @@ ghost use Rattle.query.specs.Words.{nodeCount};
 ghost use Rattle.query.specs.Tree.{formulaOf};
 ghost use Rattle.answer.specs.Within.{within};
 ghost use Rattle.answer.specs.Ready.{Ready};
+ghost use Rattle.calculus.specs.Model.{asked as askedOf};
+ghost use Rattle.instance.specs.Run.{modelOf};
 ghost use Rattle.answer.specs.Ask.{ask as askOf, askedBuffer};
+ghost use Rattle.answer.specs.Numbers.{TellsVerdict};
 use super::asked::Asked;
 use super::evaluated::Evaluated;
 use super::nodes::evaluate;
@@ -77,6 +80,7 @@ pub fn ask(
 ) -> Asked
     ensures answer { λ r. ⌜ r ≡ askOf header (now (plot .entry)) (now (query .entry)) (now (candidate .entry)) (now (buffer .entry)) budget ⌝ }
     ensures buffer { λ r. ⌜ now (buffer .exit) ≡ askedBuffer header (now (plot .entry)) (now (query .entry)) (now (candidate .entry)) (now (buffer .entry)) ⌝ }
+    ensures told { λ r. ⌜ TellsVerdict r (askOf header (now (plot .entry)) (now (query .entry)) (now (candidate .entry)) (now (buffer .entry)) budget) (askedOf (modelOf header (now (plot .entry)) (now (candidate .entry))) (formulaOf (header .arities) (now (query .entry)))) ⌝ }
 {
     let Scanned::Rows(count) = scan(header, plot) else {
         return Asked::Refused(UNSOUND);

@@ -2,8 +2,9 @@
 ghost use mathlib.Core.Path.{_≡_};
 ghost use mathlib.Core.Bool.{true};
 ghost use Prim.Native.Nat.{_+_, _<_};
-ghost use lib.ListN.{length, take};
-ghost use Rattle.calculus.specs.Formula.{value, values, variables};
+ghost use lib.ListN.{length};
+ghost use Rattle.calculus.specs.Formula.{value, values, variables, padded};
+ghost use Rattle.instance.specs.Header.{maxColumns};
 ghost use Rattle.calculus.specs.Closed.{equality as equalityOf};
 ghost use Rattle.query.specs.Words.{nodeCount, nodeWords, wordAt};
 ghost use Rattle.query.specs.Tree.{termOf, termsAt};
@@ -44,10 +45,10 @@ pub fn term(query: &[u32], node: usize, j: usize, env: &[u32; 16]) -> u32
     env[v]
 }
 
-// The cells of so many terms, from word 2 of a node on.
+// The cells of so many terms, from word 2 of a node on, and 0 behind them.
 pub fn asked_row(query: &[u32], node: usize, arity: usize, env: &[u32; 16]) -> [u32; 6]
     requires { ⌜ TermsStand (now query) node arity (now env) ⌝ }
-    ensures { λ r. ⌜ (length r ≡ 6) × (take arity r ≡ values (now (env .entry)) (termsAt (now (query .entry)) node 2 arity)) ⌝ }
+    ensures { λ r. ⌜ r ≡ padded maxColumns (values (now (env .entry)) (termsAt (now (query .entry)) node 2 arity)) ⌝ }
 {
     let mut row = [0u32; 6];
     let mut j = 0;

@@ -30,9 +30,13 @@ values e ts = map (value e) ts
 abbrev pub variables : ℕ
 variables = 16
 
+-- cells, and 0 behind them up to a width
+abbrev pub padded : ℕ → List ℕ → List ℕ
+padded width cs = cs ++ replicate (width - length cs) 0
+
 -- "The candidate row has k cells, 0 to 6, for variables 0 to k − 1."
 abbrev pub assignment : List ℕ → List ℕ
-assignment candidate = candidate ++ replicate (variables - length candidate) 0
+assignment candidate = padded variables candidate
 
 -- every constant of a formula is an inked value
 abbrev pub termInked : Term → Bool

@@ -5,3 +5,4 @@ pub mod WritingRows
 pub mod Measuring
 pub mod Opening
 pub mod Decoding
+pub mod Told

@@ -1,5 +1,6 @@
 -- What the first pass over a card's bytes answers. Document 01, "The card".
 use Prim.Native.Nat.{ℕ, zero, suc, _+_, _-_, max}
+use mathlib.Core.Path.{_≡_}
 use mathlib.Core.List.{List, [], _∷_, _++_}
 use lib.ListN.{length, drop, replicate}
 use Rattle.calculus.specs.declared.answer.Answer.{Answer}
@@ -13,7 +14,7 @@ use Rattle.decode.specs.declared.measure.Measured.the-variants as measur
 use Rattle.decode.specs.declared.measure.Total.{Total}
 use Rattle.decode.specs.declared.measure.Needed.{Needed}
 use Rattle.decode.specs.declared.measure.Needed.the-variants as needed
-use Rattle.card.specs.Parse.{Parsed, read, refused, andThen}
+use Rattle.card.specs.Parse.{Parsed, read, refused, andThen, parsedNumber}
 use Rattle.card.specs.Format.{Field, written, blank, Record, Head, padded, readField, readRecords}
 use Rattle.card.specs.Blanks.{blanks, highest, highestIn}
 
@@ -58,6 +59,19 @@ unfoldable pub measuredRecord : Parsed Record → Measured
 measuredRecord (read r bs) = measured.Record (length (r .fields)) (length (writtenOf (r .fields))) (highestIn (r .fields))
 measuredRecord (refused why) = measured.Refused why
 
+-- what is answered of a record, as the paper's number and values: its columns, how many of them are written, and the highest null
+abbrev pub measuredNumber : Measured → ℕ
+measuredNumber (measured.Record arity count top) = 0
+measuredNumber (measured.Refused why) = why
+
+abbrev pub measuredValues : Measured → List ℕ
+measuredValues (measured.Record arity count top) = arity ∷ count ∷ top ∷ []
+measuredValues (measured.Refused why) = []
+
+pub record ToldRecord (p : Parsed Record) (m : Measured) : Type 0 where
+  pub number : measuredNumber m ≡ parsedNumber p
+  pub values : (r : Record) (bs : List ℕ) → p ≡ read r bs → measuredValues m ≡ length (r .fields) ∷ length (writtenOf (r .fields)) ∷ highestIn (r .fields) ∷ []
+
 -- the words of records
 unfoldable pub wordsIn : List Record → ℕ
 wordsIn [] = 0
@@ -70,6 +84,19 @@ total size rs bs = record { words = wordsIn rs; blanks = blanks rs; highest = hi
 unfoldable pub measuredRecords : ℕ → Parsed (List Record) → Needed
 measuredRecords size (read rs bs) = needed.Records (total size rs bs)
 measuredRecords size (refused why) = needed.Refused why
+
+-- what is answered of all records, as the paper's number and what they need
+abbrev pub neededNumber : Needed → ℕ
+neededNumber (needed.Records t) = 0
+neededNumber (needed.Refused why) = why
+
+abbrev pub neededTotal : Needed → List Total
+neededTotal (needed.Records t) = t ∷ []
+neededTotal (needed.Refused why) = []
+
+pub record ToldRecords (size : ℕ) (p : Parsed (List Record)) (n : Needed) : Type 0 where
+  pub number : neededNumber n ≡ parsedNumber p
+  pub needs : (rs : List Record) (bs : List ℕ) → p ≡ read rs bs → neededTotal n ≡ total size rs bs ∷ []
 
 -- the first pass over so many records, from a place of the card on
 abbrev pub measuredFrom : List ℕ → ℕ → ℕ → List ℕ → ℕ → Needed

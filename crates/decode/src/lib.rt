@@ -2,6 +2,7 @@
 ghost use mathlib.Core.Path.{_≡_};
 ghost use Rattle.calculus.specs.declared.answer.Answer.the-variants.{Done, Refused};
 ghost use Rattle.instance.specs.Insert.{hasRoom};
+ghost use Rattle.calculus.specs.Answer.{Tells};
 ghost use Rattle.card.specs.Decode.{decoded, noHeader};
 use calculus::answer::Answer;
 use calculus::cell::NULLS;
@@ -61,6 +62,7 @@ pub fn decode(card: &[u8], plot: &mut [u32]) -> Stored
     ensures answer { λ r. ⌜ r .answer ≡ decoded (now (card .entry)) (now (plot .entry)) .answer ⌝ }
     ensures header { λ r. ⌜ r .header ≡ decoded (now (card .entry)) (now (plot .entry)) .header ⌝ }
     ensures words { λ r. ⌜ now (plot .exit) ≡ decoded (now (card .entry)) (now (plot .entry)) .words ⌝ }
+    ensures told { λ r. ⌜ Tells (r .answer) (decoded (now (card .entry)) (now (plot .entry)) .answer) (decoded (now (card .entry)) (now (plot .entry)) .header .used) ⌝ }
 {
     let head = read_head(card);
     let opened = head.answer;

@@ -2,10 +2,10 @@
 ghost use mathlib.Core.Path.{_≡_};
 ghost use mathlib.Core.Bool.{true};
 ghost use Prim.Native.Nat.{_≤_, _<_};
-ghost use lib.ListN.{length};
+ghost use lib.ListN.{length, drop};
 ghost use Rattle.instance.specs.Header.{aritiesStand, maxRelations};
-ghost use Rattle.card.specs.Format.{readRecord};
-ghost use Rattle.decode.specs.Measure.{readWritten, measuredFields, measuredRecord, measuredFrom};
+ghost use Rattle.card.specs.Format.{readRecord, readRecords};
+ghost use Rattle.decode.specs.Measure.{readWritten, measuredFields, measuredRecord, ToldRecord, measuredFrom, ToldRecords};
 use super::field::field;
 use super::field::wide;
 use calculus::answer::Answer;
@@ -66,7 +66,8 @@ fn measure_fields(bytes: &[u8], written: u32) -> Answer
 fn measure_record(bytes: &[u8], relations: u32, arities: &[u32; 8]) -> Measured
     requires few { ⌜ relations ≤ maxRelations ⌝ }
     requires stand { ⌜ aritiesStand relations (now arities) ≡ true ⌝ }
-    ensures { λ r. ⌜ r ≡ measuredRecord (readRecord relations (now (arities .entry)) (now (bytes .entry))) ⌝ }
+    ensures answer { λ r. ⌜ r ≡ measuredRecord (readRecord relations (now (arities .entry)) (now (bytes .entry))) ⌝ }
+    ensures told { λ r. ⌜ ToldRecord (readRecord relations (now (arities .entry)) (now (bytes .entry))) r ⌝ }
 {
     if bytes.len() < 1 {
         return Measured::Refused(CUT_SHORT);
@@ -100,7 +101,8 @@ pub fn measure(card: &[u8], start: usize, relations: u32, arities: &[u32; 8], co
     requires few { ⌜ relations ≤ maxRelations ⌝ }
     requires stand { ⌜ aritiesStand relations (now arities) ≡ true ⌝ }
     requires counted { ⌜ count < 65536 ⌝ }
-    ensures { λ r. ⌜ r ≡ measuredFrom (now (card .entry)) start relations (now (arities .entry)) count ⌝ }
+    ensures answer { λ r. ⌜ r ≡ measuredFrom (now (card .entry)) start relations (now (arities .entry)) count ⌝ }
+    ensures told { λ r. ⌜ ToldRecords (length (now (card .entry))) (readRecords relations (now (arities .entry)) count (drop start (now (card .entry)))) r ⌝ }
 {
     let mut words: u32 = 0;
     let mut blanks: u32 = 0;

@@ -6,10 +6,14 @@ use mathlib.Core.List.{List, [], _∷_, _++_, append-assoc}
 use native.Mathlib.Omega.{arith}
 use lib.ListN.{length, take, drop, length-append, length-take}
 use lib.Seq.{take-at, drop-at, drop-drop, length-take-le}
+use lib.Dec.{leb}
 use borrow.Rule.Slice.PartMut.{putMid}
 use borrow.Author.Tests.{le-leb, lt-leb}
 use Rattle.calculus.specs.declared.answer.Answer.the-variants.{Done, Refused}
+use Rattle.calculus.specs.declared.answer.Answer.{Answer}
+use Rattle.calculus.specs.Answer.{Tells}
 use Rattle.calculus.specs.Refusal.{unsound, output-too-short}
+use Rattle.calculus.proofs.Answers.{two-demands, tells}
 use Rattle.instance.specs.declared.header.Header.{Header}
 use Rattle.instance.specs.Header.{maxRelations}
 use Rattle.instance.specs.Sound.{sound, rows}
@@ -81,3 +85,11 @@ module _ (h : Header) (ws out : List ℕ) where
       × (cardBytes h (rows h ws) ++ drop (length (cardBytes h (rows h ws))) out ≡ encodedBytes h ws out)
   unfolding encoded encodedBytes
   done e l = let t = le-leb (length (cardBytes h (rows h ws))) (length out) l in (simp (e, t), simp (e, t))
+
+  -- and what it tells: the number of the card's bytes
+  pub encode-told :
+      {r : Answer} {P : Type 0} → (r ≡ encoded h ws out) × P → (r ≡ encoded h ws out) × (P × Tells r (encoded h ws out) (length (cardBytes h (rows h ws))))
+  unfolding encoded
+  encode-told p =
+      let size = length (cardBytes h (rows h ws)) in
+      (p .0, (p .1, tells size (p .0) (two-demands (sound h ws) (leb size (length out)) unsound output-too-short size)))

@@ -6,7 +6,9 @@ ghost use Prim.Native.Nat.{ℕ, _+_, _/_, _%_, _≤_};
 ghost use lib.ListN.{length, take, drop};
 ghost use Rattle.instance.specs.Header.{headerStands, arityOf, maxRelations, maxColumns};
 ghost use Rattle.instance.specs.Rows.{wordsStand, rowsFrom};
-ghost use Rattle.card.specs.Encode.{encoded, encodedBytes, recordsBytes};
+ghost use Rattle.calculus.specs.Answer.{Tells};
+ghost use Rattle.instance.specs.Sound.{rows};
+ghost use Rattle.card.specs.Encode.{cardBytes, encoded, encodedBytes, recordsBytes};
 use calculus::answer::Answer;
 use calculus::refusal::OUTPUT_TOO_SHORT;
 use calculus::refusal::UNSOUND;
@@ -65,6 +67,7 @@ fn write_records(out: &mut [u8], arities: &[u32; 8], words: &[u32])
 pub fn encode(header: Header, plot: &[u32], out: &mut [u8]) -> Answer
     ensures answer { λ r. ⌜ r ≡ encoded header (now (plot .entry)) (now (out .entry)) ⌝ }
     ensures bytes { λ r. ⌜ now (out .exit) ≡ encodedBytes header (now (plot .entry)) (now (out .entry)) ⌝ }
+    ensures told { λ r. ⌜ Tells r (encoded header (now (plot .entry)) (now (out .entry))) (length (cardBytes header (rows header (now (plot .entry))))) ⌝ }
 {
     let Scanned::Rows(count) = scan(header, plot) else {
         return Answer::Refused(UNSOUND);

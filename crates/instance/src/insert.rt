@@ -3,6 +3,7 @@ ghost use mathlib.Core.Path.{_≡_};
 ghost use Prim.Native.Nat.{_+_, _≤_, _<_};
 ghost use mathlib.Core.List.{_∷_, _++_};
 ghost use lib.ListN.{length, drop};
+ghost use Rattle.calculus.specs.Answer.{Tells};
 ghost use Rattle.instance.specs.Insert.{inserted, insertedHeader, insertedWords};
 use super::cells::are_cells;
 use super::header::Header;
@@ -61,6 +62,7 @@ pub fn insert(header: Header, plot: &mut [u32], relation: u32, cells: &[u32]) ->
     ensures answer { λ r. ⌜ r .answer ≡ inserted header (now (plot .entry)) relation (now (cells .entry)) ⌝ }
     ensures header { λ r. ⌜ r .header ≡ insertedHeader header (now (plot .entry)) relation (now (cells .entry)) ⌝ }
     ensures words { λ r. ⌜ now (plot .exit) ≡ insertedWords header (now (plot .entry)) relation (now (cells .entry)) ⌝ }
+    ensures told { λ r. ⌜ Tells (r .answer) (inserted header (now (plot .entry)) relation (now (cells .entry))) (insertedHeader header (now (plot .entry)) relation (now (cells .entry)) .used) ⌝ }
 {
     let answer = check_insert(header, plot, relation, cells);
     let Answer::Done(used) = answer else {

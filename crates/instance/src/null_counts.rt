@@ -2,6 +2,7 @@
 ghost use mathlib.Core.Path.{_≡_};
 ghost use Prim.Native.Nat.{_≤_};
 ghost use lib.ListN.{length};
+ghost use Rattle.calculus.specs.Answer.{Tells};
 ghost use Rattle.calculus.specs.Cell.{nulls};
 ghost use Rattle.instance.specs.Header.{maxWords};
 ghost use Rattle.instance.specs.NullCounts.{counted, countedWords, countsFrom};
@@ -35,6 +36,7 @@ fn count_words(words: &[u32]) -> [u32; 200]
 pub fn null_counts(header: Header, plot: &[u32], counts: &mut [u32]) -> Answer
     ensures answer { λ r. ⌜ r ≡ counted header (now (plot .entry)) (now (counts .entry)) ⌝ }
     ensures words { λ r. ⌜ now (counts .exit) ≡ countedWords header (now (plot .entry)) (now (counts .entry)) ⌝ }
+    ensures told { λ r. ⌜ Tells r (counted header (now (plot .entry)) (now (counts .entry))) nulls ⌝ }
 {
     let Scanned::Rows(_) = scan(header, plot) else {
         return Answer::Refused(UNSOUND);

@@ -4,7 +4,8 @@ ghost use mathlib.Core.Bool.{true};
 ghost use Prim.Native.Nat.{_≤_};
 ghost use lib.ListN.{length};
 ghost use Rattle.instance.specs.Header.{headerStands, maxRelations, maxWords};
-ghost use Rattle.instance.specs.Sound.{scanned, scannedWords};
+ghost use Rattle.calculus.specs.Answer.{Tells};
+ghost use Rattle.instance.specs.Sound.{rows, scanned, scannedWords, scannedAs, soundly};
 use super::cells::are_cells;
 use super::header::COLUMNS;
 use super::header::Header;
@@ -72,7 +73,8 @@ fn scan_words(relations: u32, arities: &[u32; 8], words: &[u32]) -> Scanned
 }
 
 pub fn scan(header: Header, plot: &[u32]) -> Scanned
-    ensures { λ r. ⌜ r ≡ scanned header (now (plot .entry)) ⌝ }
+    ensures answer { λ r. ⌜ r ≡ scanned header (now (plot .entry)) ⌝ }
+    ensures told { λ r. ⌜ Tells (scannedAs r) (soundly header (now (plot .entry))) (length (rows header (now (plot .entry)))) ⌝ }
 {
     let relations = header.relations;
     let arities = header.arities;

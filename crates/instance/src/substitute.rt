@@ -5,7 +5,9 @@ ghost use mathlib.Core.List.{map};
 ghost use lib.ListN.{length};
 ghost use Rattle.calculus.specs.Cell.{null, nulls, put};
 ghost use Rattle.instance.specs.Header.{maxWords};
-ghost use Rattle.calculus.specs.Fill.{countOf};
+ghost use Rattle.calculus.specs.Answer.{Tells};
+ghost use Rattle.calculus.specs.Fill.{countOf, held};
+ghost use Rattle.instance.specs.Sound.{rows};
 ghost use Rattle.instance.specs.Substitute.{substituted, substitutedWords};
 use super::header::Header;
 use super::scan::Scanned;
@@ -41,6 +43,7 @@ pub fn replace(words: &mut [u32], mark: u32, cell: u32) -> u32
 pub fn substitute(header: Header, plot: &mut [u32], mark: u32, cell: u32) -> Answer
     ensures answer { λ r. ⌜ r ≡ substituted header (now (plot .entry)) mark cell ⌝ }
     ensures words { λ r. ⌜ now (plot .exit) ≡ substitutedWords header (now (plot .entry)) mark cell ⌝ }
+    ensures told { λ r. ⌜ Tells r (substituted header (now (plot .entry)) mark cell) (held mark (rows header (now (plot .entry)))) ⌝ }
 {
     let Scanned::Rows(_) = scan(header, plot) else {
         return Answer::Refused(UNSOUND);

@@ -61,6 +61,11 @@ pub record Standing (input : List ℕ) (p : Places) : Type 0 where
   pub cells-read : isRead (readNumbers 3 (p .arity) (drop (p .cells) input)) ≡ true
   pub few : p .arity < 256
 
+-- what is found, as the paper's number and values: the number of a refusal, or the fields at their places
+abbrev pub foundAs : List ℕ → Found → Parsed Fields
+foundAs input (found.Fields p) = read (fieldsAt input p) []
+foundAs input (found.Refused r) = refused r
+
 -- what is found is right: the places of the fields, or the input's refusal
 abbrev pub FoundIn : List ℕ → Found → Type 0
 FoundIn input (found.Fields p) = Standing input p

@@ -1,5 +1,6 @@
 // The fields of the input.
-ghost use Rattle.line.specs.Fields.{FoundIn};
+ghost use mathlib.Core.Path.{_≡_};
+ghost use Rattle.line.specs.Fields.{readInput, foundAs, FoundIn};
 use super::number::number;
 use calculus::refusal::BYTES_LEFT_OVER;
 use calculus::refusal::CUT_SHORT;
@@ -24,7 +25,8 @@ pub enum Found {
 }
 
 pub fn find(input: &[u8]) -> Found
-    ensures { λ r. ⌜ FoundIn (now (input .entry)) r ⌝ }
+    ensures places { λ r. ⌜ FoundIn (now (input .entry)) r ⌝ }
+    ensures told { λ r. ⌜ readInput (now (input .entry)) ≡ foundAs (now (input .entry)) r ⌝ }
 {
     if INPUT < input.len() {
         return Found::Refused(INPUT_TOO_LONG);

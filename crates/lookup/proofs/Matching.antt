@@ -1,18 +1,20 @@
 -- How two rows compare, column by column, and what one binding more does. Assumes nothing.
 use Prim.Native.Nat.{ℕ, zero, suc, _+_, _≤_, _<_}
 use mathlib.Core.Path.{_≡_, refl, sym, ap, _∙_}
-use mathlib.Core.Bool.{false}
-use mathlib.Core.List.{List, _∷_}
+use mathlib.Core.Bool.{Bool, true, false, _||_, cond}
+use mathlib.Core.List.{List, [], _∷_}
 use native.Mathlib.Numerals.{add-one}
 use native.Mathlib.Omega.{arith}
 use borrow.Author.Tests.{lt-ltb, le-ltb, eq-eqb, ne-eqb}
 use lib.ListN.{length, getD, set}
 use lib.Seq.{getD-set-same, getD-set-other}
 use Rattle.calculus.specs.Cell.{constants}
-use Rattle.calculus.specs.Closed.{identical}
+use Rattle.calculus.specs.declared.truth.Truth.the-variants.{False, Unknown, True}
+use Rattle.calculus.specs.Closed.{identical, some, stands}
 use Rattle.calculus.specs.Unify.{bind, unifiesWith, unifies}
-use Rattle.lookup.specs.declared.row.Match.the-variants.{Apart}
-use Rattle.lookup.specs.Matching.{unified, matching, through}
+use Rattle.lookup.specs.declared.row.Match.{Match}
+use Rattle.lookup.specs.declared.row.Match.the-variants.{Identical, Apart}
+use Rattle.lookup.specs.Matching.{unified, matching, rowVerdict, through}
 
 -- ---- the next column, with what was put for nulls so far: its cells are sent to a and b
 
@@ -77,3 +79,14 @@ module _ (x y : ℕ) (xs ys : List ℕ) where
 
   pub matching-apart : (x ≡ y → ⊥) → x < constants → y < constants → matching (x ∷ xs) (y ∷ ys) ≡ Apart
   matching-apart ne p q = matching-differs ne ∙ ap unified (unify-apart (λ c. c) x y x y refl refl xs ys ne p q)
+
+-- ---- one row's verdict
+
+pub row-told : (xs ys : List ℕ) {m : Match} → m ≡ matching xs ys → (m ≡ matching xs ys) × (rowVerdict m ≡ stands (ys ∷ []) xs)
+unfolding matching stands some
+row-told xs ys e = (e, ap rowVerdict e ∙ go (identical xs ys) (unifies xs ys))
+  where
+    go : (a b : Bool) → rowVerdict (cond a Identical (unified b)) ≡ cond (a || false) True (cond (b || false) Unknown False)
+    go true b = refl
+    go false true = refl
+    go false false = refl

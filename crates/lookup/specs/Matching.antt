@@ -5,6 +5,8 @@ use mathlib.Core.List.{List}
 use lib.ListN.{getD}
 use Rattle.calculus.specs.Closed.{identical}
 use Rattle.calculus.specs.Unify.{bind, unifies}
+use Rattle.calculus.specs.declared.truth.Truth.{Truth}
+use Rattle.calculus.specs.declared.truth.Truth.the-variants.{False, Unknown, True}
 use Rattle.lookup.specs.declared.row.Match.{Match}
 use Rattle.lookup.specs.declared.row.Match.the-variants.{Identical, Unifies, Apart}
 
@@ -14,6 +16,12 @@ unified b = cond b Unifies Apart
 -- "true if the very row stands in the sheet; false if no row of the sheet unifies with it; else unknown": what one row of the sheet says
 unfoldable pub matching : List ℕ → List ℕ → Match
 matching xs ys = cond (identical xs ys) Identical (unified (unifies xs ys))
+
+-- the same as a verdict: what kind 1 says of a relation that has this row alone
+abbrev pub rowVerdict : Match → Truth
+rowVerdict Identical = True
+rowVerdict Unifies = Unknown
+rowVerdict Apart = False
 
 -- a cell sent through the first n bindings, in order: the kth puts the kth cell of `to` for the kth of `from`
 unfoldable pub through : List ℕ → List ℕ → ℕ → ℕ → ℕ

@@ -4,7 +4,9 @@ ghost use Prim.Native.Nat.{_+_, _≤_};
 ghost use lib.ListN.{length, take, drop};
 ghost use Rattle.calculus.specs.Unify.{unifies};
 ghost use Rattle.instance.specs.Header.{maxColumns};
-ghost use Rattle.lookup.specs.Matching.{matching, unified, through};
+ghost use mathlib.Core.List.{[], _∷_};
+ghost use Rattle.calculus.specs.Closed.{stands};
+ghost use Rattle.lookup.specs.Matching.{matching, unified, rowVerdict, through};
 use calculus::cell::CONSTANTS;
 
 pub enum Match {
@@ -62,7 +64,8 @@ fn unify(words: &[u32], at: usize, row: &[u32; 6], arity: usize, first: usize) -
 // The columns are walked while their cells are equal, and only from the first that differ on is anything put for nulls.
 pub fn compare(words: &[u32], at: usize, row: &[u32; 6], arity: usize) -> Match
     requires { ⌜ (at + arity ≤ length (now words)) × (arity ≤ maxColumns) × (length (now row) ≡ maxColumns) ⌝ }
-    ensures { λ r. ⌜ r ≡ matching (take arity (now (row .entry))) (take arity (drop at (now (words .entry)))) ⌝ }
+    ensures answer { λ r. ⌜ r ≡ matching (take arity (now (row .entry))) (take arity (drop at (now (words .entry)))) ⌝ }
+    ensures verdict { λ r. ⌜ rowVerdict r ≡ stands (take arity (drop at (now (words .entry))) ∷ []) (take arity (now (row .entry))) ⌝ }
 {
     let mut i = 0;
     while i < arity {

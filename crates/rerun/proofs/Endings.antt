@@ -1,7 +1,7 @@
 -- The three ends of a rerun: the answers have no place, run A is refused, or both runs get a verdict. Assumes nothing.
 use Prim.Native.Nat.{ℕ, _≤_, _<_}
 use mathlib.Core.Path.{_≡_, refl, sym, ap, _∙_}
-use mathlib.Core.Bool.{true}
+use mathlib.Core.Bool.{Bool, true, false, cond}
 use mathlib.Core.List.{List, _++_}
 use native.Mathlib.Omega.{arith}
 use borrow.Author.Tests.{le-leb, lt-leb}
@@ -12,6 +12,7 @@ use Rattle.calculus.specs.declared.truth.Truth.{Truth}
 use Rattle.calculus.specs.Answer.{after}
 use Rattle.calculus.specs.Refusal.{output-too-short}
 use Rattle.calculus.specs.Domain.{domain}
+use Rattle.calculus.specs.Eval.{Outcome}
 use Rattle.calculus.specs.Model.{run}
 use Rattle.instance.specs.declared.header.Header.{Header}
 use Rattle.instance.specs.Header.{maxColumns}
@@ -23,11 +24,12 @@ use Rattle.answer.specs.declared.asked.Asked.{Asked}
 use Rattle.answer.specs.declared.asked.Asked.the-variants as asked
 use Rattle.answer.specs.Ask.{askable, ask, askedBuffer}
 use Rattle.answer.specs.Rerun.{Rerun}
+use Rattle.answer.proofs.Told.{Of, tells-verdict, ask-outcome}
 use Rattle.answer.proofs.RerunLaws.{verdict-asked, not-refused, demand-three}
 use Rattle.rerun.specs.declared.reran.Reran.{Reran}
 use Rattle.rerun.specs.declared.reran.Reran.the-variants.{Refused}
 use Rattle.rerun.specs.Fills.{fillsOf, filledCandidate, stored}
-use Rattle.rerun.specs.Rerun.{bothRuns, firstOf, secondOf, bookWords, runA, runB, listA, begun, reran, reranWords, reranCandidate, reranAnswers, reranBuffer, Claim}
+use Rattle.rerun.specs.Rerun.{bothRuns, firstOf, secondOf, bookWords, runA, runB, listA, hasPlace, begun, reran, reranWords, reranCandidate, reranAnswers, reranBuffer, Claim, Told}
 use Rattle.rerun.proofs.BookLaws.{candidate-run}
 
 -- an ask leaves no shorter list
@@ -47,6 +49,19 @@ second-both : (t : Truth) (n : ℕ) (b : Asked) → secondOf (bothRuns (asked.Ve
 second-both t n (asked.Verdict u k) = refl
 second-both t n (asked.Refused r) = refl
 
+-- a verdict that a rerun tells is that of the run
+first-of : {o : Outcome} (b : Bool) (p q : Asked) → Of o p → Of o (firstOf (cond b (bothRuns p q) (Refused output-too-short)))
+first-of true (asked.Verdict u k) (asked.Verdict v l) of t n e = of t n e
+first-of true (asked.Verdict u k) (asked.Refused r) of t n e = absurd (not-refused e)
+first-of true (asked.Refused r) q of t n e = absurd (not-refused e)
+first-of false p q of t n e = absurd (not-refused e)
+
+second-of : {o : Outcome} (b : Bool) (p q : Asked) → Of o q → Of o (secondOf (cond b (bothRuns p q) (Refused output-too-short)))
+second-of true (asked.Verdict u k) (asked.Verdict v l) of t n e = of t n e
+second-of true (asked.Verdict u k) (asked.Refused r) of t n e = absurd (not-refused e)
+second-of true (asked.Refused r) q of t n e = absurd (not-refused e)
+second-of false p q of t n e = absurd (not-refused e)
+
 module _ (h : Header) (ws qs candidate buffer : List ℕ) (budget : ℕ) (fills out : List ℕ) where
   -- what a call with these arguments answers and leaves
   abbrev pub Ends : Reran → List ℕ → List ℕ → List ℕ → List ℕ → Type 0
@@ -55,13 +70,26 @@ module _ (h : Header) (ws qs candidate buffer : List ℕ) (budget : ℕ) (fills 
       ((ws′ ≡ reranWords h ws qs candidate buffer budget fills out) ×
       ((candidate′ ≡ reranCandidate h ws qs candidate buffer budget fills out) ×
       ((buffer′ ≡ reranBuffer h ws qs candidate buffer budget fills out) ×
-      ((out′ ≡ reranAnswers h ws qs candidate buffer budget fills out) × Claim h ws qs candidate buffer budget fills out r))))
+      ((out′ ≡ reranAnswers h ws qs candidate buffer budget fills out) ×
+      (Claim h ws qs candidate buffer budget fills out r × Told h ws qs candidate buffer budget fills out r)))))
+
+  -- an answer that is the definition's tells both runs by their outcomes
+  told : {r : Reran} → r ≡ reran h ws qs candidate buffer budget fills out → Told h ws qs candidate buffer budget fills out r
+  unfolding reran
+  told e =
+      let b = hasPlace h ws qs candidate buffer budget fills out in
+      let p = runA h ws qs candidate buffer budget fills out in
+      let q = runB h ws qs candidate buffer budget fills out in
+      record {
+        first = tells-verdict _ (ap firstOf e) (first-of b p q (ask-outcome h ws qs candidate buffer budget));
+        second = tells-verdict _ (ap secondOf e) (second-of b p q (ask-outcome h _ qs _ _ budget));
+      }
 
   pub no-place : length out < length fills → Ends (Refused output-too-short) ws candidate buffer out
   unfolding begun reran reranWords reranCandidate reranAnswers reranBuffer
   no-place l =
       let e = lt-leb (length fills) (length out) l in
-      (rw e refl, (rw e refl, (rw e refl, (rw e refl, (rw e refl, λ p t n q. absurd (omega arith))))))
+      (rw e refl, (rw e refl, (rw e refl, (rw e refl, (rw e refl, (λ p t n q. absurd (omega arith), told (rw e refl)))))))
 
   pub refused :
       length fills ≤ length out → (r : ℕ) → asked.Refused r ≡ ask h ws qs candidate buffer budget →
@@ -70,7 +98,7 @@ module _ (h : Header) (ws qs candidate buffer : List ℕ) (budget : ℕ) (fills 
   refused l r e buffer′ is-listed =
       let p = le-leb (length fills) (length out) l in
       let q = sym e in
-      (rw (p, q) refl, (rw (p, q) refl, (rw (p, q) refl, (rw (p, q) is-listed, (rw (p, q) refl, λ l′ t n v. absurd (not-refused (e ∙ v)))))))
+      (rw (p, q) refl, (rw (p, q) refl, (rw (p, q) refl, (rw (p, q) is-listed, (rw (p, q) refl, (λ l′ t n v. absurd (not-refused (e ∙ v)), told (rw (p, q) refl)))))))
 
   -- a question that got a verdict passed its check
   pub few-cells : (t : Truth) (n : ℕ) → asked.Verdict t n ≡ ask h ws qs candidate buffer budget → length candidate ≤ maxColumns
@@ -100,7 +128,7 @@ module _ (h : Header) (ws qs candidate buffer : List ℕ) (budget : ℕ) (fills 
       verdicts =
           let p = le-leb (length fills) (length out) l in
           let q = sym e in
-          let told : b ≡ runB h ws qs candidate buffer budget fills out = rw (← book-words, ← book-candidate, ← is-list) is-asked in
+          let is-b : b ≡ runB h ws qs candidate buffer budget fills out = rw (← book-words, ← book-candidate, ← is-list) is-asked in
           let listed : buffer′ ≡ askedBuffer h (bookWords h ws qs candidate buffer budget fills out) qs (run (fillsOf fills) (modelOf h ws candidate) .candidate) (listA h ws qs candidate buffer budget fills out) = rw (← book-words, ← book-candidate, ← is-list) is-listed in
           let claimed : (u : Truth) (k : ℕ) → runA h ws qs candidate buffer budget fills out ≡ asked.Verdict u k → (firstOf (bothRuns (asked.Verdict t n) b) ≡ asked.Verdict u k) × Rerun h ws qs candidate (fillsOf fills) u k (secondOf (bothRuns (asked.Verdict t n) b)) =
           λ u k v.
@@ -108,9 +136,9 @@ module _ (h : Header) (ws qs candidate buffer : List ℕ) (budget : ℕ) (fills 
           let is-second : b ≡ ask h (filledWords h (fillsOf fills) ws) qs (run (fillsOf fills) (modelOf h ws candidate) .candidate) list budget = rw (is-asked, is-words, book-candidate) refl in
           (first-both t n b (d .truth) (d .cost) (is-second ∙ d .answers) ∙ e ∙ v, rw (second-both t n b, is-second) d)
           in (
-            rw (p, q) (ap (bothRuns (asked.Verdict t n)) told),
+            rw (p, q) (ap (bothRuns (asked.Verdict t n)) is-b),
             (
               rw (p, q) book-words,
-              (rw (p, q) book-candidate, (rw (p, q) listed, (rw (p, q) (rw (is-stored, ran h (fillsOf fills) ws candidate is-sound .answered) refl), λ l′. claimed))),
+              (rw (p, q) book-candidate, (rw (p, q) listed, (rw (p, q) (rw (is-stored, ran h (fillsOf fills) ws candidate is-sound .answered) refl), (λ l′. claimed, told (rw (p, q) (ap (bothRuns (asked.Verdict t n)) is-b)))))),
             ),
           )

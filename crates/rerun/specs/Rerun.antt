@@ -10,13 +10,16 @@ use Rattle.calculus.specs.declared.answer.Answer.the-variants as answer
 use Rattle.calculus.specs.declared.truth.Truth.{Truth}
 use Rattle.calculus.specs.Answer.{demand, after}
 use Rattle.calculus.specs.Refusal.{output-too-short}
-use Rattle.calculus.specs.Model.{Model, run, answers}
+use Rattle.calculus.specs.Eval.{Outcome}
+use Rattle.calculus.specs.Model.{Model, run, answers, asked as outcome}
 use Rattle.instance.specs.declared.header.Header.{Header}
 use Rattle.instance.specs.Rows.{wordsOf}
 use Rattle.instance.specs.Run.{modelOf}
 use Rattle.answer.specs.declared.asked.Asked.{Asked}
 use Rattle.answer.specs.declared.asked.Asked.the-variants as asked
 use Rattle.answer.specs.Ask.{ask, askedBuffer}
+use Rattle.query.specs.Tree.{formulaOf}
+use Rattle.answer.specs.Numbers.{TellsVerdict}
 use Rattle.answer.specs.Rerun.{Rerun}
 use Rattle.rerun.specs.declared.reran.Reran.{Reran}
 use Rattle.rerun.specs.declared.reran.Reran.the-variants.{Verdicts, Refused}
@@ -94,3 +97,8 @@ module _ (h : Header) (ws qs candidate buffer : List ℕ) (budget : ℕ) (fills 
   Claim r =
       length fills ≤ length out → (t : Truth) (n : ℕ) → runA ≡ asked.Verdict t n →
       (firstOf r ≡ asked.Verdict t n) × Rerun h ws qs candidate (fillsOf fills) t n (secondOf r)
+
+  -- the answer in the paper's numbers: run A's, and run B's of what the fills left
+  pub record Told (r : Reran) : Type 0 where
+    pub first : TellsVerdict (firstOf r) (firstOf reran) (outcome start (formulaOf (h .arities) qs))
+    pub second : TellsVerdict (secondOf r) (secondOf reran) (outcome (modelOf h bookWords (book .candidate)) (formulaOf (h .arities) qs))

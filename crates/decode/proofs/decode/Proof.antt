@@ -4,6 +4,7 @@ use native.Mathlib.Omega.{arith}
 use borrow.Author.Tests.{not-true, not-false}
 use Rattle.decode.proofs.Opening.{HeadRead, head-known}
 use Rattle.decode.proofs.Decoding.{CardRead, card-read, down, head-turned, records-turned, left-over, exhausted, too-small, may-write, all-hold, sum-fits}
+use Rattle.decode.proofs.Told.{decode-told}
 use borrow.Author.Needs.{needs}
 use Rattle.decode.proofs.decode.Statement.{statement}
 use Rattle.decode.proofs.decode.Tie as tie
@@ -39,12 +40,13 @@ carded : (d : tie.After-known-told3)
     (d .before .before .before .before .before .before .opened .given .0 .0)
     (headed (d .before .before .before .before .before))
     (d .before .needed .given .0 .0)
-carded d = card-read _ _ _ _ _ (headed (d .before .before .before .before .before)) _ (sym (d .before .before .before .measure .ensures) ∙ d .before .needed .given .1)
+carded d = card-read _ _ _ _ _ (headed (d .before .before .before .before .before)) _ (sym (d .before .before .before .measure .ensures .0) ∙ d .before .needed .given .1)
 
 returns : tie.Need-returns
 returns c =
-    down _ (c .before .before .before .before .before .before .before .before .args .plot .now) (c .before .before .opened2 .given .0 .0) (c .refused .ensures .0) (c .refused .ensures .1)
-    (head-turned _ _ _ (ap (λ r. r .answer) (sym (c .before .before .before .before .before .read-head .ensures .0)) ∙ c .before .before .opened2 .given .1))
+    decode-told _ _
+    (down _ (c .before .before .before .before .before .before .before .before .args .plot .now) (c .before .before .opened2 .given .0 .0) (c .refused .ensures .0) (c .refused .ensures .1)
+    (head-turned _ _ _ (ap (λ r. r .answer) (sym (c .before .before .before .before .before .read-head .ensures .0)) ∙ c .before .before .opened2 .given .1)))
 
 cast-start : tie.Need-cast-start
 cast-start c = search needs
@@ -68,16 +70,18 @@ refused-requires-2 c κs = search needs
 
 returns-2 : tie.Need-returns-2
 returns-2 c =
-    down _ (c .before .before .before .before .before .before .before .before .before .before .before .before .before .args .plot .now) (c .before .before .needed2 .given .0 .0) (c .refused2 .ensures .0) (c .refused2 .ensures .1)
-    (records-turned _ _ _ _ _ (headed (c .before .before .before .before .before .before)) _ (sym (c .before .before .before .before .measure .ensures) ∙ c .before .before .needed2 .given .1))
+    decode-told _ _
+    (down _ (c .before .before .before .before .before .before .before .before .before .before .before .before .before .args .plot .now) (c .before .before .needed2 .given .0 .0) (c .refused2 .ensures .0) (c .refused2 .ensures .1)
+    (records-turned _ _ _ _ _ (headed (c .before .before .before .before .before .before)) _ (sym (c .before .before .before .before .measure .ensures .0) ∙ c .before .before .needed2 .given .1)))
 
 refused-requires-3 : tie.Need-refused-requires-3
 refused-requires-3 c κs = search needs
 
 returns-3 : tie.Need-returns-3
 returns-3 c =
-    down _ _ _ (c .refused3 .ensures .0) (c .refused3 .ensures .1)
-    (left-over _ _ _ _ _ _ _ (carded (c .before .before .before)) (c .before .if1 .taken))
+    decode-told _ _
+    (down _ _ _ (c .refused3 .ensures .0) (c .refused3 .ensures .1)
+    (left-over _ _ _ _ _ _ _ (carded (c .before .before .before)) (c .before .if1 .taken)))
 
 add-if2 : tie.Need-add-if2
 add-if2 c = omega (arith, sum-fits _ _ _ _ _ _ _ (carded (c .before .before .before)), c .before .before .before .before .before .before .before .before .before .before .before .before .read-head .ensures .1 _ (c .before .before .before .before .before .before .before .before .before .opened .given .1))
@@ -87,8 +91,9 @@ refused-requires-4 c κs = search needs
 
 returns-4 : tie.Need-returns-4
 returns-4 c =
-    down _ _ _ (c .refused4 .ensures .0) (c .refused4 .ensures .1)
-    (exhausted _ _ _ _ _ _ _ (carded (c .before .before .before .before .before)) (c .before .before .before .if1 .left) (c .before .if2 .taken))
+    decode-told _ _
+    (down _ _ _ (c .refused4 .ensures .0) (c .refused4 .ensures .1)
+    (exhausted _ _ _ _ _ _ _ (carded (c .before .before .before .before .before)) (c .before .before .before .if1 .left) (c .before .if2 .taken)))
 
 has-room-requires : tie.Need-has-room-requires
 has-room-requires c κs = search needs
@@ -99,9 +104,10 @@ refused-requires-5 c κs = search needs
 returns-5 : tie.Need-returns-5
 returns-5 c =
     let room = c .before .before .has-room in
-    down _ _ _ (c .refused5 .ensures .0) (c .refused5 .ensures .1)
+    decode-told _ _
+    (down _ _ _ (c .refused5 .ensures .0) (c .refused5 .ensures .1)
     (too-small _ _ _ _ _ _ _ (carded (c .before .before .before .before .before .before .before)) (c .before .before .before .before .before .if1 .left) (c .before .before .before .if2 .left)
-    (sym (room .ensures) ∙ not-true (room .result) (c .before .if3 .taken)))
+    (sym (room .ensures) ∙ not-true (room .result) (c .before .if3 .taken))))
 
 add-write-rows : tie.Need-add-write-rows
 add-write-rows c = search needs
@@ -121,8 +127,9 @@ returns-6 : tie.Need-returns-6
 returns-6 c =
     let room = c .before .before .before .before .before .before .before .before .has-room in
     let fits = sym (room .ensures) ∙ not-false (room .result) (c .before .before .before .before .before .before .before .if3 .left) in
-    rw (all-hold _ _ _ _ _ _ _ (carded (c .before .before .before .before .before .before .before .before .before .before .before .before .before)) (c .before .before .before .before .before .before .before .before .before .before .before .if1 .left) (c .before .before .before .before .before .before .before .before .before .if2 .left) fits)
-    (c .stored .ensures .0, (c .stored .ensures .1, c .before .before .before .write-rows .ensures))
+    decode-told _ _
+    (rw (all-hold _ _ _ _ _ _ _ (carded (c .before .before .before .before .before .before .before .before .before .before .before .before .before)) (c .before .before .before .before .before .before .before .before .before .before .before .if1 .left) (c .before .before .before .before .before .before .before .before .before .if2 .left) fits)
+    (c .stored .ensures .0, (c .stored .ensures .1, c .before .before .before .write-rows .ensures)))
 
 pub decode-spec : {M : Type 1} → statement M
 decode-spec =

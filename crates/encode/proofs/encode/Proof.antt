@@ -14,7 +14,7 @@ use Rattle.instance.specs.Sound.{sound, rows}
 use Rattle.instance.proofs.Rows.{headed, parts, scanned-sound, scanned-unsound, scanned-rows}
 use Rattle.card.specs.Encode.{cardBytes}
 use Rattle.encode.proofs.RecordSteps.{more-stand}
-use Rattle.encode.proofs.Encoding.{all-written, record-size, card-size, refused-unsound, refused-short, done}
+use Rattle.encode.proofs.Encoding.{all-written, record-size, card-size, refused-unsound, refused-short, done, encode-told}
 use Rattle.encode.proofs.encode.Statement.{statement}
 use Rattle.encode.proofs.encode.Tie as tie
 
@@ -29,10 +29,10 @@ module _ (c : tie.After-struct-known) where
   count = c .before .before .before .count .given .0 .0
 
   stands : sound h ws ≡ true
-  stands = scanned-sound h ws count (sym (c .before .before .before .before .before .scan .ensures) ∙ c .before .before .before .count .given .1)
+  stands = scanned-sound h ws count (sym (c .before .before .before .before .before .scan .ensures .0) ∙ c .before .before .before .count .given .1)
 
   is-count : length (rows h ws) ≡ count
-  is-count = scanned-rows h ws count (sym (c .before .before .before .before .before .scan .ensures) ∙ c .before .before .before .count .given .1)
+  is-count = scanned-rows h ws count (sym (c .before .before .before .before .before .scan .ensures .0) ∙ c .before .before .before .count .given .1)
 
   eight : length (h .arities) ≡ maxRelations
   eight = search needs
@@ -53,7 +53,7 @@ enum-told : tie.Need-enum-told
 enum-told c = search needs
 
 returns : tie.Need-returns
-returns c = refused-unsound _ _ _ (scanned-unsound _ _ (sym (c .before .before .scan .ensures) ∙ c .enum-told .given .1))
+returns c = encode-told _ _ _ (refused-unsound _ _ _ (scanned-unsound _ _ (sym (c .before .before .scan .ensures .0) ∙ c .enum-told .given .1)))
 
 cast-used : tie.Need-cast-used
 cast-used c = search needs
@@ -77,7 +77,7 @@ add-size : tie.Need-add-size
 add-size c = search needs
 
 returns-2 : tie.Need-returns-2
-returns-2 c = refused-short _ _ _ (stands (c .before)) (omega (arith, is-size (c .before)))
+returns-2 c = encode-told _ _ _ (refused-short _ _ _ (stands (c .before)) (omega (arith, is-size (c .before))))
 
 write-head-requires : tie.Need-write-head-requires
 write-head-requires c κs =
@@ -125,7 +125,8 @@ returns-3 c =
     let b = c .before .before .before .before .before .before .before .before .before .before .before .before in
     let out = c .before .before .before .before .before .before .before .before .before .before .before .before .before .before .before .before .before .before .before .before .args .out .now in
     let room : length (cardBytes (h b) (rows (h b) (ws b))) ≤ length out = rw (is-size b) (c .before .before .before .before .before .before .before .before .before .before .before .if1 .left) in
-    let d = done (h b) (ws b) out (stands b) room in (
+    let d = done (h b) (ws b) out (stands b) room in
+    encode-told (h b) (ws b) out (
       rw (is-size b) at (d .0),
       all-written (h b) (ws b) (stands b) (eight b) out (c .before .before .before .before .before .before .before .before .write-head .last .0) (c .before .before .write-records .last .0) (count b) (is-count b) room
           (c .before .before .before .before .before .before .before .before .write-head .ensures) (c .before .before .write-records .ensures)

@@ -46,7 +46,7 @@ returns-2 c =
     let a = left hs ten is (λ h. ask h (args .plot .now) (args .query .now) (args .candidate .now) (args .list .now) (args .budget)) (Refused 41) (made .0) in (
       c .asked-number .ensures ∙ ap askedNumber a,
       (
-        left hs ten is (λ h. askedBuffer h (args .plot .now) (args .query .now) (args .candidate .now) (args .list .now)) _ (made .1),
+        left hs ten is (λ h. askedBuffer h (args .plot .now) (args .query .now) (args .candidate .now) (args .list .now)) _ (made .1 .0),
         (
           c .before .before .before .verdict .ensures ∙ ap (λ (x : Asked). verdictOf x (args .truth .now)) a,
           c .before .looks .ensures ∙ ap (λ (x : Asked). looksOf x (args .cost .now)) a,

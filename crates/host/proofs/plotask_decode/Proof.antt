@@ -48,7 +48,7 @@ returns-2 c =
         c .before .before .before .put-header .ensures ∙
             ap (λ (x : Answer). after x (headerWords (stored .header)) hs) a ∙
             ap (λ (x : Header). after (decodeAnswer (args .card .now) hs (args .plot .now)) (headerWords x) hs) (made .1 .0),
-        made .1 .1 ∙ sym (kept-yes hs ten (decoded (args .card .now) (args .plot .now) .words) (args .plot .now)),
+        made .1 .1 .0 ∙ sym (kept-yes hs ten (decoded (args .card .now) (args .plot .now) .words) (args .plot .now)),
       ),
     )
 

@@ -53,7 +53,7 @@ returns-2 c =
         c .before .before .before .put-header .ensures ∙
             ap (λ (x : Answer). after x (headerWords (stored .header)) hs) a ∙
             ap (λ (x : Header). after (insertAnswer hs (args .plot .now) (args .relation) (args .cells .now)) (headerWords x) hs) new,
-        left hs ten is (λ h. insertedWords h (args .plot .now) (args .relation) (args .cells .now)) _ (made .1 .1),
+        left hs ten is (λ h. insertedWords h (args .plot .now) (args .relation) (args .cells .now)) _ (made .1 .1 .0),
       ),
     )
 

@@ -41,7 +41,7 @@ returns-2 c =
     let made = c .before .before .before .before .before .null-counts .ensures in
     let a = answered hs ten is (λ h. counted h (args .plot .now) (args .counts .now)) (made .0) in (
       c .number .ensures ∙ ap numberOf a,
-      (left hs ten is (λ h. countedWords h (args .plot .now) (args .counts .now)) _ (made .1), c .before .value .ensures ∙ ap (λ (x : Answer). valueOf x (args .count .now)) a),
+      (left hs ten is (λ h. countedWords h (args .plot .now) (args .counts .now)) _ (made .1 .0), c .before .value .ensures ∙ ap (λ (x : Answer). valueOf x (args .count .now)) a),
     )
 
 pub plotask-null-counts-spec : {M : Type 1} → statement M

@@ -41,7 +41,7 @@ returns-2 c =
     let made = c .before .before .before .before .before .substitute .ensures in
     let a = answered hs ten is (λ h. substituted h (args .plot .now) (args .mark) (args .cell)) (made .0) in (
       c .number .ensures ∙ ap numberOf a,
-      (left hs ten is (λ h. substitutedWords h (args .plot .now) (args .mark) (args .cell)) _ (made .1), c .before .value .ensures ∙ ap (λ (x : Answer). valueOf x (args .count .now)) a),
+      (left hs ten is (λ h. substitutedWords h (args .plot .now) (args .mark) (args .cell)) _ (made .1 .0), c .before .value .ensures ∙ ap (λ (x : Answer). valueOf x (args .count .now)) a),
     )
 
 pub plotask-substitute-spec : {M : Type 1} → statement M

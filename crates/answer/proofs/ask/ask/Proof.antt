@@ -22,6 +22,7 @@ use Rattle.query.proofs.Passed.{passed-number}
 use Rattle.lookup.proofs.Entry.{sound-standing}
 use Rattle.answer.proofs.RerunLaws.{Asks}
 use Rattle.answer.proofs.AskLaws.{unsound-asked, check-asked, buffer-asked, answered, cells-count, made-ready, listed-part}
+use Rattle.answer.proofs.Told.{ask-told}
 use Rattle.answer.proofs.ask.ask.Statement.{statement}
 use Rattle.answer.proofs.ask.ask.Tie as tie
 
@@ -49,7 +50,7 @@ module _ (c : tie.After-arities2) where
   count = c .before .before .before .before .count .given .0 .0
 
   is-scanned : scanned h ws ≡ Rows count
-  is-scanned = sym (c .before .before .before .before .before .before .scan .ensures) ∙ c .before .before .before .before .count .given .1
+  is-scanned = sym (c .before .before .before .before .before .before .scan .ensures .0) ∙ c .before .before .before .before .count .given .1
 
   stands : sound h ws ≡ true
   stands = scanned-sound h ws count is-scanned
@@ -99,7 +100,7 @@ enum-told : tie.Need-enum-told
 enum-told c = search needs
 
 returns : tie.Need-returns
-returns c = unsound-asked _ _ _ _ _ _ (scanned-unsound _ _ (sym (c .before .before .scan .ensures) ∙ c .enum-told .given .1))
+returns c = ask-told _ _ _ _ _ _ (unsound-asked _ _ _ _ _ _ (scanned-unsound _ _ (sym (c .before .before .scan .ensures .0) ∙ c .enum-told .given .1)))
 
 cast-used : tie.Need-cast-used
 cast-used c = search needs
@@ -108,7 +109,10 @@ check-requires : tie.Need-check-requires
 check-requires c κs = (parts (h c) (ws c) (stands c) .header, eight c)
 
 returns-2 : tie.Need-returns-2
-returns-2 c = let b = c .before .before in check-asked (h b) (ws b) (qs b) (cs b) (buffer b) (budget b) (stands b) _ (c .before .check .ensures) (c .if1 .taken)
+returns-2 c =
+    let b = c .before .before in
+    ask-told (h b) (ws b) (qs b) (cs b) (buffer b) (budget b)
+    (check-asked (h b) (ws b) (qs b) (cs b) (buffer b) (budget b) (stands b) _ (c .before .check .ensures) (c .if1 .taken))
 
 cast-if2 : tie.Need-cast-if2
 cast-if2 c = search needs
@@ -117,7 +121,10 @@ sub-if2 : tie.Need-sub-if2
 sub-if2 c = let b = c .before .before in omega (arith, cells b)
 
 returns-3 : tie.Need-returns-3
-returns-3 c = let b = c .before .before .before in buffer-asked (h b) (ws b) (qs b) (cs b) (buffer b) (budget b) (stands b) (checked (c .before) .0) (checked (c .before) .1) (omega (arith, cells b))
+returns-3 c =
+    let b = c .before .before .before in
+    ask-told (h b) (ws b) (qs b) (cs b) (buffer b) (budget b)
+    (buffer-asked (h b) (ws b) (qs b) (cs b) (buffer b) (budget b) (stands b) (checked (c .before) .0) (checked (c .before) .1) (omega (arith, cells b)))
 
 slice-aggregate-list-values : tie.Need-slice-aggregate-list-values
 slice-aggregate-list-values c = sym (in-use (c .before .before .before .before))
@@ -156,7 +163,8 @@ same-length c = search needs
 returns-4 : tie.Need-returns-4
 returns-4 c =
     let b = c .before .before .before .before .before .before .before .before .before .before .before .before .before .before .before .before .before .before .before .before in
-    rw (c .before .truth .given .1) at (answered (h b) (ws b) (qs b) (cs b) (buffer b) (budget b) (asks (c .before .before .before .before .before .before .before .before .before .before .before .before .before .before .before .before .before)) _ (c .before .before .before .evaluate-top .ensures) _ (c .before .before .before .before .before .before .before .before .before .before .before .before .before .list-values .ensures .1))
+    ask-told (h b) (ws b) (qs b) (cs b) (buffer b) (budget b)
+    (rw (c .before .truth .given .1) at (answered (h b) (ws b) (qs b) (cs b) (buffer b) (budget b) (asks (c .before .before .before .before .before .before .before .before .before .before .before .before .before .before .before .before .before)) _ (c .before .before .before .evaluate-top .ensures) _ (c .before .before .before .before .before .before .before .before .before .before .before .before .before .list-values .ensures .1)))
 
 same-length-2 : tie.Need-same-length-2
 same-length-2 c = search needs
@@ -164,7 +172,8 @@ same-length-2 c = search needs
 returns-5 : tie.Need-returns-5
 returns-5 c =
     let b = c .before .before .before .before .before .before .before .before .before .before .before .before .before .before .before .before .before .before .before in
-    rw (c .enum-told2 .given .1) at (answered (h b) (ws b) (qs b) (cs b) (buffer b) (budget b) (asks (c .before .before .before .before .before .before .before .before .before .before .before .before .before .before .before .before)) _ (c .before .before .evaluate-top .ensures) _ (c .before .before .before .before .before .before .before .before .before .before .before .before .list-values .ensures .1))
+    ask-told (h b) (ws b) (qs b) (cs b) (buffer b) (budget b)
+    (rw (c .enum-told2 .given .1) at (answered (h b) (ws b) (qs b) (cs b) (buffer b) (budget b) (asks (c .before .before .before .before .before .before .before .before .before .before .before .before .before .before .before .before)) _ (c .before .before .evaluate-top .ensures) _ (c .before .before .before .before .before .before .before .before .before .before .before .before .list-values .ensures .1)))
 
 pub ask-spec : {M : Type 1} → statement M
 ask-spec =

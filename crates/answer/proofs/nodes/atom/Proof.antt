@@ -8,6 +8,7 @@ use Rattle.calculus.specs.Formula.{values}
 use Rattle.instance.specs.Header.{arityOf}
 use Rattle.instance.specs.Rows.{rowsFrom}
 use Rattle.query.specs.Tree.{termsAt}
+use Rattle.answer.proofs.TermLaws.{row-six, row-front}
 use Rattle.answer.proofs.Budget.{spent, verdict, verdicts}
 use Rattle.answer.proofs.Children.{atom-stands, atom-right}
 use borrow.Author.Needs.{needs}
@@ -86,9 +87,10 @@ stands-requires c κs =
     let ev = c .before .before .before .before .before .before .before .before .before .pre .0 in
     let is = c .before .before .before .before .before .before .before .before .before .pre .1 in
     let a = atom-stands _ _ _ _ _ _ _ (ev .ready) (ev .known) is in
-    let is-word = c .before .before .before .before .before .word .ensures in (
+    let is-word = c .before .before .before .before .before .word .ensures in
+    let six = row-six _ _ _ _ _ (c .before .asked-row .ensures) (rw is-word (a .narrow)) in (
       record { header = ev .ready .header; few = ev .ready .few; words = ev .ready .words },
-      ((omega (arith, is-word, a .relation), c .before .asked-row .ensures .0), rw is-word (a .counted)),
+      ((omega (arith, is-word, a .relation), six), rw is-word (a .counted)),
     )
 
 returns-2 : tie.Need-returns-2
@@ -99,7 +101,7 @@ returns-2 c =
     let a = atom-stands _ _ _ _ _ _ _ (ev .ready) (ev .known) is in
     let rs = rowsFrom (args .arities .now) 0 (args .words .now) in
     let says =
-    c .stands .ensures ∙ ap (stands (tuples (c .before .before .before .before .before .before .word .result) rs)) (c .before .before .asked-row .ensures .1) ∙
+    c .stands .ensures ∙ ap (stands (tuples (c .before .before .before .before .before .before .word .result) rs)) (row-front _ _ _ _ _ (c .before .before .asked-row .ensures)) ∙
     ap (λ (r : ℕ). stands (tuples r rs) (values (args .env .now) (termsAt (args .query .now) (args .node) 2 (arityOf (args .arities .now) r)))) (c .before .before .before .before .before .before .word .ensures)
     in
     let costs = ap (λ (r : ℕ). 1 + getD (args .counts .now) r 0) (c .before .before .before .before .before .before .word .ensures) ∙ ap (λ (x : ℕ). 1 + x) (a .counted) in

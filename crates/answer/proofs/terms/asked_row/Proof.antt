@@ -1,9 +1,9 @@
--- `answer::terms::asked_row` meets its contract: the cells of the first terms stand in the row. Assumes nothing.
+-- `answer::terms::asked_row` meets its contract: the cells of the terms stand in the row, and 0 behind them. Assumes nothing.
 use Prim.Native.Nat.{_≤_, _<_, _-_}
-use mathlib.Core.Path.{_≡_, refl, _∙_}
+use mathlib.Core.Path.{_≡_, refl}
 use native.Mathlib.Omega.{arith}
-use lib.ListN.{length, take, length-set}
-use Rattle.calculus.specs.Formula.{values}
+use Rattle.calculus.specs.Formula.{padded, values}
+use Rattle.instance.specs.Header.{maxColumns}
 use Rattle.query.specs.Tree.{termsAt}
 use Rattle.answer.proofs.TermLaws.{row-more}
 use borrow.Author.Needs.{needs}
@@ -11,14 +11,14 @@ use Rattle.answer.proofs.terms.asked_row.Statement.{statement}
 use Rattle.answer.proofs.terms.asked_row.Tie as tie
 
 abbrev Inv-loop : tie.InvT-loop
-Inv-loop query node arity env row₀ j₀ row j = (length row ≡ 6) × (j ≤ arity) × (take j row ≡ values env (termsAt query node 2 j))
+Inv-loop query node arity env row₀ j₀ row j = (j ≤ arity) × (row ≡ padded maxColumns (values env (termsAt query node 2 j)))
 
 abbrev μ-loop : tie.MeasureT-loop
 μ-loop query node arity env row₀ j₀ row j = arity - j
 
 loop-holds : tie.Need-loop-holds Inv-loop μ-loop
 unfolding termsAt
-loop-holds c = (refl, search needs, refl)
+loop-holds c = (search needs, refl)
 
 add-term : tie.Need-add-term Inv-loop μ-loop
 add-term c = omega (arith, c .before .before .before .pre .narrow)
@@ -44,13 +44,12 @@ loop-again : tie.Need-loop-again Inv-loop μ-loop
 loop-again c =
     let start = c .before .before .before .before in
     let at = c .before .before .loop in
-    let room : at .j < length (at .row) = omega (arith, start .pre .narrow, at .inv .0, c .before .loop-test .taken) in
-    (length-set (at .row) (at .j) _ ∙ at .inv .0, omega arith, row-more _ _ _ (at .row) (at .j) _ room (at .inv .2) (c .term .ensures))
+    (omega arith, row-more _ _ _ (at .row) (at .j) _ (omega (arith, start .pre .narrow, c .before .loop-test .taken)) (at .inv .1) (c .term .ensures))
 
 returns : tie.Need-returns Inv-loop μ-loop
 returns c =
     let last : c .before .before .before .args .arity ≡ c .before .loop .j = omega arith in
-    (c .before .loop .inv .0, rw last (c .before .loop .inv .2))
+    rw last (c .before .loop .inv .1)
 
 pub asked-row-spec : {M : Type 1} → statement M
 asked-row-spec =

@@ -4,6 +4,7 @@ use Prim.Native.Nat.{_-_, max}
 use mathlib.Core.Path.{_≡_, sym, _∙_}
 use mathlib.Core.Logic.{⊎-elim}
 use native.Mathlib.Omega.{arith}
+use Rattle.decode.proofs.Told.{records-told}
 use borrow.Author.Needs.{needs}
 use lib.ListN.{length, take, drop}
 use Rattle.card.specs.Format.{readRecord}
@@ -48,7 +49,7 @@ measured-here d =
     let at = d .before .before .before .loop .at in
     let known : d .measure-record .result
     ≡ measuredRecord (readRecord (d .before .before .before .before .before .args .relations) (d .before .before .before .before .before .args .arities .now) (take (length card - at) (drop at card))) =
-    d .measure-record .ensures in
+    d .measure-record .ensures .0 in
     known ∙ rw (part-to-end card at)
 
 here : (c : tie.After-known-told Inv-loop μ-loop)
@@ -106,12 +107,13 @@ enum-known-why c = search needs
 
 returns : tie.Need-returns Inv-loop μ-loop
 returns c =
-    sym
+    records-told _ _
+    (sym
     (measuring-refused _ _ _ _ _ _ _ _ _ _
     (c .before .before .before .before .before .before .loop .inv)
     (c .before .before .before .before .before .loop-test .taken)
     _
-    (sym (measured-here (c .before .before .before)) ∙ c .before .why .given .1))
+    (sym (measured-here (c .before .before .before)) ∙ c .before .why .given .1)))
 
 sub-left : tie.Need-sub-left Inv-loop μ-loop
 sub-left c = search needs
@@ -126,7 +128,7 @@ loop-again c =
     rw top (here (c .before) .then)
 
 returns-2 : tie.Need-returns-2 Inv-loop μ-loop
-returns-2 c = sym (measuring-ends _ _ _ _ _ _ _ _ _ _ (c .before .loop .inv) (c .loop-test .left))
+returns-2 c = records-told _ _ (sym (measuring-ends _ _ _ _ _ _ _ _ _ _ (c .before .loop .inv) (c .loop-test .left)))
 
 pub measure-spec : {M : Type 1} → statement M
 measure-spec =

@@ -11,12 +11,13 @@ use Rattle.instance.proofs.Parts.{part-to-end}
 use Rattle.decode.proofs.Fields.{leading-within, leading-beyond}
 use Rattle.instance.proofs.Rows.{arity-low}
 use Rattle.decode.proofs.Records.{record-none, record-unknown, record-cut, record-beyond, record-measured, measuredAs}
+use Rattle.decode.proofs.Told.{record-told}
 use borrow.Author.Needs.{needs}
 use Rattle.decode.proofs.measure.measure_record.Statement.{statement}
 use Rattle.decode.proofs.measure.measure_record.Tie as tie
 
 returns : tie.Need-returns
-returns c = sym (record-none _ _ _ (c .if1 .taken))
+returns c = record-told _ (sym (record-none _ _ _ (c .if1 .taken)))
 
 shared-slice-read-wide : tie.Need-shared-slice-read-wide
 shared-slice-read-wide c = search needs
@@ -25,10 +26,10 @@ wide-requires : tie.Need-wide-requires
 wide-requires c κs = search needs
 
 returns-2 : tie.Need-returns-2
-returns-2 c = sym (record-unknown _ _ _ (c .before .before .before .if1 .left) (omega (arith, c .before .wide .ensures)))
+returns-2 c = record-told _ (sym (record-unknown _ _ _ (c .before .before .before .if1 .left) (omega (arith, c .before .wide .ensures))))
 
 returns-3 : tie.Need-returns-3
-returns-3 c = sym (record-cut _ _ _ (omega (arith, c .before .before .wide .ensures)) (c .if3 .taken))
+returns-3 c = record-told _ (sym (record-cut _ _ _ (omega (arith, c .before .before .wide .ensures)) (c .if3 .taken)))
 
 shared-slice-read-wide-2 : tie.Need-shared-slice-read-wide-2
 shared-slice-read-wide-2 c = search needs
@@ -53,14 +54,15 @@ returns-4 c =
     let x = c .before .before .before .before .before .before .wide in
     let m = c .before .before .wide2 in
     let beyond = leading-beyond _ (m .result) (omega (arith, m .ensures)) (c .if4 .taken) in
-    sym
+    record-told _
+    (sym
     (record-beyond
     _
     _
     _
     (omega (arith, x .ensures))
     (c .before .before .before .before .if3 .left)
-    (rw (x .ensures .0, m .ensures .0) at beyond))
+    (rw (x .ensures .0, m .ensures .0) at beyond)))
 
 sub-measure-fields : tie.Need-sub-measure-fields
 sub-measure-fields c = search needs
@@ -111,10 +113,10 @@ from-fields d =
     one ∙ rw (fields, part-to-end bytes 2, x .ensures .0, m .ensures .0)
 
 returns-5 : tie.Need-returns-5
-returns-5 c = sym (from-fields (c .before .before .before) ∙ ap (measuredAs _ _) (c .before .highest .given .1))
+returns-5 c = record-told _ (sym (from-fields (c .before .before .before) ∙ ap (measuredAs _ _) (c .before .highest .given .1)))
 
 returns-6 : tie.Need-returns-6
-returns-6 c = sym (from-fields (c .before .before .before) ∙ ap (measuredAs _ _) (c .before .why .given .1))
+returns-6 c = record-told _ (sym (from-fields (c .before .before .before) ∙ ap (measuredAs _ _) (c .before .why .given .1)))
 
 pub measure-record-spec : {M : Type 1} → statement M
 measure-record-spec =

@@ -36,11 +36,11 @@ module _ (c : tie.After-enum-told) where
   ws = c .before .before .before .before .before .args .plot .now
 
   stands : sound h ws ≡ true
-  stands = scanned-sound h ws _ (sym (c .before .before .scan .ensures) ∙ c .enum-told .given .1)
+  stands = scanned-sound h ws _ (sym (c .before .before .scan .ensures .0) ∙ c .enum-told .given .1)
 
 returns : tie.Need-returns
 unfolding inserted
-returns c = simp (scanned-unsound _ _ (sym (c .before .before .scan .ensures) ∙ c .enum-told2 .given .1))
+returns c = simp (scanned-unsound _ _ (sym (c .before .before .scan .ensures .0) ∙ c .enum-told2 .given .1))
 
 returns-2 : tie.Need-returns-2
 unfolding inserted

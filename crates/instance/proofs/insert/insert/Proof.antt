@@ -10,6 +10,7 @@ use Rattle.instance.specs.Insert.{inserted, insertedHeader, insertedWord
 use Rattle.instance.proofs.Passes.{row-put}
 use Rattle.instance.proofs.Accepted.{Inserted, insert-accepted}
 use Rattle.instance.proofs.Kept.{entered-used}
+use Rattle.instance.proofs.Told.{insert-told}
 use borrow.Author.Needs.{needs}
 use Rattle.instance.proofs.insert.insert.Statement.{statement}
 use Rattle.instance.proofs.insert.insert.Tie as tie
@@ -30,7 +31,7 @@ returns : tie.Need-returns
 unfolding insertedHeader insertedWords
 returns c =
     let f = sym (c .before .before .check-insert .ensures) ∙ c .enum-told .given .1 in
-    (c .before .before .check-insert .ensures, (simp f, simp f))
+    insert-told _ _ _ _ (c .before .before .check-insert .ensures, (simp f, simp f))
 
 -- what the answer says
 module _ (c : tie.After-struct-known) where
@@ -81,13 +82,15 @@ same-length-2 c = search needs
 
 returns-2 : tie.Need-returns-2
 unfolding insertedHeader insertedWords
-returns-2 c = let a = c .before .before .before .before in (
-  sym (done a),
-  (
-    simp (done a) (ap (λ (n : ℕ). record { relations = h a .relations; arities = h a .arities; used = n }) (entered-used (h a) (ws a) (r a) (cs a) (k a) (accepted a))),
-    simp (done a) (row-put _ (r a) (cs a) (ws a) _ (c .before .before .write-row .ensures)),
-  ),
-)
+returns-2 c =
+    let a = c .before .before .before .before in
+    insert-told (h a) (ws a) (r a) (cs a) (
+      sym (done a),
+      (
+        simp (done a) (ap (λ (n : ℕ). record { relations = h a .relations; arities = h a .arities; used = n }) (entered-used (h a) (ws a) (r a) (cs a) (k a) (accepted a))),
+        simp (done a) (row-put _ (r a) (cs a) (ws a) _ (c .before .before .write-row .ensures)),
+      ),
+    )
 
 pub insert-spec : {M : Type 1} → statement M
 insert-spec =

@@ -5,6 +5,7 @@ use mathlib.Core.Path.{_≡_, refl, sym, ap, _∙_}
 use mathlib.Core.Bool.{true}
 use mathlib.Core.List.{List, _++_}
 use native.Mathlib.Omega.{arith}
+use Rattle.instance.proofs.Told.{counts-told}
 use borrow.Author.Needs.{needs}
 use borrow.Author.Tests.{le-leb, lt-leb}
 use lib.ListN.{length, getD, set, take, drop, length-take, length-set}
@@ -44,15 +45,15 @@ module _ (c : tie.After-enum-told Inv-loop μ-loop) where
   ws = c .before .before .before .before .before .args .plot .now
 
   stands : sound h ws ≡ true
-  stands = scanned-sound h ws _ (sym (c .before .before .scan .ensures) ∙ c .enum-told .given .1)
+  stands = scanned-sound h ws _ (sym (c .before .before .scan .ensures .0) ∙ c .enum-told .given .1)
 
 returns : tie.Need-returns Inv-loop μ-loop
 unfolding counted countedWords
-returns c = let e = scanned-unsound _ _ (sym (c .before .before .scan .ensures) ∙ c .enum-told2 .given .1) in (simp e, simp e)
+returns c = let e = scanned-unsound _ _ (sym (c .before .before .scan .ensures .0) ∙ c .enum-told2 .given .1) in counts-told _ _ (c .before .before .before .before .before .args .counts .now) (simp e, simp e)
 
 returns-2 : tie.Need-returns-2 Inv-loop μ-loop
 unfolding counted countedWords
-returns-2 c = let e = stands (c .before) in let n = lt-leb _ _ (c .if1 .taken) in (simp (e, n), simp (e, n))
+returns-2 c = let e = stands (c .before) in let n = lt-leb _ _ (c .if1 .taken) in counts-told _ _ (c .before .before .before .before .before .before .args .counts .now) (simp (e, n), simp (e, n))
 
 cast-used : tie.Need-cast-used Inv-loop μ-loop
 cast-used c = search needs
@@ -115,7 +116,8 @@ returns-3 c =
     let b = c .before .before in
     let e : c .before .loop .i ≡ nulls = omega arith in
     let s = stands (told b) in
-    let n = le-leb _ _ (b .before .before .before .if1 .left) in (
+    let n = le-leb _ _ (b .before .before .before .if1 .left) in
+    counts-told _ _ (b .before .before .before .before .before .before .before .before .before .args .counts .now) (
       simp (s, n),
       simp (s, n) (c .before .loop .inv .2 ∙ rw (e, take-all nulls (b .count-words .result) (omega (arith, found-size b)), found-is b)),
     )

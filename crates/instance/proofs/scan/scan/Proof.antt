@@ -8,6 +8,7 @@ use lib.ListN.{length-take}
 use lib.Seq.{length-take-le}
 use Rattle.instance.specs.Sound.{sound, rows, scanned, scannedWords}
 use Rattle.instance.specs.Header.{headerStands}
+use Rattle.instance.proofs.Told.{scan-told}
 use borrow.Author.Needs.{needs}
 use Rattle.instance.proofs.scan.scan.Statement.{statement}
 use Rattle.instance.proofs.scan.scan.Tie as tie
@@ -17,11 +18,11 @@ cast-used c = search needs
 
 returns : tie.Need-returns
 unfolding scanned sound
-returns c = simp (lt-leb _ _ (c .if1 .taken), and-false)
+returns c = scan-told _ _ (simp (lt-leb _ _ (c .if1 .taken), and-false))
 
 returns-2 : tie.Need-returns-2
 unfolding scanned sound
-returns-2 c = simp (lt-leb _ _ (c .if2 .taken), and-false)
+returns-2 c = scan-told _ _ (simp (lt-leb _ _ (c .if2 .taken), and-false))
 
 header-stands-requires : tie.Need-header-stands-requires
 header-stands-requires c κs = search needs
@@ -30,7 +31,7 @@ returns-3 : tie.Need-returns-3
 unfolding scanned sound
 returns-3 c =
     let e : headerStands _ _ ≡ false = sym (c .before .header-stands .ensures) ∙ not-true _ (c .if3 .taken) in
-    simp e
+    scan-told _ _ (simp e)
 
 slice-aggregate-scan-words : tie.Need-slice-aggregate-scan-words
 slice-aggregate-scan-words c = sym (length-take-le _ _ (c .before .before .before .before .before .if2 .left))
@@ -46,7 +47,8 @@ returns-4 : tie.Need-returns-4
 unfolding scanned sound scannedWords rows
 returns-4 c =
     let e = c .before .before .before in
-    c .scan-words .ensures ∙ simp (stands e, le-leb _ _ (e .before .before .before .before .if1 .left), le-leb _ _ (e .before .before .before .if2 .left))
+    let given = e .before .before .before .before .before .before .before .before .args in
+    scan-told (given .header) (given .plot .now) (c .scan-words .ensures ∙ simp (stands e, le-leb _ _ (e .before .before .before .before .if1 .left), le-leb _ _ (e .before .before .before .if2 .left)))
 
 pub scan-spec : {M : Type 1} → statement M
 scan-spec =

@@ -16,6 +16,7 @@ use Rattle.calculus.specs.Fill.{held}
 use Rattle.instance.specs.Substitute.{substituted, substitutedWords}
 use Rattle.instance.proofs.Rows.{parts, scanned-sound, scanned-unsound}
 use Rattle.instance.proofs.Fills.{held-words, filled-words, absent-same}
+use Rattle.instance.proofs.Told.{fill-told}
 use borrow.Author.Needs.{needs}
 use Rattle.instance.proofs.substitute.substitute.Statement.{statement}
 use Rattle.instance.proofs.substitute.substitute.Tie as tie
@@ -38,7 +39,7 @@ module _ (c : tie.After-enum-told) where
   ws = c .before .before .before .before .before .args .plot .now
 
   stands : sound h ws ≡ true
-  stands = scanned-sound h ws _ (sym (c .before .before .scan .ensures) ∙ c .enum-told .given .1)
+  stands = scanned-sound h ws _ (sym (c .before .before .scan .ensures .0) ∙ c .enum-told .given .1)
 
 -- what is known once the fill has been made
 module _ (c : tie.After-slice-known2) where
@@ -65,14 +66,14 @@ same-length c = search needs
 
 returns : tie.Need-returns
 unfolding substituted substitutedWords
-returns c = let e = scanned-unsound _ _ (sym (c .before .before .scan .ensures) ∙ c .enum-told2 .given .1) in (simp e, simp e)
+returns c = let e = scanned-unsound _ _ (sym (c .before .before .scan .ensures .0) ∙ c .enum-told2 .given .1) in fill-told _ _ _ _ (simp e, simp e)
 
 same-length-2 : tie.Need-same-length-2
 same-length-2 c = search needs
 
 returns-2 : tie.Need-returns-2
 unfolding substituted substitutedWords
-returns-2 c = let e = stands (c .before) in let n = lt-leb _ _ (c .if1 .taken) in (simp (e, n), simp (e, n))
+returns-2 c = let e = stands (c .before) in let n = lt-leb _ _ (c .if1 .taken) in fill-told _ _ _ _ (simp (e, n), simp (e, n))
 
 same-length-3 : tie.Need-same-length-3
 same-length-3 c = search needs
@@ -83,7 +84,7 @@ returns-3 c =
     let e = stands (c .before .before) in
     let s = le-leb _ _ (c .before .if1 .left) in
     let n = lt-leb _ _ (c .if2 .taken) in
-    (simp (e, s, n), simp (e, s, n))
+    fill-told _ _ _ _ (simp (e, s, n), simp (e, s, n))
 
 is-cell-requires : tie.Need-is-cell-requires
 is-cell-requires c κs = search needs
@@ -98,7 +99,7 @@ returns-4 c =
     let s = le-leb _ _ (c .before .before .before .if1 .left) in
     let n = le-leb _ _ (c .before .before .if2 .left) in
     let f : isCell _ ≡ false = sym (c .before .is-cell .ensures) ∙ not-true _ (c .if3 .taken) in
-    (simp (e, s, n, f), simp (e, s, n, f))
+    fill-told _ _ _ _ (simp (e, s, n, f), simp (e, s, n, f))
 
 cast-used : tie.Need-cast-used
 cast-used c = search needs
@@ -121,7 +122,8 @@ returns-5 : tie.Need-returns-5
 unfolding substituted substitutedWords
 returns-5 c =
     let e = c .before in
-    let z = le-ltb 0 (held (m e) (rows (h (told e)) (ws (told e)))) (omega (arith, count-is e)) in (
+    let z = le-ltb 0 (held (m e) (rows (h (told e)) (ws (told e)))) (omega (arith, count-is e)) in
+    fill-told _ _ _ _ (
       simp (stands (told e), marked e, cell-is e, z),
       simp (stands (told e), marked e, cell-is e, z)
           (ap (λ (l : List ℕ). l ++ drop (h (told e) .used) (ws (told e)))
@@ -136,7 +138,8 @@ returns-6 : tie.Need-returns-6
 unfolding substituted substitutedWords
 returns-6 c =
     let e = c .before in
-    let z = lt-ltb 0 (held (m e) (rows (h (told e)) (ws (told e)))) (omega (arith, count-is e)) in (
+    let z = lt-ltb 0 (held (m e) (rows (h (told e)) (ws (told e)))) (omega (arith, count-is e)) in
+    fill-told _ _ _ _ (
       simp (stands (told e), marked e, cell-is e, z) (ap Done (count-is e)),
       simp (stands (told e), marked e, cell-is e, z)
           (ap (λ (l : List ℕ). l ++ drop (h (told e) .used) (ws (told e)))

@@ -9,7 +9,7 @@ use Rattle.line.proofs.asking.answer.Tie as tie
 
 -- the fields stand at the places that were found
 standing : (c : tie.After-known-told) → Standing (c .before .before .before .before .before .args .input .now) (c .before .places .given .0 .0)
-standing c = rw (c .before .places .given .1) at (c .before .before .before .find .ensures)
+standing c = rw (c .before .places .given .1) at (c .before .before .before .find .ensures .0)
 
 find-requires : tie.Need-find-requires
 find-requires c κs = search needs
@@ -30,7 +30,7 @@ returns c = c .ask-card .ensures ∙ rw (standing (c .before) .fields)
 returns-2 : tie.Need-returns-2
 unfolding answered
 returns-2 c =
-    let refused : readInput (c .before .before .before .before .before .args .input .now) ≡ refused (c .before .why .given .0 .0) = rw (c .before .why .given .1) at (c .before .before .before .find .ensures) in
+    let refused : readInput (c .before .before .before .before .before .args .input .now) ≡ refused (c .before .why .given .0 .0) = rw (c .before .why .given .1) at (c .before .before .before .find .ensures .0) in
     rw refused
 
 pub answer-spec : {M : Type 1} → statement M

@@ -50,7 +50,7 @@ returns c =
     let card = c .before .before .before .before .before .before .decode in
     let same : 2 + size - 2 ≡ size = omega arith in
     c .ask-plot .ensures
-    ∙ rw same at (card-read (fieldsAt input (start .args .places)) (decoded (take (2 + size - 2) (drop 2 input)) blank) (card .ensures .0) (c .before .before .enum-told .given .1) (card .ensures .1 .0) (card .ensures .1 .1))
+    ∙ rw same at (card-read (fieldsAt input (start .args .places)) (decoded (take (2 + size - 2) (drop 2 input)) blank) (card .ensures .0) (c .before .before .enum-told .given .1) (card .ensures .1 .0) (card .ensures .1 .1 .0))
 
 returns-2 : tie.Need-returns-2
 unfolding blank askedCard

@@ -135,7 +135,7 @@ enum-told c = search needs
 returns : tie.Need-returns Inv-loop μ-loop
 returns c =
     let b = c .before .before .before .before .before in
-    sym (same b (c .before .before .before .if1 .taken) Identical (sym (c .before .before .compare .ensures) ∙ c .enum-told .given .1))
+    sym (same b (c .before .before .before .if1 .taken) Identical (sym (c .before .before .compare .ensures .0) ∙ c .enum-told .given .1))
 
 enum-told-2 : tie.Need-enum-told-2 Inv-loop μ-loop
 enum-told-2 c = search needs
@@ -174,8 +174,8 @@ loop-again c =
       here b .stands,
       ⊎-elim
           (λ a. rw (a .3) (⊎-elim
-          (λ m. rw (m .2) (same b (a .0 .taken) Unifies (sym (a .1 .ensures) ∙ m .1 .given .1)))
-          (λ m. rw (m .2) (same b (a .0 .taken) Apart (sym (a .1 .ensures) ∙ m .1 .given .1)))
+          (λ m. rw (m .2) (same b (a .0 .taken) Unifies (sym (a .1 .ensures .0) ∙ m .1 .given .1)))
+          (λ m. rw (m .2) (same b (a .0 .taken) Apart (sym (a .1 .ensures .0) ∙ m .1 .given .1)))
           (a .2 .came)))
           (λ a. rw (a .1) (other b (a .0 .left)))
           (c .before .if1 .came),

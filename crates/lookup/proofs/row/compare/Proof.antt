@@ -9,7 +9,7 @@ use Rattle.calculus.specs.Unify.{unifies}
 use Rattle.lookup.specs.declared.row.Match.{Match}
 use Rattle.lookup.specs.Matching.{unified, matching}
 use Rattle.lookup.proofs.Columns.{first-step, first-end, part-step}
-use Rattle.lookup.proofs.Matching.{matching-alike, matching-differs, matching-apart}
+use Rattle.lookup.proofs.Matching.{matching-alike, matching-differs, matching-apart, row-told}
 use Rattle.lookup.proofs.row.compare.Statement.{statement}
 use Rattle.lookup.proofs.row.compare.Tie as tie
 
@@ -86,13 +86,13 @@ module _ (c : tie.In-loop Inv-loop μ-loop) where
 returns : tie.Need-returns Inv-loop μ-loop
 returns c =
     let b = c .before .before .before .before .before in
-    sym (seen b ∙ matching-apart (x b) (y b) (xs b) (ys b) (c .before .before .if1 .taken) (c .before .if2 .taken) (c .if3 .taken))
+    row-told _ _ (sym (seen b ∙ matching-apart (x b) (y b) (xs b) (ys b) (c .before .before .if1 .taken) (c .before .if2 .taken) (c .if3 .taken)))
 
 unify-requires : tie.Need-unify-requires Inv-loop μ-loop
 unify-requires c κs = let p = c .before .before .before .before .before .before .before .pre in (p .0, p .1, p .2, omega arith)
 
 returns-2 : tie.Need-returns-2 Inv-loop μ-loop
-returns-2 c = c .unify .ensures ∙ sym (differs (c .before .before .before .before .before) (c .before .before .if1 .taken))
+returns-2 c = row-told _ _ (c .unify .ensures ∙ sym (differs (c .before .before .before .before .before) (c .before .before .if1 .taken)))
 
 add-i : tie.Need-add-i Inv-loop μ-loop
 add-i c = omega arith
@@ -108,7 +108,8 @@ unfolding matching identical
 returns-3 c =
     let a = c .before .before .before .args in
     let l : a .arity ≤ c .before .loop .i = omega arith in
-    rw (c .before .loop .inv .1, first-end (a .row .now) (a .arity) (c .before .loop .i) l, first-end (drop (a .at) (a .words .now)) (a .arity) (c .before .loop .i) l) refl
+    row-told (take (a .arity) (a .row .now)) (take (a .arity) (drop (a .at) (a .words .now)))
+    (rw (c .before .loop .inv .1, first-end (a .row .now) (a .arity) (c .before .loop .i) l, first-end (drop (a .at) (a .words .now)) (a .arity) (c .before .loop .i) l) refl)
 
 pub compare-spec : {M : Type 1} → statement M
 compare-spec =

@@ -62,7 +62,7 @@ returns c =
     let cs = b .before .before .before .before .before .before .before .before .args .candidate .now in
     let made = b .before .before .before .before .substitute .ensures in (
       made .0,
-      (made .1, c .before .before .replace .ensures .1 ∙ sym (ap (λ (a : Answer). after a (map (put (m b) (cell b)) cs) cs) (accepted b))),
+      (made .1 .0, c .before .before .replace .ensures .1 ∙ sym (ap (λ (a : Answer). after a (map (put (m b) (cell b)) cs) cs) (accepted b))),
     )
 
 same-length-3 : tie.Need-same-length-3
@@ -74,7 +74,7 @@ returns-2 c =
     let cs = args .candidate .now in
     let made = c .before .before .before .before .substitute .ensures in
     let refused = sym (made .0) ∙ c .enum-told2 .given .1 in
-    (made .0, (made .1, sym (ap (λ (a : Answer). after a (map (put (args .mark) (args .cell)) cs) cs) refused)))
+    (made .0, (made .1 .0, sym (ap (λ (a : Answer). after a (map (put (args .mark) (args .cell)) cs) cs) refused)))
 
 pub fill-spec : {M : Type 1} → statement M
 fill-spec =

@@ -57,7 +57,7 @@ module _ (c : tie.After-ask2) where
   ended b is =
       let made = c .before .before .before .before .before .before .before .before .before .before .fill-all .ensures in
       verdicts (h first) (ws first) (qs first) (candidate first) (buffer first) (budget first) (fills first) (out first) (first .before .before .before .before .before .before .before .before .if1 .left) _ _ (is-verdict first)
-      _ _ _ _ _ b (first .before .before .before .before .ask .ensures .1) (made .0) (made .1 .0) (made .1 .1) (sym is ∙ c .ask2 .ensures .0) (c .ask2 .ensures .1)
+      _ _ _ _ _ b (first .before .before .before .before .ask .ensures .1 .0) (made .0) (made .1 .0) (made .1 .1) (sym is ∙ c .ask2 .ensures .0) (c .ask2 .ensures .1 .0)
 
 returns : tie.Need-returns
 returns c =
@@ -101,7 +101,7 @@ returns-2 : tie.Need-returns-2
 returns-2 c =
     let args = c .before .before .before .before .before .before .before .before .before .before .before .before .before .before .before .before .args in
     let told = c .before .before .before .before .before .ask .ensures in
-    refused (args .header) (args .plot .now) (args .query .now) (args .candidate .now) (args .buffer .now) (args .budget) (args .fills .now) (args .answers .now) (c .before .before .before .before .before .before .before .before .before .if1 .left) _ (sym (c .before .why-a .given .1) ∙ told .0) _ (told .1)
+    refused (args .header) (args .plot .now) (args .query .now) (args .candidate .now) (args .buffer .now) (args .budget) (args .fills .now) (args .answers .now) (c .before .before .before .before .before .before .before .before .before .if1 .left) _ (sym (c .before .why-a .given .1) ∙ told .0) _ (told .1 .0)
 
 same-length-4 : tie.Need-same-length-4
 same-length-4 c = search needs

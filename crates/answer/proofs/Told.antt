@@ -1,0 +1,48 @@
+-- What a question tells, in the paper's numbers, where its answer is the definition's. Assumes nothing.
+use Prim.Native.Nat.{ℕ}
+use mathlib.Core.Path.{_≡_, refl, sym, ap, _∙_}
+use mathlib.Core.List.{List}
+use Rattle.calculus.specs.declared.truth.Truth.{Truth}
+use Rattle.calculus.specs.Answer.{after}
+use Rattle.calculus.specs.Kleene.{rank}
+use Rattle.calculus.specs.Eval.{Outcome}
+use Rattle.calculus.specs.Model.{asked}
+use Rattle.instance.specs.declared.header.Header.{Header}
+use Rattle.instance.specs.Run.{modelOf}
+use Rattle.query.specs.Tree.{formulaOf}
+use Rattle.answer.specs.declared.asked.Asked.{Asked}
+use Rattle.answer.specs.declared.asked.Asked.the-variants.{Verdict, Refused}
+use Rattle.answer.specs.Ask.{ask}
+use Rattle.answer.specs.Numbers.{askedAs, askedNumber, verdictOf, looksOf, TellsVerdict}
+use Rattle.answer.proofs.Budget.{was-verdict}
+use Rattle.answer.proofs.RerunLaws.{verdict-asked}
+
+-- a verdict is that of the outcome
+abbrev pub Of : Outcome → Asked → Type 0
+Of o a = (t : Truth) (n : ℕ) → a ≡ Verdict t n → (o .truth ≡ t) × (o .cost ≡ n)
+
+pub tells-verdict : {r a : Asked} (o : Outcome) → r ≡ a → Of o a → TellsVerdict r a o
+tells-verdict {r} {a} o e of = record {
+  number = ap askedNumber e;
+  verdict = ap (λ (x : Asked). verdictOf x 0) e ∙ verdict a of;
+  looks = ap (λ (x : Asked). looksOf x 0) e ∙ looks a of;
+}
+  where
+    verdict : (x : Asked) → Of o x → verdictOf x 0 ≡ after (askedAs x) (rank (o .truth)) 0
+    verdict (Verdict t n) of = ap rank (sym (of t n refl .0))
+    verdict (Refused r) of = refl
+
+    looks : (x : Asked) → Of o x → looksOf x 0 ≡ after (askedAs x) (o .cost) 0
+    looks (Verdict t n) of = sym (of t n refl .1)
+    looks (Refused r) of = refl
+
+module _ (h : Header) (ws qs cs buffer : List ℕ) (budget : ℕ) where
+  pub ask-outcome : Of (asked (modelOf h ws cs) (formulaOf (h .arities) qs)) (ask h ws qs cs buffer budget)
+  ask-outcome t n e =
+      let w = was-verdict budget (asked (modelOf h ws cs) (formulaOf (h .arities) qs)) t n (verdict-asked h ws qs cs buffer budget t n e .1) in
+      (w .truth, w .cost)
+
+  pub ask-told :
+      {r : Asked} {P : Type 0} → (r ≡ ask h ws qs cs buffer budget) × P →
+      (r ≡ ask h ws qs cs buffer budget) × (P × TellsVerdict r (ask h ws qs cs buffer budget) (asked (modelOf h ws cs) (formulaOf (h .arities) qs)))
+  ask-told p = (p .0, (p .1, tells-verdict (asked (modelOf h ws cs) (formulaOf (h .arities) qs)) (p .0) ask-outcome))
