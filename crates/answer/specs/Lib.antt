@@ -3,3 +3,4 @@ pub mod Ready
 pub mod Ask
 pub mod Rerun
 pub mod Numbers
+pub mod Repeats
