@@ -185,6 +185,9 @@ static void chain_rows(void)
     make_plot(&now, PLOTASK_COLUMNS, 1, 1);
     for (uint32_t i = 1; i <= PLOTASK_COLUMNS; i++)
         now.plot[i] = PLOTASK_MARK(1);
+    ask_nothing(&now);
+    stack_row("ask, 1 node, two terms that are equal", ask);
+    chain_row("ask, 1 node, a row of six columns", PLOTASK_NOT, 1);
     chain_row("ask, 2 nodes", PLOTASK_NOT, 2);
     chain_row("ask, 100 nodes, a chain of not", PLOTASK_NOT, PLOTASK_NODES);
     chain_row("ask, 100 nodes, a chain of some", PLOTASK_SOME, PLOTASK_NODES);

@@ -60,7 +60,8 @@
  *
  * STACK, in bytes below the caller's own frame, as `make bench` measures it there (docs/BENCHMARKS.md):
  *
- *   ask            2,920 for a question of 1 node, 3,304 for 2, one below the other, and 256 more for each level; 28,392 for 100 nodes in one chain
+ *   ask            3,048 for a question of 1 node (a row of six columns; 2,920 for two terms), and 256 more for each level below it; 28,392 for
+ *                  100 nodes in one chain
  *   null counts      976
  *   encode           272
  *   insert           256
@@ -134,7 +135,7 @@ enum plotask_refusal {
     PLOTASK_BYTES_LEFT_OVER = 18,        /* bytes follow the card's last row */
     PLOTASK_BAD_QUERY_LENGTH = 21,       /* the question has not 8 to 800 words, or no multiple of 8 */
     PLOTASK_BAD_NODE = 22,               /* a kind not 1 to 7, a word not named by its kind and not 0, or a number that is no term */
-    PLOTASK_BAD_CHILD = 23,              /* a child not numbered after its parent, no node, or named already; or a node named by none */
+    PLOTASK_BAD_CHILD = 23,              /* a child not numbered after its parent, no node, or named already; or a node above 0 that no earlier node names */
     PLOTASK_UNBOUND_VARIABLE = 24,       /* a quantifier's variable above 15, or a variable that nothing binds */
     PLOTASK_NO_SUCH_QUERY_RELATION = 25, /* the question names a sheet that the header lacks */
     PLOTASK_BAD_CANDIDATE = 26,          /* the candidate has more than 6 cells, or a number that is no cell */
@@ -314,8 +315,8 @@ uint32_t plotask_encode(const uint32_t *header, size_t header_words, const uint3
  *
  * Writes: the plot's values, each once, in order of first standing, at the start of the list (how many they are is not told), also where the
  * refusal is 46; and, where it is accepted, truth and cost.
- * Refuses: 41, 21, 26; then the nodes by number, each 23 (a node that none names), 22 (kind), 25, 22 (words that must be 0), 24 (quantifier's
- * variable), 23 (children, left first), then its terms from left to right, each 22, 24; then 45, 46.
+ * Refuses: 41, 21, 26; then the nodes by number, each 23 (a node above 0 that no earlier node names), 22 (kind), 25, 22 (words that must be 0),
+ * 24 (quantifier's variable), 23 (children, left first), then its terms from left to right, each 22, 24; then 45, 46.
  */
 uint32_t plotask_ask(const uint32_t *header, size_t header_words, const uint32_t *plot, size_t plot_words, const uint32_t *query,
                      size_t query_words, const uint32_t *candidate, size_t candidate_cells, uint32_t *list, size_t list_words, uint32_t budget,

@@ -9,8 +9,8 @@ use native.Mathlib.Omega.{arith}
 use Rattle.calculus.specs.declared.truth.Truth.{Truth}
 use Rattle.calculus.specs.declared.truth.Truth.the-variants.{False, Unknown, True}
 use Rattle.calculus.specs.Kleene.{Junction, conj, disj, join, unit}
+use Rattle.calculus.proofs.Outcomes.{settled}
 use Rattle.calculus.specs.Eval.{Outcome, settles, asked, joined, over}
-use Rattle.calculus.proofs.Bools.{never}
 use Rattle.calculus.proofs.Kleene.{join-comm, join-swap}
 use Rattle.answer.specs.declared.evaluated.Evaluated.the-variants.{Verdict, Spent}
 use Rattle.answer.specs.Within.{within}
@@ -27,19 +27,6 @@ unit-left conj True = refl
 unit-left disj False = refl
 unit-left disj Unknown = refl
 unit-left disj True = refl
-
--- a truth value that settles a junction is what it comes to
-settled : (j : Junction) (a t : Truth) → settles j a ≡ true → join j a t ≡ a
-settled conj False False e = refl
-settled conj False Unknown e = refl
-settled conj False True e = refl
-settled conj Unknown t e = never e
-settled conj True t e = never e
-settled disj True False e = refl
-settled disj True Unknown e = refl
-settled disj True True e = refl
-settled disj Unknown t e = never e
-settled disj False t e = never e
 
 pub join-assoc : (j : Junction) (a b c : Truth) → join j a (join j b c) ≡ join j (join j a b) c
 join-assoc j a b c =

@@ -320,6 +320,7 @@ pub fn evaluate(
             words,
             counts,
         ),
+        // Never reached: a checked question has kinds 1 to 7 alone, which the contract's requires says of every node.
         _ => Evaluated::Spent,
     }
 }

@@ -12,6 +12,7 @@ use Rattle.calculus.specs.Kleene.{Junction, conj, disj, join}
 use Rattle.calculus.specs.Eval.{Outcome, settles, asked, joined, over}
 use Rattle.calculus.specs.Domain.{without, distinct}
 use Rattle.calculus.specs.Order.{_⊑_, unknown, alike, _⊑ₒ_}
+use Rattle.calculus.proofs.Bools.{never}
 use Rattle.calculus.proofs.Kleene.{⊑-trans, join-mono, join-idem, join-swap}
 
 pub ⊑ₒ-refl : (o : Outcome) → o ⊑ₒ o
@@ -19,6 +20,19 @@ pub ⊑ₒ-refl : (o : Outcome) → o ⊑ₒ o
 
 pub ⊑ₒ-trans : {o p q : Outcome} → o ⊑ₒ p → p ⊑ₒ q → o ⊑ₒ q
 ⊑ₒ-trans h k = record { truth = ⊑-trans (h .truth) (k .truth); cost = le-trans (k .cost) (h .cost) }
+
+-- a truth value that settles a junction is what it comes to, whatever the other says
+pub settled : (j : Junction) (a t : Truth) → settles j a ≡ true → join j a t ≡ a
+settled conj False False e = refl
+settled conj False Unknown e = refl
+settled conj False True e = refl
+settled conj Unknown t e = never e
+settled conj True t e = never e
+settled disj True False e = refl
+settled disj True Unknown e = refl
+settled disj True True e = refl
+settled disj Unknown t e = never e
+settled disj False t e = never e
 
 asked-le : (j : Junction) (t : Truth) (n : ℕ) → asked j t n ≤ n
 asked-le conj False n = omega arith

@@ -15,5 +15,6 @@ unfoldable pub distinct : List ℕ → List ℕ
 distinct [] = []
 distinct (c ∷ cs) = c ∷ without c (distinct cs)
 
+-- in Libkin's paper adom(D), the quantifiers' range, here as a list
 abbrev pub domain : List Row → List ℕ
 domain rs = distinct (cellsOf rs)

@@ -23,6 +23,7 @@ abbrev pub overB : Junction → (ℕ → Bool) → List ℕ → Bool
 overB j f [] = unitB j
 overB j f (c ∷ cs) = joinB j (f c) (overB j f cs)
 
+-- in Libkin's paper Eval of first-order logic, Eval_FO
 unfoldable pub says : List Row → Formula → List ℕ → Bool
 says rs (atom r ts) e = some (identical (values e ts)) (tuples r rs)
 says rs (equal s t) e = eqb (value e s) (value e t)
