@@ -1,18 +1,14 @@
 -- A row that equals an earlier one of its relation may be left out: every question that got a verdict gets the same, with no more looks. Assumes
 -- nothing.
-use Prim.Native.Nat.{ℕ, _≤_}
+use Prim.Native.Nat.{_≤_}
 use mathlib.Core.Path.{_≡_, sym, ap, _∙_}
-use mathlib.Core.List.{List, _∷_, _++_}
 use native.Mathlib.Omega.{arith}
 use lib.ListN.{length}
 use Rattle.calculus.specs.declared.truth.Truth.{Truth}
-use Rattle.calculus.specs.Row.{Row, cellsOf}
-use Rattle.calculus.specs.Formula.{Formula, assignment}
-use Rattle.calculus.specs.Eval.{Outcome, eval}
-use Rattle.calculus.specs.Closed.{closed}
+use Rattle.calculus.specs.Row.{cellsOf}
+use Rattle.calculus.specs.Formula.{assignment}
 use Rattle.calculus.specs.Model.{asked}
 use Rattle.calculus.proofs.Repeats.{Cheaper, repeat-kept, repeat-cells}
-use Rattle.instance.specs.declared.header.Header.{Header}
 use Rattle.instance.specs.Sound.{rows}
 use Rattle.instance.specs.Run.{modelOf}
 use Rattle.query.specs.Tree.{formulaOf}

@@ -1,6 +1,6 @@
 -- The header of rows: it makes them a sound instance, a sound instance has it, and a map of cells leaves it as it is. Assumes nothing.
-use Prim.Native.Nat.{ℕ, zero, suc, _≤_}
-use mathlib.Core.Path.{_≡_, refl, sym, ap, ap₂, _∙_}
+use Prim.Native.Nat.{ℕ, _≤_}
+use mathlib.Core.Path.{_≡_, refl, ap, _∙_}
 use mathlib.Core.Bool.{true}
 use mathlib.Core.List.{List, [], _∷_, _++_, map}
 use native.Mathlib.Omega.{arith}
@@ -9,7 +9,7 @@ use lib.Seq.{take-at, length-take-le}
 use Rattle.calculus.specs.Row.{Row, mapRow}
 use Rattle.instance.specs.declared.header.Header.{Header}
 use Rattle.instance.specs.Header.{headerStands, maxWords}
-use Rattle.instance.specs.Rows.{rowsStand, wordsOf, rowsFrom}
+use Rattle.instance.specs.Rows.{rowsStand, wordsOf}
 use Rattle.instance.specs.Sound.{sound, rows, headerFor}
 use Rattle.instance.proofs.Rows.{rows-back, rows-back-stand, stand-rows, words-back, parts, parts-sound}
 

@@ -2,10 +2,6 @@
 use borrow.Author.Needs.{needs}
 use Rattle.answer.proofs.nodes.join.Statement.{statement}
 use Rattle.answer.proofs.nodes.join.Tie as tie
-use Rattle.answer.proofs.nodes.join.Reads as reads
-use Rattle.answer.proofs.nodes.join.Lts as lts
-use Rattle.calculus.proofs.truth.and.Reads as and-reads
-use Rattle.calculus.proofs.truth.or.Reads as or-reads
 
 and-requires : tie.Need-and-requires
 and-requires c κs = search needs

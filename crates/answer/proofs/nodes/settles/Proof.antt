@@ -7,8 +7,6 @@ use Rattle.answer.specs.Ready.{junctionOf}
 use borrow.Author.Needs.{needs}
 use Rattle.answer.proofs.nodes.settles.Statement.{statement}
 use Rattle.answer.proofs.nodes.settles.Tie as tie
-use Rattle.answer.proofs.nodes.settles.Reads as reads
-use Rattle.answer.proofs.nodes.settles.Lts as lts
 
 enum-told : tie.Need-enum-told
 enum-told c = search needs

@@ -4,8 +4,6 @@ use native.Mathlib.Omega.{arith}
 use borrow.Author.Needs.{needs}
 use Rattle.answer.proofs.nodes.word.Statement.{statement}
 use Rattle.answer.proofs.nodes.word.Tie as tie
-use Rattle.answer.proofs.nodes.word.Reads as reads
-use Rattle.answer.proofs.nodes.word.Lts as lts
 
 mul-result : tie.Need-mul-result
 mul-result c = search needs

@@ -1,5 +1,5 @@
 -- `answer::terms::asked_row` meets its contract: the cells of the terms stand in the row, and 0 behind them. Assumes nothing.
-use Prim.Native.Nat.{_≤_, _<_, _-_}
+use Prim.Native.Nat.{_≤_, _-_}
 use mathlib.Core.Path.{_≡_, refl}
 use native.Mathlib.Omega.{arith}
 use Rattle.calculus.specs.Formula.{padded, values}

@@ -4,11 +4,6 @@ use lib.Seq.{length-take-le}
 use borrow.Author.Needs.{needs}
 use Rattle.cases.proofs.encoding.decode_first.Statement.{statement}
 use Rattle.cases.proofs.encoding.decode_first.Tie as tie
-use Rattle.cases.proofs.encoding.decode_first.Reads as reads
-use Rattle.cases.proofs.encoding.decode_first.Lts as lts
-use Rattle.decode.proofs.decode.Reads as decode-reads
-use Rattle.cases.proofs.show.answer.Reads as answer-reads
-use Rattle.cases.proofs.show.words.Reads as words-reads
 
 returns : tie.Need-returns
 returns c = search needs

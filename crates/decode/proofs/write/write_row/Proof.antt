@@ -9,8 +9,6 @@ use lib.Seq.{drop-set-lt}
 use Rattle.decode.proofs.Written.{WritingRow, row-starts, written-step, blank-step, row-ends}
 use Rattle.decode.proofs.write.write_row.Statement.{statement}
 use Rattle.decode.proofs.write.write_row.Tie as tie
-use Rattle.decode.proofs.write.write_row.Reads as reads
-use Rattle.decode.proofs.write.write_row.Lts as lts
 
 abbrev Inv-loop : tie.InvT-loop
 Inv-loop part₀ relation arity map fields next bits₀ null₀ at₀ column₀ part bits null at column =

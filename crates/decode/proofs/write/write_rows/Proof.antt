@@ -8,10 +8,6 @@ use Rattle.instance.proofs.Parts.{part-to-end, put-to-end}
 use Rattle.decode.proofs.WritingRows.{WritingRows, Found, find, rows-start, rows-end}
 use Rattle.decode.proofs.write.write_rows.Statement.{statement}
 use Rattle.decode.proofs.write.write_rows.Tie as tie
-use Rattle.decode.proofs.write.write_rows.Reads as reads
-use Rattle.decode.proofs.write.write_rows.Lts as lts
-use Rattle.decode.proofs.field.wide.Reads as wide-reads
-use Rattle.decode.proofs.write.write_row.Reads as write-row-reads
 
 abbrev Inv-loop : tie.InvT-loop
 Inv-loop plot₀ card relations arities count next used₀ null₀ at₀ left₀ plot used null at left =
