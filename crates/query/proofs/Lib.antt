@@ -3,11 +3,3 @@ pub mod Steps
 pub mod Parts
 pub mod Trees
 pub mod Passed
-pub mod NodeWords
-pub mod Children
-pub mod ScopeLaws
-pub mod NodeLaws
-pub mod WellFormedLaws
-pub mod FaultLaws
-pub mod RefusedLaws
-pub mod FirstFault

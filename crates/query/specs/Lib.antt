@@ -3,6 +3,4 @@ pub mod Tree
 pub mod Scope
 pub mod Check
 pub mod Answers
-pub mod WellFormed
-pub mod Faults
 pub mod Passed
