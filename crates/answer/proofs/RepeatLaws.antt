@@ -1,41 +1,82 @@
--- A row that equals an earlier one of its relation may be left out: every question that got a verdict gets the same, with no more looks. Assumes
--- nothing.
-use Prim.Native.Nat.{_≤_}
-use mathlib.Core.Path.{_≡_, sym, ap, _∙_}
+-- A row that equals an earlier one of its relation may be left out, and put back: no verdict changes. Assumes nothing.
+use Prim.Native.Nat.{ℕ, _≤_}
+use mathlib.Core.Path.{_≡_, refl, sym, ap, ap₂, _∙_}
+use mathlib.Core.Bool.{Bool, true, false}
+use mathlib.Core.List.{List}
 use native.Mathlib.Omega.{arith}
 use lib.ListN.{length}
+use lib.Dec.{leb}
+use borrow.Author.Tests.{leb-true, leb-false}
 use Rattle.calculus.specs.declared.truth.Truth.{Truth}
 use Rattle.calculus.specs.Row.{cellsOf}
 use Rattle.calculus.specs.Formula.{assignment}
+use Rattle.calculus.specs.Eval.{Outcome}
 use Rattle.calculus.specs.Model.{asked}
 use Rattle.calculus.proofs.Repeats.{Cheaper, repeat-kept, repeat-cells}
+use Rattle.instance.specs.declared.header.Header.{Header}
 use Rattle.instance.specs.Sound.{rows}
 use Rattle.instance.specs.Run.{modelOf}
 use Rattle.query.specs.Tree.{formulaOf}
 use Rattle.query.specs.Check.{checkQuery, passed}
 use Rattle.answer.specs.declared.asked.Asked.the-variants.{Verdict}
-use Rattle.answer.specs.Repeats.{RepeatMeansOne}
+use Rattle.answer.specs.Ask.{ask, evaluatedAs}
+use Rattle.answer.specs.Repeats.{SameVerdict, SameOrSpent, same, spent, Repeat, RepeatMeansOne}
 use Rattle.answer.proofs.Budget.{was-verdict}
-use Rattle.answer.proofs.RerunLaws.{verdict-asked, asked-verdict}
+use Rattle.answer.proofs.Budget as budgets
+use Rattle.answer.proofs.RerunLaws.{Asks, verdict-asked, asked-verdict}
+use Rattle.answer.proofs.AskLaws.{evaluated-asked}
+
+module _ (h h′ : Header) (ws ws′ qs candidate buffer : List ℕ) (budget : ℕ) (r : Repeat h h′ ws ws′) where
+  abbrev twice : Outcome
+  twice = asked (modelOf h ws candidate) (formulaOf (h .arities) qs)
+
+  abbrev once : Outcome
+  once = asked (modelOf h′ ws′ candidate) (formulaOf (h′ .arities) qs)
+
+  kept : Cheaper twice once
+  kept = rw (r .twice, r .once, r .arities) (repeat-kept (r .before) (r .row) (r .between) (r .behind) (formulaOf (h .arities) qs) (assignment candidate))
+
+  fewer : length (cellsOf (rows h′ ws′)) ≤ length (cellsOf (rows h ws))
+  fewer = rw (r .twice, r .once) (repeat-cells (r .before) (r .row) (r .between) (r .behind))
+
+  -- the second plot asks as the first did
+  without-it : (t : Truth) (n : ℕ) → ask h ws qs candidate buffer budget ≡ Verdict t n → SameVerdict (ask h′ ws′ qs candidate buffer budget) t n
+  without-it t n e =
+      let a = verdict-asked h ws qs candidate buffer budget t n e in
+      let was = was-verdict budget twice t n (a .1) in
+      let passes : checkQuery (h′ .relations) (h′ .arities) qs candidate ≡ passed (a .0 .scopes) = rw (r .relations, r .arities) (a .0 .passes) in
+      let asks : Asks h′ ws′ qs candidate buffer = record { stands = r .second-sound; scopes = a .0 .scopes; passes = passes; room = omega (arith, fewer, a .0 .room) } in
+      record {
+        looks = once .cost;
+        no-more = omega (arith, kept .cost, was .cost);
+        is =
+            asked-verdict h′ ws′ qs candidate buffer budget asks (omega (arith, kept .cost, was .cost, was .fits)) ∙
+            ap (λ (x : Truth). Verdict x (once .cost)) (sym (kept .same) ∙ was .truth);
+      }
+
+  -- and the first as the second did, where nothing runs short
+  with-it :
+      (t : Truth) (n : ℕ) → ask h′ ws′ qs candidate buffer budget ≡ Verdict t n → length (cellsOf (rows h ws)) ≤ length buffer →
+      SameOrSpent (ask h ws qs candidate buffer budget) t n
+  with-it t n e room =
+      let a = verdict-asked h′ ws′ qs candidate buffer budget t n e in
+      let was = was-verdict budget once t n (a .1) in
+      let passes : checkQuery (h .relations) (h .arities) qs candidate ≡ passed (a .0 .scopes) =
+      sym (ap₂ (λ (k : ℕ) (ars : List ℕ). checkQuery k ars qs candidate) (r .relations) (r .arities)) ∙ a .0 .passes in
+      let asks : Asks h ws qs candidate buffer = record { stands = r .first-sound; scopes = a .0 .scopes; passes = passes; room = room } in
+      go (leb (twice .cost) budget) refl asks (was .truth) (was .cost)
+    where
+      go :
+          (b : Bool) → leb (twice .cost) budget ≡ b → Asks h ws qs candidate buffer → once .truth ≡ t → once .cost ≡ n →
+          SameOrSpent (ask h ws qs candidate buffer budget) t n
+      go true fits asks truth cost =
+          same (twice .cost) (omega (arith, kept .cost, cost))
+          (asked-verdict h ws qs candidate buffer budget asks (leb-true (twice .cost) budget fits) ∙ ap (λ (x : Truth). Verdict x (twice .cost)) (kept .same ∙ truth))
+      go false dear asks truth cost =
+          spent (sym (evaluated-asked h ws qs candidate buffer budget asks .0) ∙ ap evaluatedAs (budgets.spent budget twice (leb-false (twice .cost) budget dear)))
 
 pub repeat-means-one : RepeatMeansOne
-repeat-means-one h h′ ws ws′ qs candidate buffer budget before r between behind same-count same-arities stands twice once t n e =
-    let a = verdict-asked h ws qs candidate buffer budget t n e in
-    let f = formulaOf (h .arities) qs in
-    let was = was-verdict budget (asked (modelOf h ws candidate) f) t n (a .1) in
-    let g = formulaOf (h′ .arities) qs in
-    let kept : Cheaper (asked (modelOf h ws candidate) f) (asked (modelOf h′ ws′ candidate) g) =
-    rw (twice, once, same-arities) (repeat-kept before r between behind f (assignment candidate)) in
-    let fewer : length (cellsOf (rows h′ ws′)) ≤ length (cellsOf (rows h ws)) = rw (twice, once) (repeat-cells before r between behind) in
-    let passes : checkQuery (h′ .relations) (h′ .arities) qs candidate ≡ passed (a .0 .scopes) = rw (same-count, same-arities) (a .0 .passes) in
-    let o = asked (modelOf h′ ws′ candidate) g in
-    let is =
-    asked-verdict h′ ws′ qs candidate buffer budget
-    (record { stands = stands; scopes = a .0 .scopes; passes = passes; room = omega (arith, fewer, a .0 .room) })
-    (omega (arith, kept .cost, was .cost, was .fits))
-    in
-    record {
-      looks = o .cost;
-      no-more = omega (arith, kept .cost, was .cost);
-      is = is ∙ ap (λ (x : Truth). Verdict x (o .cost)) (sym (kept .same) ∙ was .truth);
-    }
+repeat-means-one h h′ ws ws′ qs candidate buffer budget t n r = record {
+  without = without-it h h′ ws ws′ qs candidate buffer budget r t n;
+  with-it = with-it h h′ ws ws′ qs candidate buffer budget r t n;
+}

@@ -24,17 +24,17 @@ Of o a = (t : Truth) (n : ℕ) → a ≡ Verdict t n → (o .truth ≡ t) × (o 
 pub tells-verdict : {r a : Asked} (o : Outcome) → r ≡ a → Of o a → TellsVerdict r a o
 tells-verdict {r} {a} o e of = record {
   number = ap askedNumber e;
-  verdict = ap (λ (x : Asked). verdictOf x 0) e ∙ verdict a of;
-  looks = ap (λ (x : Asked). looksOf x 0) e ∙ looks a of;
+  verdict = λ old. ap (λ (x : Asked). verdictOf x old) e ∙ verdict a of old;
+  looks = λ old. ap (λ (x : Asked). looksOf x old) e ∙ looks a of old;
 }
   where
-    verdict : (x : Asked) → Of o x → verdictOf x 0 ≡ after (askedAs x) (rank (o .truth)) 0
-    verdict (Verdict t n) of = ap rank (sym (of t n refl .0))
-    verdict (Refused r) of = refl
+    verdict : (x : Asked) → Of o x → (old : ℕ) → verdictOf x old ≡ after (askedAs x) (rank (o .truth)) old
+    verdict (Verdict t n) of old = ap rank (sym (of t n refl .0))
+    verdict (Refused r) of old = refl
 
-    looks : (x : Asked) → Of o x → looksOf x 0 ≡ after (askedAs x) (o .cost) 0
-    looks (Verdict t n) of = sym (of t n refl .1)
-    looks (Refused r) of = refl
+    looks : (x : Asked) → Of o x → (old : ℕ) → looksOf x old ≡ after (askedAs x) (o .cost) old
+    looks (Verdict t n) of old = sym (of t n refl .1)
+    looks (Refused r) of old = refl
 
 module _ (h : Header) (ws qs cs buffer : List ℕ) (budget : ℕ) where
   pub ask-outcome : Of (asked (modelOf h ws cs) (formulaOf (h .arities) qs)) (ask h ws qs cs buffer budget)

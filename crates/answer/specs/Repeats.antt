@@ -3,12 +3,14 @@ use Prim.Native.Nat.{ℕ, _≤_}
 use mathlib.Core.Path.{_≡_}
 use mathlib.Core.Bool.{true}
 use mathlib.Core.List.{List, _∷_, _++_}
+use lib.ListN.{length}
 use Rattle.calculus.specs.declared.truth.Truth.{Truth}
-use Rattle.calculus.specs.Row.{Row}
+use Rattle.calculus.specs.Refusal.{budget-spent}
+use Rattle.calculus.specs.Row.{Row, cellsOf}
 use Rattle.instance.specs.declared.header.Header.{Header}
 use Rattle.instance.specs.Sound.{sound, rows}
 use Rattle.answer.specs.declared.asked.Asked.{Asked}
-use Rattle.answer.specs.declared.asked.Asked.the-variants.{Verdict}
+use Rattle.answer.specs.declared.asked.Asked.the-variants.{Verdict, Refused}
 use Rattle.answer.specs.Ask.{ask}
 
 -- the same verdict, with at most n looks
@@ -17,11 +19,33 @@ pub record SameVerdict (a : Asked) (t : Truth) (n : ℕ) : Type 0 where
   pub no-more : looks ≤ n
   pub is : a ≡ Verdict t looks
 
--- Two plots with the same sheets: the rows of the second are those of the first without one that equals an earlier row of its sheet. Every question
--- that got a verdict of the first gets the same of the second, with the same candidate, working list and allowance.
+-- the same verdict, with at least n looks, or more looks than the allowance has
+pub data SameOrSpent (a : Asked) (t : Truth) (n : ℕ) : Type 0 where
+  same : (looks : ℕ) → n ≤ looks → a ≡ Verdict t looks → SameOrSpent a t n
+  spent : a ≡ Refused budget-spent → SameOrSpent a t n
+
+-- Two sound plots with the same sheets: the rows of the second are those of the first without one that equals an earlier row of its sheet.
+pub record Repeat (h h′ : Header) (ws ws′ : List ℕ) : Type 0 where
+  pub relations : h′ .relations ≡ h .relations
+  pub arities : h′ .arities ≡ h .arities
+  pub first-sound : sound h ws ≡ true
+  pub second-sound : sound h′ ws′ ≡ true
+  pub before : List Row
+  pub row : Row
+  pub between : List Row
+  pub behind : List Row
+  pub twice : rows h ws ≡ before ++ (row ∷ (between ++ (row ∷ behind)))
+  pub once : rows h′ ws′ ≡ before ++ (row ∷ (between ++ behind))
+
+-- A question that gets a verdict from the first plot gets the same from the second, with the same candidate, working list and allowance; and one that
+-- gets a verdict from the second gets the same from the first, where the list is long enough for it and the allowance suffices.
+pub record MeansOne (h h′ : Header) (ws ws′ qs candidate buffer : List ℕ) (budget : ℕ) (t : Truth) (n : ℕ) : Type 0 where
+  pub without : ask h ws qs candidate buffer budget ≡ Verdict t n → SameVerdict (ask h′ ws′ qs candidate buffer budget) t n
+  pub with-it :
+      ask h′ ws′ qs candidate buffer budget ≡ Verdict t n → length (cellsOf (rows h ws)) ≤ length buffer →
+      SameOrSpent (ask h ws qs candidate buffer budget) t n
+
 abbrev pub RepeatMeansOne : Type 0
 RepeatMeansOne =
-    (h h′ : Header) (ws ws′ qs candidate buffer : List ℕ) (budget : ℕ) (before : List Row) (r : Row) (between behind : List Row) →
-    h′ .relations ≡ h .relations → h′ .arities ≡ h .arities → sound h′ ws′ ≡ true →
-    rows h ws ≡ before ++ (r ∷ (between ++ (r ∷ behind))) → rows h′ ws′ ≡ before ++ (r ∷ (between ++ behind)) →
-    (t : Truth) (n : ℕ) → ask h ws qs candidate buffer budget ≡ Verdict t n → SameVerdict (ask h′ ws′ qs candidate buffer budget) t n
+    (h h′ : Header) (ws ws′ qs candidate buffer : List ℕ) (budget : ℕ) (t : Truth) (n : ℕ) → Repeat h h′ ws ws′ →
+    MeansOne h h′ ws ws′ qs candidate buffer budget t n

@@ -320,7 +320,7 @@ pub fn evaluate(
             words,
             counts,
         ),
-        // Never reached: a checked question has kinds 1 to 7 alone, which the contract's requires says of every node.
+        // Never reached: the contract requires that every node has a kind from 1 to 7.
         _ => Evaluated::Spent,
     }
 }

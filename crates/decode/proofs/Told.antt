@@ -12,21 +12,21 @@ use Rattle.card.specs.Decode.{decoded}
 use Rattle.card.proofs.Sound.{decoded-sound}
 use Rattle.decode.specs.declared.measure.Measured.{Measured}
 use Rattle.decode.specs.declared.measure.Needed.{Needed}
-use Rattle.decode.specs.Measure.{measuredRecord, ToldRecord, measuredRecords, ToldRecords}
+use Rattle.decode.specs.Measure.{measuredRecord, TellsRecord, measuredRecords, TellsRecords}
 
-pub record-told : (p : Parsed Record) {m : Measured} → m ≡ measuredRecord p → (m ≡ measuredRecord p) × ToldRecord p m
+pub record-told : (p : Parsed Record) {m : Measured} → m ≡ measuredRecord p → (m ≡ measuredRecord p) × TellsRecord m p
 unfolding measuredRecord
 record-told p e = (e, rw e (go p))
   where
-    go : (q : Parsed Record) → ToldRecord q (measuredRecord q)
+    go : (q : Parsed Record) → TellsRecord (measuredRecord q) q
     go (read r bs) = record { number = refl; values = λ x bs′ e. let s : r ≡ x = cc in rw s refl }
     go (refused why) = record { number = refl; values = λ x bs′ e. cc }
 
-pub records-told : (size : ℕ) (p : Parsed (List Record)) {n : Needed} → n ≡ measuredRecords size p → (n ≡ measuredRecords size p) × ToldRecords size p n
+pub records-told : (size : ℕ) (p : Parsed (List Record)) {n : Needed} → n ≡ measuredRecords size p → (n ≡ measuredRecords size p) × TellsRecords n size p
 unfolding measuredRecords
 records-told size p e = (e, rw e (go p))
   where
-    go : (q : Parsed (List Record)) → ToldRecords size q (measuredRecords size q)
+    go : (q : Parsed (List Record)) → TellsRecords (measuredRecords size q) size q
     go (read rs bs) = record { number = refl; needs = λ xs bs′ e. let s : rs ≡ xs = cc in let t : bs ≡ bs′ = cc in rw (s, t) refl }
     go (refused why) = record { number = refl; needs = λ xs bs′ e. cc }
 

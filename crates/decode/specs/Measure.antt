@@ -68,7 +68,7 @@ abbrev pub measuredValues : Measured → List ℕ
 measuredValues (measured.Record arity count top) = arity ∷ count ∷ top ∷ []
 measuredValues (measured.Refused why) = []
 
-pub record ToldRecord (p : Parsed Record) (m : Measured) : Type 0 where
+pub record TellsRecord (m : Measured) (p : Parsed Record) : Type 0 where
   pub number : measuredNumber m ≡ parsedNumber p
   pub values : (r : Record) (bs : List ℕ) → p ≡ read r bs → measuredValues m ≡ length (r .fields) ∷ length (writtenOf (r .fields)) ∷ highestIn (r .fields) ∷ []
 
@@ -94,7 +94,7 @@ abbrev pub neededTotal : Needed → List Total
 neededTotal (needed.Records t) = t ∷ []
 neededTotal (needed.Refused why) = []
 
-pub record ToldRecords (size : ℕ) (p : Parsed (List Record)) (n : Needed) : Type 0 where
+pub record TellsRecords (n : Needed) (size : ℕ) (p : Parsed (List Record)) : Type 0 where
   pub number : neededNumber n ≡ parsedNumber p
   pub needs : (rs : List Record) (bs : List ℕ) → p ≡ read rs bs → neededTotal n ≡ total size rs bs ∷ []
 

@@ -5,7 +5,7 @@ ghost use Prim.Native.Nat.{_≤_, _<_};
 ghost use lib.ListN.{length, drop};
 ghost use Rattle.instance.specs.Header.{aritiesStand, maxRelations};
 ghost use Rattle.card.specs.Format.{readRecord, readRecords};
-ghost use Rattle.decode.specs.Measure.{readWritten, measuredFields, measuredRecord, ToldRecord, measuredFrom, ToldRecords};
+ghost use Rattle.decode.specs.Measure.{readWritten, measuredFields, measuredRecord, TellsRecord, measuredFrom, TellsRecords};
 use super::field::field;
 use super::field::wide;
 use calculus::answer::Answer;
@@ -67,7 +67,7 @@ fn measure_record(bytes: &[u8], relations: u32, arities: &[u32; 8]) -> Measured
     requires few { ⌜ relations ≤ maxRelations ⌝ }
     requires stand { ⌜ aritiesStand relations (now arities) ≡ true ⌝ }
     ensures answer { λ r. ⌜ r ≡ measuredRecord (readRecord relations (now (arities .entry)) (now (bytes .entry))) ⌝ }
-    ensures told { λ r. ⌜ ToldRecord (readRecord relations (now (arities .entry)) (now (bytes .entry))) r ⌝ }
+    ensures told { λ r. ⌜ TellsRecord r (readRecord relations (now (arities .entry)) (now (bytes .entry))) ⌝ }
 {
     if bytes.len() < 1 {
         return Measured::Refused(CUT_SHORT);
@@ -102,7 +102,7 @@ pub fn measure(card: &[u8], start: usize, relations: u32, arities: &[u32; 8], co
     requires stand { ⌜ aritiesStand relations (now arities) ≡ true ⌝ }
     requires counted { ⌜ count < 65536 ⌝ }
     ensures answer { λ r. ⌜ r ≡ measuredFrom (now (card .entry)) start relations (now (arities .entry)) count ⌝ }
-    ensures told { λ r. ⌜ ToldRecords (length (now (card .entry))) (readRecords relations (now (arities .entry)) count (drop start (now (card .entry)))) r ⌝ }
+    ensures told { λ r. ⌜ TellsRecords r (length (now (card .entry))) (readRecords relations (now (arities .entry)) count (drop start (now (card .entry)))) ⌝ }
 {
     let mut words: u32 = 0;
     let mut blanks: u32 = 0;

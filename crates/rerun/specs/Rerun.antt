@@ -98,6 +98,6 @@ module _ (h : Header) (ws qs candidate buffer : List ℕ) (budget : ℕ) (fills 
       (firstOf r ≡ asked.Verdict t n) × Rerun h ws qs candidate (fillsOf fills) t n (secondOf r)
 
   -- the answer in the paper's numbers: run A's, and run B's of what the fills left
-  pub record Told (r : Reran) : Type 0 where
+  pub record TellsRuns (r : Reran) : Type 0 where
     pub first : TellsVerdict (firstOf r) (firstOf reran) (outcome start (formulaOf (h .arities) qs))
     pub second : TellsVerdict (secondOf r) (secondOf reran) (outcome (modelOf h bookWords (book .candidate)) (formulaOf (h .arities) qs))

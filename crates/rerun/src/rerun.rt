@@ -1,6 +1,6 @@
 // Run A, a list of fills and run B.
 ghost use mathlib.Core.Path.{_≡_};
-ghost use Rattle.rerun.specs.Rerun.{reran, reranWords, reranCandidate, reranAnswers, reranBuffer, Claim, Told};
+ghost use Rattle.rerun.specs.Rerun.{reran, reranWords, reranCandidate, reranAnswers, reranBuffer, Claim, TellsRuns};
 use super::fills::fill_all;
 use super::reran::Reran;
 use answer::ask::ask;
@@ -25,7 +25,7 @@ pub fn rerun(
     ensures buffer { λ r. ⌜ now (buffer .exit) ≡ reranBuffer header (now (plot .entry)) (now (query .entry)) (now (candidate .entry)) (now (buffer .entry)) budget (now (fills .entry)) (now (answers .entry)) ⌝ }
     ensures answers { λ r. ⌜ now (answers .exit) ≡ reranAnswers header (now (plot .entry)) (now (query .entry)) (now (candidate .entry)) (now (buffer .entry)) budget (now (fills .entry)) (now (answers .entry)) ⌝ }
     ensures claim { λ r. ⌜ Claim header (now (plot .entry)) (now (query .entry)) (now (candidate .entry)) (now (buffer .entry)) budget (now (fills .entry)) (now (answers .entry)) r ⌝ }
-    ensures told { λ r. ⌜ Told header (now (plot .entry)) (now (query .entry)) (now (candidate .entry)) (now (buffer .entry)) budget (now (fills .entry)) (now (answers .entry)) r ⌝ }
+    ensures told { λ r. ⌜ TellsRuns header (now (plot .entry)) (now (query .entry)) (now (candidate .entry)) (now (buffer .entry)) budget (now (fills .entry)) (now (answers .entry)) r ⌝ }
 {
     if answers.len() < fills.len() {
         return Reran::Refused(OUTPUT_TOO_SHORT);

@@ -311,7 +311,7 @@ negated-returns-2 t c =
     let ev = start .pre .1 .0 in
     let down = stands-by _ _ _ _ _ _ _ negates (ev .ready) (ev .known) (start .pre .1 .1) in
     let child = c .before .before .before .before .evaluate .ensures in
-    (child .0, rw (c .not .ensures) (negated-verdict _ _ _ _ (ev .known) (start .pre .1 .1) (down .0) _ _ _ _ (rw (c .before .before .before .before .before .before .word .ensures, c .before .before .truth .given .1) at (child .1))))
+    (child .0, rw (c .not .ensures .0) (negated-verdict _ _ _ _ (ev .known) (start .pre .1 .1) (down .0) _ _ _ _ (rw (c .before .before .before .before .before .before .word .ensures, c .before .before .truth .given .1) at (child .1))))
 
 abbrev walk-Inv-loop : walk-lts.InvT-loop
 walk-Inv-loop query node every env₀ budget values relations arities words counts variable child old truth₀ cost₀ i₀ env truth cost i =

@@ -101,7 +101,7 @@ returns-2 c =
     let a = atom-stands _ _ _ _ _ _ _ (ev .ready) (ev .known) is in
     let rs = rowsFrom (args .arities .now) 0 (args .words .now) in
     let says =
-    c .stands .ensures ∙ ap (stands (tuples (c .before .before .before .before .before .before .word .result) rs)) (row-front _ _ _ _ _ (c .before .before .asked-row .ensures)) ∙
+    c .stands .ensures .0 ∙ ap (stands (tuples (c .before .before .before .before .before .before .word .result) rs)) (row-front _ _ _ _ _ (c .before .before .asked-row .ensures)) ∙
     ap (λ (r : ℕ). stands (tuples r rs) (values (args .env .now) (termsAt (args .query .now) (args .node) 2 (arityOf (args .arities .now) r)))) (c .before .before .before .before .before .before .word .ensures)
     in
     let costs = ap (λ (r : ℕ). 1 + getD (args .counts .now) r 0) (c .before .before .before .before .before .before .word .ensures) ∙ ap (λ (x : ℕ). 1 + x) (a .counted) in

@@ -10,10 +10,10 @@ or-requires : tie.Need-or-requires
 or-requires c κs = search needs
 
 returns : tie.Need-returns
-returns c = rw (c .before .if1 .taken) (c .and .ensures)
+returns c = rw (c .before .if1 .taken) (c .and .ensures .0)
 
 returns-2 : tie.Need-returns-2
-returns-2 c = rw (c .before .if1 .left) (c .or .ensures)
+returns-2 c = rw (c .before .if1 .left) (c .or .ensures .0)
 
 pub join-spec : {M : Type 1} → statement M
 join-spec = tie.close (tie.spec and-requires or-requires returns returns-2)

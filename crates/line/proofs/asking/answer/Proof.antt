@@ -1,7 +1,8 @@
 -- `line::asking::answer` meets its contract: the fields are found, or the input is refused. Assumes nothing.
 use mathlib.Core.Path.{_≡_, _∙_}
 use Rattle.card.specs.Parse.{refused}
-use Rattle.line.specs.Fields.{Standing, readInput}
+use Rattle.line.specs.declared.fields.Found.the-variants as found
+use Rattle.line.specs.Fields.{Standing, readInput, foundAs}
 use Rattle.line.specs.Line.{answered}
 use borrow.Author.Needs.{needs}
 use Rattle.line.proofs.asking.answer.Statement.{statement}
@@ -25,13 +26,17 @@ enum-known-why c = search needs
 
 returns : tie.Need-returns
 unfolding answered
-returns c = c .ask-card .ensures ∙ rw (standing (c .before) .fields)
+returns c =
+    let b = c .before in
+    let told : readInput (b .before .before .before .before .before .args .input .now) ≡ foundAs (b .before .before .before .before .before .args .input .now) (found.Fields (b .before .places .given .0 .0)) =
+    rw (b .before .places .given .1) at (b .before .before .before .find .ensures .1) in
+    c .ask-card .ensures ∙ rw told
 
 returns-2 : tie.Need-returns-2
 unfolding answered
 returns-2 c =
-    let refused : readInput (c .before .before .before .before .before .args .input .now) ≡ refused (c .before .why .given .0 .0) = rw (c .before .why .given .1) at (c .before .before .before .find .ensures .0) in
-    rw refused
+    let told : readInput (c .before .before .before .before .before .args .input .now) ≡ refused (c .before .why .given .0 .0) = rw (c .before .why .given .1) at (c .before .before .before .find .ensures .1) in
+    rw told
 
 pub answer-spec : {M : Type 1} → statement M
 answer-spec =

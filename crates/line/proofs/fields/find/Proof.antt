@@ -50,10 +50,10 @@ to-budget c =
     (to-arity (c .before .before)) (omega arith) (c .number4 .ensures .0)
 
 returns : tie.Need-returns
-returns c = let e = too-long (c .before .before .args .input .now) (c .if1 .taken) in (e, e)
+returns c = (tt, too-long (c .before .before .args .input .now) (c .if1 .taken))
 
 returns-2 : tie.Need-returns-2
-returns-2 c = let e = cut-size (c .before .before .before .args .input .now) (c .before .if1 .left) (c .if2 .taken) in (e, e)
+returns-2 c = (tt, cut-size (c .before .before .before .args .input .now) (c .before .if1 .left) (c .if2 .taken))
 
 number-requires : tie.Need-number-requires
 number-requires c κs = search needs
@@ -68,7 +68,7 @@ add-if3 : tie.Need-add-if3
 add-if3 c = search needs
 
 returns-3 : tie.Need-returns-3
-returns-3 c = let e = cut-card (c .before .before .before .before .before .args .input .now) 2 (c .before .number .result) (to-size (c .before)) (omega arith) (omega arith) in (e, e)
+returns-3 c = (tt, cut-card (c .before .before .before .before .before .args .input .now) 2 (c .before .number .result) (to-size (c .before)) (omega arith) (omega arith))
 
 number-requires-2 : tie.Need-number-requires-2
 number-requires-2 c κs = search needs
@@ -89,7 +89,7 @@ add-if4 : tie.Need-add-if4
 add-if4 c = search needs
 
 returns-4 : tie.Need-returns-4
-returns-4 c = let e = cut-words (c .before .before .before .before .before .before .before .args .input .now) (2 + c .before .before .before .number .result + 2) _ (c .before .number2 .result) (to-count (c .before)) (omega arith) (omega arith) in (e, e)
+returns-4 c = (tt, cut-words (c .before .before .before .before .before .before .before .args .input .now) (2 + c .before .before .before .number .result + 2) _ (c .before .number2 .result) (to-count (c .before)) (omega arith) (omega arith))
 
 number-requires-3 : tie.Need-number-requires-3
 number-requires-3 c κs = search needs
@@ -110,7 +110,7 @@ add-if5 : tie.Need-add-if5
 add-if5 c = search needs
 
 returns-5 : tie.Need-returns-5
-returns-5 c = let e = cut-cells (c .before .before .before .before .before .before .before .before .before .args .input .now) (2 + c .before .before .before .before .before .number .result + 2 + 4 * c .before .before .before .number2 .result + 1) _ _ (c .before .number3 .result) (to-arity (c .before)) (omega arith) (omega arith) in (e, e)
+returns-5 c = (tt, cut-cells (c .before .before .before .before .before .before .before .before .before .args .input .now) (2 + c .before .before .before .before .before .number .result + 2 + 4 * c .before .before .before .number2 .result + 1) _ _ (c .before .number3 .result) (to-arity (c .before)) (omega arith) (omega arith))
 
 number-requires-4 : tie.Need-number-requires-4
 number-requires-4 c κs = search needs
@@ -119,7 +119,7 @@ add-if6 : tie.Need-add-if6
 add-if6 c = search needs
 
 returns-6 : tie.Need-returns-6
-returns-6 c = let e = left-over (c .before .before .before .before .before .before .before .before .before .before .before .args .input .now) _ _ (to-budget (c .before)) (c .if6 .taken) in (e, e)
+returns-6 c = (tt, left-over (c .before .before .before .before .before .before .before .before .before .before .before .args .input .now) _ _ (to-budget (c .before)) (c .if6 .taken))
 
 returns-7 : tie.Need-returns-7
 returns-7 c =
@@ -129,7 +129,6 @@ returns-7 c =
     let arity = c .before .before .before .number3 .result in
     let whole = read-whole input _ _ (to-budget (c .before)) (c .if6 .left) in (
       record {
-        fields = whole;
         card = omega arith;
         words = omega arith;
         words-read = rw (numbers-whole 4 count (drop (2 + size + 2) input) (rw length-drop (omega arith)));

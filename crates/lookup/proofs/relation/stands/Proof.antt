@@ -15,6 +15,7 @@ use Rattle.instance.specs.Rows.{wordsStand, rowsFrom}
 use Rattle.lookup.specs.declared.row.Match.{Match}
 use Rattle.lookup.specs.declared.row.Match.the-variants.{Identical, Unifies, Apart}
 use Rattle.lookup.specs.Matching.{matching}
+use Rattle.calculus.proofs.KindOne.{row-means}
 use Rattle.lookup.proofs.Walk.{AtRow, row-here, relation-few, arity-few}
 use Rattle.lookup.proofs.Tuples.{tuples-here, tuples-other, tuples-few, no-tuples}
 use Rattle.lookup.proofs.Atom.{truthFrom, truth-starts, truth-ends, truthAfter, truth-step}
@@ -135,7 +136,7 @@ enum-told c = search needs
 returns : tie.Need-returns Inv-loop μ-loop
 returns c =
     let b = c .before .before .before .before .before in
-    sym (same b (c .before .before .before .if1 .taken) Identical (sym (c .before .before .compare .ensures .0) ∙ c .enum-told .given .1))
+    row-means _ _ (sym (same b (c .before .before .before .if1 .taken) Identical (sym (c .before .before .compare .ensures .0) ∙ c .enum-told .given .1)))
 
 enum-told-2 : tie.Need-enum-told-2 Inv-loop μ-loop
 enum-told-2 c = search needs
@@ -197,10 +198,10 @@ at-end c possible e =
     c .before .loop .inv .2 ∙ rw (e, none) (truth-ends possible _)
 
 returns-2 : tie.Need-returns-2 Inv-loop μ-loop
-returns-2 c = sym (at-end (c .before) true (c .if2 .taken))
+returns-2 c = row-means _ _ (sym (at-end (c .before) true (c .if2 .taken)))
 
 returns-3 : tie.Need-returns-3 Inv-loop μ-loop
-returns-3 c = sym (at-end (c .before) false (c .if2 .left))
+returns-3 c = row-means _ _ (sym (at-end (c .before) false (c .if2 .left)))
 
 pub stands-spec : {M : Type 1} → statement M
 stands-spec =
