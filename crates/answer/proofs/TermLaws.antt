@@ -10,13 +10,14 @@ use lib.ListN.{length, take, set}
 use lib.Dec.{leb, ltb}
 use borrow.Author.Tests.{le-leb, lt-leb, le-ltb, ltb-true}
 use Rattle.calculus.specs.Cell.{constants}
-use Rattle.calculus.specs.Formula.{Term, const, var, value, values, variables, padded}
+use Rattle.calculus.specs.Padded.{padded}
+use Rattle.calculus.specs.Formula.{Term, const, var, value, values, variables}
 use Rattle.instance.specs.Header.{maxColumns}
 use Rattle.query.specs.Words.{wordAt}
 use Rattle.query.specs.Tree.{variableBase, termOf, termsAt}
 use Rattle.query.specs.Check.{isTerm}
 use Rattle.calculus.proofs.Bools.{both}
-use Rattle.answer.proofs.Assigned.{padded-more, padded-length, padded-front}
+use Rattle.calculus.proofs.Padded.{padded-more, padded-length, padded-front}
 
 pub below-base : (w : ℕ) → w < variableBase → termOf w ≡ const w
 unfolding termOf
@@ -59,7 +60,7 @@ row-more qs i e row j v room so-far is =
     sym (values-more e (termsAt qs i 2 j) (termOf (wordAt qs i (2 + j)))) ∙ ap (values e) (sym (terms-more qs i 2 j)) ∙
     ap (λ (n : ℕ). values e (termsAt qs i 2 n)) (sym (add-one j)))
 
--- a row of so many terms, with 0 behind them, is six words long and has the terms in front
+-- the row that a node asks about has six words, and begins with its terms' cells
 module _ (qs : List ℕ) (i : ℕ) (e row : List ℕ) (arity : ℕ) (is : row ≡ padded maxColumns (values e (termsAt qs i 2 arity))) where
   pub row-six : arity ≤ maxColumns → length row ≡ maxColumns
   row-six narrow = ap length is ∙ padded-length maxColumns (values e (termsAt qs i 2 arity)) (omega (arith, terms-long qs i 2 arity e))

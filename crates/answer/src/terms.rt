@@ -3,7 +3,8 @@ ghost use mathlib.Core.Path.{_≡_};
 ghost use mathlib.Core.Bool.{true};
 ghost use Prim.Native.Nat.{_+_, _<_};
 ghost use lib.ListN.{length};
-ghost use Rattle.calculus.specs.Formula.{value, values, variables, padded};
+ghost use Rattle.calculus.specs.Padded.{padded};
+ghost use Rattle.calculus.specs.Formula.{value, values, variables};
 ghost use Rattle.instance.specs.Header.{maxColumns};
 ghost use Rattle.calculus.specs.Closed.{equality as equalityOf};
 ghost use Rattle.query.specs.Words.{nodeCount, nodeWords, wordAt};
@@ -45,7 +46,7 @@ pub fn term(query: &[u32], node: usize, j: usize, env: &[u32; 16]) -> u32
     env[v]
 }
 
-// The cells of so many terms, from word 2 of a node on, and 0 behind them.
+// The cells that a node's terms stand for, padded with 0; an atom's terms begin at word 2.
 pub fn asked_row(query: &[u32], node: usize, arity: usize, env: &[u32; 16]) -> [u32; 6]
     requires { ⌜ TermsStand (now query) node arity (now env) ⌝ }
     ensures { λ r. ⌜ r ≡ padded maxColumns (values (now (env .entry)) (termsAt (now (query .entry)) node 2 arity)) ⌝ }

@@ -30,7 +30,7 @@ identical (x ∷ xs) [] = false
 identical (x ∷ xs) (y ∷ ys) = eqb x y && identical xs ys
 
 -- "Kind 1: true if the very row stands in the sheet; false if no row of the sheet unifies with it; else unknown." In Libkin's paper Eval₃ᵥ(R(x̄), D, ν):
--- 1 for a tuple of R, 0 where no tuple ⇑ it, else ½.
+-- 1 for a tuple of R, 0 where it ⇑ no tuple of R, else ½.
 unfoldable pub stands : List (List ℕ) → List ℕ → Truth
 stands ts row = cond (some (identical row) ts) True (cond (some (unifies row) ts) Unknown False)
 

@@ -1,9 +1,10 @@
 -- The relational calculus (document 01: questions, as trees). A variable is bound by a quantifier or by the candidate row.
-use Prim.Native.Nat.{ℕ, _-_}
+use Prim.Native.Nat.{ℕ}
 use mathlib.Core.Bool.{Bool, true, _&&_}
-use mathlib.Core.List.{List, [], _∷_, _++_, map}
-use lib.ListN.{length, getD, replicate}
+use mathlib.Core.List.{List, [], _∷_, map}
+use lib.ListN.{getD}
 use Rattle.calculus.specs.Cell.{isConstant}
+use Rattle.calculus.specs.Padded.{padded}
 use Rattle.calculus.specs.Kleene.{Junction}
 
 -- "A term is an inked value, or 2,000,000 + v for variable v"
@@ -29,10 +30,6 @@ values e ts = map (value e) ts
 -- "variables 0 to 15"
 abbrev pub variables : ℕ
 variables = 16
-
--- cells, and 0 behind them up to a width
-abbrev pub padded : ℕ → List ℕ → List ℕ
-padded width cs = cs ++ replicate (width - length cs) 0
 
 -- "The candidate row has k cells, 0 to 6, for variables 0 to k − 1."
 abbrev pub assignment : List ℕ → List ℕ

@@ -12,10 +12,11 @@ use lib.Dec.{leb}
 use borrow.Author.Tests.{leb-true}
 use Rattle.calculus.specs.declared.answer.Answer.the-variants.{Done, Refused}
 use Rattle.calculus.specs.Refusal.{cut-short, bad-relation-count, bad-arity}
+use Rattle.calculus.specs.Padded.{padded}
 use Rattle.instance.specs.Header.{isArity, aritiesStand, maxRelations}
 use Rattle.decode.specs.declared.head.Head as declared-head
 use Rattle.card.specs.Parse.{Parsed, read, refused, andThen, readByte}
-use Rattle.card.specs.Format.{Head, padded, readArities, readCount, readHead}
+use Rattle.card.specs.Format.{Head, readArities, readCount, readHead}
 use Rattle.decode.specs.Measure.{noArities, openedArities, noHead, openedHead}
 use Rattle.card.proofs.Order.{never-both, read-first, byte-read}
 
@@ -102,7 +103,7 @@ module _ (card : List ℕ) (n : ℕ) where
       let all : i ≡ n = omega (arith, o .within) in
       let none : n - i ≡ 0 = omega arith in
       let size : length (take i ars) ≡ i = length-take-le i ars (omega (arith, o .long)) in
-      let full : padded (take i ars ++ []) ≡ ars = rw (append-nil (take i ars), size, ← o .empty) (take-append-drop i ars) in
+      let full : padded maxRelations (take i ars ++ []) ≡ ars = rw (append-nil (take i ars), size, ← o .empty) (take-append-drop i ars) in
       sym (o .whole ∙ rw (none, full))
 
 -- the arities that were read, and the bytes behind them
@@ -147,12 +148,12 @@ arities-read (suc n) bs {ars} {rest} e =
 
 -- the arities that an accepted answer stands for
 pub arities-opened : (n : ℕ) (bs : List ℕ) (k : ℕ) → openedArities [] (readArities n bs) .answer ≡ Done k
-    → (ars : List ℕ) × (rest : List ℕ) × (readArities n bs ≡ read ars rest) × (openedArities [] (readArities n bs) .arities ≡ padded ars)
+    → (ars : List ℕ) × (rest : List ℕ) × (readArities n bs ≡ read ars rest) × (openedArities [] (readArities n bs) .arities ≡ padded maxRelations ars)
 unfolding openedArities
 arities-opened n bs k = go (readArities n bs) refl
   where
     go : (p : Parsed (List ℕ)) → readArities n bs ≡ p → openedArities [] p .answer ≡ Done k
-        → (ars : List ℕ) × (rest : List ℕ) × (readArities n bs ≡ read ars rest) × (openedArities [] (readArities n bs) .arities ≡ padded ars)
+        → (ars : List ℕ) × (rest : List ℕ) × (readArities n bs ≡ read ars rest) × (openedArities [] (readArities n bs) .arities ≡ padded maxRelations ars)
     go (read ars rest) e a = (ars, rest, e, rw e)
     go (refused r) e a = let z : _≡_ {A = ℕ} 0 1 = cc in absurd (omega arith)
 
@@ -191,14 +192,14 @@ head-bad (n ∷ bs) h e = simp e
 module _ (bs : List ℕ) (some : 1 ≤ length bs) (good : isCount (getD bs 0 0) ≡ true) where
   behind : readHead bs
       ≡ andThen (readArities (getD bs 0 0) (drop 1 bs))
-      (λ ars rest. andThen (readCount rest) (λ count rest. read (record { relations = getD bs 0 0; arities = padded ars; count = count }) rest))
+      (λ ars rest. andThen (readCount rest) (λ count rest. read (record { relations = getD bs 0 0; arities = padded maxRelations ars; count = count }) rest))
   unfolding readHead readByte
   behind = go bs some good
     where
       go : (bs : List ℕ) → 1 ≤ length bs → isCount (getD bs 0 0) ≡ true
           → readHead bs
           ≡ andThen (readArities (getD bs 0 0) (drop 1 bs))
-          (λ ars rest. andThen (readCount rest) (λ count rest. read (record { relations = getD bs 0 0; arities = padded ars; count = count }) rest))
+          (λ ars rest. andThen (readCount rest) (λ count rest. read (record { relations = getD bs 0 0; arities = padded maxRelations ars; count = count }) rest))
       go [] h e = absurd (omega arith)
       go (n ∷ bs) h e = simp e
 
@@ -216,7 +217,7 @@ module _ (bs : List ℕ) (some : 1 ≤ length bs) (good : isCount (getD bs 0 0) 
       go : (p : Parsed (List ℕ)) → openedArities [] p .answer ≡ Refused why
           → openedHead
           (andThen p
-          (λ ars rest. andThen (readCount rest) (λ count rest. read (record { relations = getD bs 0 0; arities = padded ars; count = count }) rest)))
+          (λ ars rest. andThen (readCount rest) (λ count rest. read (record { relations = getD bs 0 0; arities = padded maxRelations ars; count = count }) rest)))
           ≡ noHead why
       go (read ars rest) a = let z : _≡_ {A = ℕ} 0 1 = cc in absurd (omega arith)
       go (refused r) a = cc
@@ -240,7 +241,7 @@ module _ (bs : List ℕ) (some : 1 ≤ length bs) (good : isCount (getD bs 0 0) 
         ≡ read
         (record {
           relations = getD bs 0 0;
-          arities = padded ars;
+          arities = padded maxRelations ars;
           count = getD bs (getD bs 0 0 + 1) 0 * 256 + getD bs (getD bs 0 0 + 1 + 1) 0;
         })
         (drop (getD bs 0 0 + 3) bs)
@@ -256,7 +257,7 @@ module _ (bs : List ℕ) (some : 1 ≤ length bs) (good : isCount (getD bs 0 0) 
         behind ∙ rw (e, count-whole rest long, hi, lo, end)
 
     -- the same of what was read as it was named on the way
-    pub head-answer : (n hi lo : ℕ) (xs : List ℕ) → n ≡ getD bs 0 0 → hi ≡ getD bs (n + 1) 0 → lo ≡ getD bs (n + 1 + 1) 0 → xs ≡ padded ars
+    pub head-answer : (n hi lo : ℕ) (xs : List ℕ) → n ≡ getD bs 0 0 → hi ≡ getD bs (n + 1) 0 → lo ≡ getD bs (n + 1 + 1) 0 → xs ≡ padded maxRelations ars
         → 2 ≤ length bs - (n + 1) → record { answer = Done (hi * 256 + lo); relations = n; arities = xs } ≡ openedHead (readHead bs)
     unfolding openedHead
     head-answer n hi lo xs n-is hi-is lo-is xs-is h = rw (hi-is, lo-is, xs-is, n-is, head-whole (rw n-is at h))
@@ -269,7 +270,7 @@ pub record HeadRead (card : List ℕ) (n : ℕ) (ars : List ℕ) (count : ℕ) :
   pub long : n + 3 ≤ length card
 
 head-made : (n : ℕ) (bs ars rest : List ℕ) (count : ℕ) (end : List ℕ) → isCount n ≡ true → readArities n bs ≡ read ars rest → readCount rest ≡ read count end
-    → HeadRead (n ∷ bs) n (padded ars) count
+    → HeadRead (n ∷ bs) n (padded maxRelations ars) count
 head-made n bs ars rest count end good e f =
     let a = arities-read n bs e in
     let c = count-read rest f in

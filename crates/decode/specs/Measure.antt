@@ -6,6 +6,7 @@ use lib.ListN.{length, drop, replicate}
 use Rattle.calculus.specs.declared.answer.Answer.{Answer}
 use Rattle.calculus.specs.declared.answer.Answer.the-variants.{Done, Refused}
 use Rattle.calculus.specs.Cell.{markOf}
+use Rattle.calculus.specs.Padded.{padded}
 use Rattle.instance.specs.Header.{maxRelations}
 use Rattle.decode.specs.declared.head.Arities as declared-arities
 use Rattle.decode.specs.declared.head.Head as declared-head
@@ -15,7 +16,7 @@ use Rattle.decode.specs.declared.measure.Total.{Total}
 use Rattle.decode.specs.declared.measure.Needed.{Needed}
 use Rattle.decode.specs.declared.measure.Needed.the-variants as needed
 use Rattle.card.specs.Parse.{Parsed, read, refused, andThen, parsedNumber}
-use Rattle.card.specs.Format.{Field, written, blank, Record, Head, padded, readField, readRecords}
+use Rattle.card.specs.Format.{Field, written, blank, Record, Head, readField, readRecords}
 use Rattle.card.specs.Blanks.{blanks, highest, highestIn}
 
 -- what a refusal answers
@@ -27,7 +28,7 @@ noHead why = record { answer = Refused why; relations = 0; arities = replicate m
 
 -- an arity for each of the 8 relations; before them stand those that were read already
 unfoldable pub openedArities : List ℕ → Parsed (List ℕ) → declared-arities.Arities
-openedArities before (read ars bs) = record { answer = Done 0; arities = padded (before ++ ars) }
+openedArities before (read ars bs) = record { answer = Done 0; arities = padded maxRelations (before ++ ars) }
 openedArities before (refused r) = noArities r
 
 -- the number of rows, the number of relations and their arities

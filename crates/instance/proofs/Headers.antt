@@ -18,7 +18,7 @@ pub record Holds (h : Header) (ws : List ℕ) (rs : List Row) : Type 0 where
   pub stands : sound h ws ≡ true
   pub holds : rows h ws ≡ rs
 
--- the words of rows that stand, with any words behind them, and the rows' header
+-- Rows that stand, as words that any others may follow, are a sound instance under their header.
 pub made : (n : ℕ) (ars : List ℕ) (rs : List Row) (back : List ℕ) → headerStands n ars ≡ true → length (wordsOf rs) ≤ maxWords
     → rowsStand n ars rs ≡ true → Holds (headerFor n ars rs) (wordsOf rs ++ back) rs
 unfolding rows

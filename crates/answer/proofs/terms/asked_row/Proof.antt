@@ -1,8 +1,9 @@
--- `answer::terms::asked_row` meets its contract: the cells of the terms stand in the row, and 0 behind them. Assumes nothing.
+-- `answer::terms::asked_row` meets its contract: the row is the terms' cells, padded with 0. Assumes nothing.
 use Prim.Native.Nat.{_≤_, _-_}
 use mathlib.Core.Path.{_≡_, refl}
 use native.Mathlib.Omega.{arith}
-use Rattle.calculus.specs.Formula.{padded, values}
+use Rattle.calculus.specs.Padded.{padded}
+use Rattle.calculus.specs.Formula.{values}
 use Rattle.instance.specs.Header.{maxColumns}
 use Rattle.query.specs.Tree.{termsAt}
 use Rattle.answer.proofs.TermLaws.{row-more}

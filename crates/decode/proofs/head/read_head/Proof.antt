@@ -8,7 +8,8 @@ use borrow.Author.Tests.{le-leb, lt-leb}
 use lib.ListN.{drop, getD}
 use Rattle.instance.specs.Header.{maxRelations}
 use Rattle.card.specs.Parse.{read}
-use Rattle.card.specs.Format.{padded, readArities}
+use Rattle.calculus.specs.Padded.{padded}
+use Rattle.card.specs.Format.{readArities}
 use Rattle.decode.specs.Measure.{openedArities}
 use Rattle.decode.proofs.Opening.{isCount, none-counted, refused-head, head-none, head-bad, head-refused, head-long, head-cut, head-answer, arities-opened}
 use borrow.Author.Needs.{needs}
@@ -66,7 +67,7 @@ accepted : (d : tie.After-enum-told)
     → (ars : List ℕ)
     × (rest : List ℕ)
     × (readArities (getD (d .before .before .before .before .before .before .before .before .before .before .args .card .now) 0 0) (drop 1 (d .before .before .before .before .before .before .before .before .before .before .args .card .now)) ≡ read ars rest)
-    × (openedArities [] (readArities (getD (d .before .before .before .before .before .before .before .before .before .before .args .card .now) 0 0) (drop 1 (d .before .before .before .before .before .before .before .before .before .before .args .card .now))) .arities ≡ padded ars)
+    × (openedArities [] (readArities (getD (d .before .before .before .before .before .before .before .before .before .before .args .card .now) 0 0) (drop 1 (d .before .before .before .before .before .before .before .before .before .before .args .card .now))) .arities ≡ padded maxRelations ars)
 accepted d = arities-opened _ _ (d .enum-told .given .0 .0) (rw (opened (d .before .before .before)) at (d .enum-told .given .1))
 
 cast-read-arities : tie.Need-cast-read-arities
