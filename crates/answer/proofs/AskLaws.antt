@@ -22,16 +22,14 @@ use Rattle.instance.specs.Header.{maxRelations}
 use Rattle.instance.specs.Rows.{wordsOf, rowsFrom}
 use Rattle.instance.specs.Sound.{sound, rows}
 use Rattle.instance.specs.Run.{modelOf}
-use Rattle.instance.proofs.Rows.{headed, parts}
-use Rattle.instance.proofs.Headers.{sound-words}
+use Rattle.instance.proofs.Rows.{headed}
 use Rattle.query.specs.Words.{nodeCount}
 use Rattle.query.specs.Tree.{formulaOf}
 use Rattle.query.specs.Scope.{Scopes}
 use Rattle.query.specs.Check.{Checked, passed, refused, checkQuery, checkNumber}
 use Rattle.query.proofs.Passed.{few-cells, count-within, node-stands}
-use Rattle.lookup.specs.Counts.{rowCounts}
+use Rattle.instance.specs.RowCounts.{rowCounts}
 use Rattle.lookup.proofs.Tally.{row-count-at, row-counts-size}
-use Rattle.lookup.proofs.Entry.{sound-standing}
 use Rattle.answer.specs.declared.asked.Asked.the-variants.{Refused}
 use Rattle.answer.specs.declared.evaluated.Evaluated.{Evaluated}
 use Rattle.answer.specs.Within.{within}

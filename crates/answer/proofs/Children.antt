@@ -17,7 +17,7 @@ use Rattle.calculus.specs.Closed.{tuples}
 use Rattle.instance.specs.Header.{arityOf, maxRelations, maxColumns, maxWords}
 use Rattle.calculus.proofs.Kleene.{join-comm}
 use Rattle.instance.proofs.Rows.{headed}
-use Rattle.lookup.proofs.Tuples.{tuples-few}
+use Rattle.instance.proofs.Walk.{tuples-few}
 use Rattle.query.specs.Check.{isTerm}
 use Rattle.instance.specs.Rows.{rowsFrom}
 use Rattle.query.specs.Words.{Kind, kinds, rowStands, equals, noKind, negates, joins, ranges, kindOf, wordAt, nodeCount}

@@ -10,7 +10,7 @@ use borrow.Author.Tests.{le-leb, leb-true}
 use Rattle.calculus.specs.declared.answer.Answer.{Answer}
 use Rattle.calculus.specs.declared.answer.Answer.the-variants as answer
 use Rattle.calculus.specs.declared.truth.Truth.{Truth}
-use Rattle.calculus.specs.Answer.{demand}
+use Rattle.calculus.specs.Demand.{demand}
 use Rattle.calculus.specs.Refusal.{unsound, buffer-too-short}
 use Rattle.calculus.specs.Row.{Row, cellsOf}
 use Rattle.calculus.specs.Eval.{Outcome}

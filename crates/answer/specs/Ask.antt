@@ -6,7 +6,7 @@ use lib.ListN.{length, drop}
 use lib.Dec.{leb}
 use Rattle.calculus.specs.declared.answer.Answer.{Answer}
 use Rattle.calculus.specs.declared.answer.Answer.the-variants as answer
-use Rattle.calculus.specs.Answer.{demand, after}
+use Rattle.calculus.specs.Answer.{after}
 use Rattle.calculus.specs.Refusal.{unsound, buffer-too-short, budget-spent}
 use Rattle.calculus.specs.Row.{cellsOf}
 use Rattle.calculus.specs.Domain.{domain}

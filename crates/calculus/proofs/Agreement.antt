@@ -21,7 +21,9 @@ use Rattle.calculus.proofs.Bools.{never, both, and-true}
 use Rattle.calculus.proofs.Valuations.{under-keeps}
 use Rattle.calculus.proofs.Unification.{unifies-agrees}
 use Rattle.calculus.proofs.Tuples.{or-mono, identical-refl}
-use Rattle.calculus.proofs.Constants.{constant-set, constant-distinct, constant-append, keeps-all, constant-value, constant-values}
+use Rattle.calculus.proofs.Constants.{constant-distinct, keeps-all, constant-value, constant-values}
+use Rattle.calculus.specs.All.{all}
+use Rattle.calculus.proofs.All.{all-set, all-split, all-parts}
 
 negate-bool : (b : Bool) → negate (ofBool b) ≡ ofBool (not b)
 negate-bool true = refl
@@ -46,31 +48,32 @@ constants-unify xs ys p q e =
     rw (← same) (identical-refl xs)
 
 -- every tuple of a relation is a list of constants
-AllKnown : List (List ℕ) → Type 0
-AllKnown [] = Unit
-AllKnown (t ∷ ts) = (allConstant t ≡ true) × AllKnown ts
-
-tuples-known : (r : ℕ) (rs : List Row) → allConstant (cellsOf rs) ≡ true → AllKnown (tuples r rs)
-unfolding AllKnown tuples cellsOf
-tuples-known r [] h = tt
+tuples-known : (r : ℕ) (rs : List Row) → allConstant (cellsOf rs) ≡ true → all allConstant (tuples r rs) ≡ true
+unfolding all tuples cellsOf
+tuples-known r [] h = refl
 tuples-known r (row ∷ rs) h =
-    let c = constant-append (row .cells) (cellsOf rs) h in
+    let c = all-split isConstant (row .cells) (cellsOf rs) h in
     go (eqb (row .relation) r) (c .0) (tuples-known r rs (c .1))
   where
-    go : (b : Bool) → allConstant (row .cells) ≡ true → AllKnown (tuples r rs) → AllKnown (cond b (row .cells ∷ tuples r rs) (tuples r rs))
-    go true k ks = (k, ks)
+    go :
+        (b : Bool) → allConstant (row .cells) ≡ true → all allConstant (tuples r rs) ≡ true →
+        all allConstant (cond b (row .cells ∷ tuples r rs) (tuples r rs)) ≡ true
+    go true k ks = and-true k ks
     go false k ks = ks
 
-only-identical : (row : List ℕ) (ts : List (List ℕ)) → allConstant row ≡ true → AllKnown ts → some (unifies row) ts ≡ true → some (identical row) ts ≡ true
-unfolding some AllKnown
-only-identical row [] known all e = e
-only-identical row (t ∷ ts) known all e =
+only-identical :
+    (row : List ℕ) (ts : List (List ℕ)) → allConstant row ≡ true → all allConstant ts ≡ true → some (unifies row) ts ≡ true →
+    some (identical row) ts ≡ true
+unfolding some
+only-identical row [] known each e = e
+only-identical row (t ∷ ts) known each e =
+    let b = all-parts allConstant t ts each in
     or-mono (unifies row t) (some (unifies row) ts) (identical row t) (some (identical row) ts)
-    (constants-unify row t known (all .0)) (only-identical row ts known (all .1)) e
+    (constants-unify row t known (b .0)) (only-identical row ts known (b .1)) e
 
-stands-bool : (row : List ℕ) (ts : List (List ℕ)) → allConstant row ≡ true → AllKnown ts → stands ts row ≡ ofBool (some (identical row) ts)
+stands-bool : (row : List ℕ) (ts : List (List ℕ)) → allConstant row ≡ true → all allConstant ts ≡ true → stands ts row ≡ ofBool (some (identical row) ts)
 unfolding stands
-stands-bool row ts known all = go (some (identical row) ts) (some (unifies row) ts) (only-identical row ts known all)
+stands-bool row ts known each = go (some (identical row) ts) (some (unifies row) ts) (only-identical row ts known each)
   where
     go : (a b : Bool) → (b ≡ true → a ≡ true) → cond a True (cond b Unknown False) ≡ ofBool a
     go true b f = refl
@@ -89,7 +92,7 @@ over-bool :
     (j : Junction) (f : ℕ → Outcome) (g : ℕ → Bool) (cs : List ℕ) → allConstant cs ≡ true →
     ((c : ℕ) → isConstant c ≡ true → f c .truth ≡ ofBool (g c)) →
     over (unit j) j f cs .truth ≡ ofBool (overB j g cs)
-unfolding allConstant
+unfolding all
 over-bool conj f g [] k each = refl
 over-bool disj f g [] k each = refl
 over-bool j f g (c ∷ cs) k each =
@@ -116,4 +119,4 @@ module _ (rs : List Row) (plain : allConstant (cellsOf rs) ≡ true) where
       join-bool j (says rs f e) (says rs g e)
   two-valued (quantified j v f) k e known =
       over-bool j (λ c. eval (closed rs) f (set e v c)) (λ c. says rs f (set e v c)) (domain rs) (constant-distinct (cellsOf rs) plain)
-      (λ c m. two-valued f k (set e v c) (constant-set e v c known m))
+      (λ c m. two-valued f k (set e v c) (all-set isConstant e v c known m))

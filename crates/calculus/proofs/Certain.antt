@@ -12,37 +12,24 @@ use Rattle.calculus.specs.Formula.{Formula, inked, assignment, variables
 use Rattle.calculus.specs.Unify.{Valuation, under}
 use Rattle.calculus.specs.Order.{_⊑_, unknown, alike, _⊑ₒ_, ofBool}
 use Rattle.calculus.specs.Model.{Fill, Model, run, asked, saysYes, plain, valued, Shared}
-use Rattle.calculus.proofs.Bools.{both, and-true}
+use Rattle.calculus.proofs.Bools.{both, and-true, zero-not-one}
 use Rattle.calculus.proofs.Rows.{cells-map}
 use Rattle.calculus.proofs.Valuations.{under-keeps, under-constant}
 use Rattle.calculus.proofs.Agreement.{two-valued}
 use Rattle.calculus.proofs.Fills.{mapped-kept, fills-kept}
+use Rattle.calculus.proofs.All.{all-map, all-always, all-append, all-replicate}
 
 -- ---- constants of rows and candidate
 
-append-constant : (xs ys : List ℕ) → allConstant xs ≡ true → allConstant ys ≡ true → allConstant (xs ++ ys) ≡ true
-unfolding allConstant
-append-constant [] ys p q = q
-append-constant (x ∷ xs) ys p q =
-    let b = both (isConstant x) (allConstant xs) p in
-    and-true (b .0) (append-constant xs ys (b .1) q)
-
-zeros-constant : (n : ℕ) → allConstant (replicate n 0) ≡ true
-unfolding allConstant
-zeros-constant zero = refl
-zeros-constant (suc n) = zeros-constant n
-
 valued-constant : (v : Valuation) (cs : List ℕ) → allConstant (map (under v) cs) ≡ true
-unfolding allConstant
-valued-constant v [] = refl
-valued-constant v (c ∷ cs) = and-true (under-constant v c) (valued-constant v cs)
+valued-constant v cs = all-map isConstant (under v) (λ c. true) (λ c t. under-constant v c) cs (all-always (λ c. true) (λ c. refl) cs)
 
 -- with no null, the verdict is two-valued logic's
 pub plain-verdict : (b : Model) (f : Formula) → inked f ≡ true → plain b ≡ true → asked b f .truth ≡ ofBool (saysYes b f)
 plain-verdict b f k p =
     let c = both (allConstant (cellsOf (b .rows))) (allConstant (b .candidate)) p in
     two-valued (b .rows) (c .0) f k (assignment (b .candidate))
-    (append-constant (b .candidate) (replicate (variables - length (b .candidate)) 0) (c .1) (zeros-constant (variables - length (b .candidate))))
+    (all-append isConstant (b .candidate) (replicate (variables - length (b .candidate)) 0) (c .1) (all-replicate isConstant (variables - length (b .candidate)) 0 refl))
 
 -- ---- every valuation
 
@@ -62,9 +49,6 @@ valuation-kept v b f k =
     mapped-kept {b = b} {b′ = valued v b}
     (record { by = under v; keeps = under-keeps v; cells = λ c h. constant-cell (under v c) (under-constant v c); rows = refl; candidate = refl })
     f k
-
-zero-not-one : _≡_ {A = ℕ} 0 1 → ⊥
-zero-not-one z = omega arith
 
 settled : {a b : Truth} (t : Bool) → a ⊑ b → a ≡ ofBool t → b ≡ ofBool t
 settled true unknown e = let z : _≡_ {A = ℕ} 0 1 = cc in absurd (zero-not-one z)

@@ -20,10 +20,11 @@ use Rattle.calculus.proofs.Bools.{never, both}
 use Rattle.calculus.specs.Order.{_⊑_, unknown, alike, _⊑ₒ_, Keeps}
 use Rattle.calculus.proofs.Image.{Image, eval-image}
 use Rattle.calculus.proofs.Rows.{cells-map}
-use Rattle.calculus.proofs.Valuations.{map-same, after, after-is}
+use Rattle.calculus.proofs.Valuations.{after, after-is}
 use Rattle.calculus.proofs.Unification.{unifies-agrees}
 use Rattle.calculus.proofs.Distinct.{distinct-map}
 use Rattle.calculus.proofs.Tuples.{tuples-map, some-mono, some-of-map, identical-refl, identical-is}
+use Rattle.calculus.proofs.Lists.{map-same}
 
 -- the same list unifies
 pub identical-unifies : (xs ys : List ℕ) → identical xs ys ≡ true → unifies xs ys ≡ true

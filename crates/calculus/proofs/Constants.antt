@@ -10,23 +10,11 @@ use Rattle.calculus.specs.Domain.{without, distinct}
 use Rattle.calculus.specs.Formula.{Term, const, var, value, values, termInked, termsInked}
 use Rattle.calculus.proofs.Bools.{both, and-true}
 use Rattle.calculus.specs.Order.{Keeps}
-
-pub constant-getD : (e : List ℕ) (v : ℕ) → allConstant e ≡ true → isConstant (getD e v 0) ≡ true
-unfolding allConstant
-constant-getD [] v h = refl
-constant-getD (c ∷ e) zero h = both (isConstant c) (allConstant e) h .0
-constant-getD (c ∷ e) (suc v) h = constant-getD e v (both (isConstant c) (allConstant e) h .1)
-
-pub constant-set : (e : List ℕ) (v c : ℕ) → allConstant e ≡ true → isConstant c ≡ true → allConstant (set e v c) ≡ true
-unfolding allConstant
-constant-set [] v c h k = refl
-constant-set (x ∷ e) zero c h k = and-true k (both (isConstant x) (allConstant e) h .1)
-constant-set (x ∷ e) (suc v) c h k =
-    let b = both (isConstant x) (allConstant e) h in
-    and-true (b .0) (constant-set e v c (b .1) k)
+use Rattle.calculus.specs.All.{all}
+use Rattle.calculus.proofs.All.{all-getD}
 
 pub constant-without : (x : ℕ) (cs : List ℕ) → allConstant cs ≡ true → allConstant (without x cs) ≡ true
-unfolding allConstant without
+unfolding all without
 constant-without x [] h = refl
 constant-without x (c ∷ cs) h =
     let b = both (isConstant c) (allConstant cs) h in
@@ -37,23 +25,15 @@ constant-without x (c ∷ cs) h =
     go false k r = and-true k r
 
 pub constant-distinct : (cs : List ℕ) → allConstant cs ≡ true → allConstant (distinct cs) ≡ true
-unfolding allConstant distinct
+unfolding all distinct
 constant-distinct [] h = refl
 constant-distinct (c ∷ cs) h =
     let b = both (isConstant c) (allConstant cs) h in
     and-true (b .0) (constant-without c (distinct cs) (constant-distinct cs (b .1)))
 
-pub constant-append : (xs ys : List ℕ) → allConstant (xs ++ ys) ≡ true → (allConstant xs ≡ true) × (allConstant ys ≡ true)
-unfolding allConstant
-constant-append [] ys h = (refl, h)
-constant-append (x ∷ xs) ys h =
-    let b = both (isConstant x) (allConstant (xs ++ ys)) h in
-    let r = constant-append xs ys (b .1) in
-    (and-true (b .0) (r .0), r .1)
-
 -- a map that leaves constants as they are leaves a list of them as it is
 pub keeps-all : (h : ℕ → ℕ) → Keeps h → (cs : List ℕ) → allConstant cs ≡ true → map h cs ≡ cs
-unfolding allConstant
+unfolding all
 keeps-all h keeps [] k = refl
 keeps-all h keeps (c ∷ cs) k =
     let b = both (isConstant c) (allConstant cs) k in
@@ -62,10 +42,10 @@ keeps-all h keeps (c ∷ cs) k =
 module _ (e : List ℕ) (known : allConstant e ≡ true) where
   pub constant-value : (t : Term) → termInked t ≡ true → isConstant (value e t) ≡ true
   constant-value (const c) k = k
-  constant-value (var v) k = constant-getD e v known
+  constant-value (var v) k = all-getD isConstant e v 0 refl known
 
   pub constant-values : (ts : List Term) → termsInked ts ≡ true → allConstant (values e ts) ≡ true
-  unfolding allConstant
+  unfolding all
   constant-values [] k = refl
   constant-values (t ∷ ts) k =
       let b = both (termInked t) (termsInked ts) k in

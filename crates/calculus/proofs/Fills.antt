@@ -3,7 +3,7 @@
 use Prim.Native.Nat.{ℕ, zero, suc, _-_}
 use mathlib.Core.Path.{_≡_, refl, sym, ap, _∙_, subst}
 use mathlib.Core.Bool.{true}
-use mathlib.Core.List.{List, [], _∷_, _++_, map, map-map}
+use mathlib.Core.List.{List, [], _∷_, _++_, map, map-map, map-append}
 use native.Mathlib.Omega.{arith}
 use lib.ListN.{length, length-map, replicate}
 use borrow.Author.Tests.{ltb-true, leb-true}
@@ -17,17 +17,14 @@ use Rattle.calculus.specs.Eval.{eval}
 use Rattle.calculus.specs.Closed.{closed}
 use Rattle.calculus.specs.Order.{_⊑ₒ_, Keeps}
 use Rattle.calculus.specs.Fill.{substitute}
-use Rattle.calculus.specs.Model.{Fill, Model, asked, answerOf, next, run}
+use Rattle.calculus.specs.Model.{Fill, Model, asked, answerOf, next, run, afterFills}
 use Rattle.calculus.proofs.Answers.{demand-done}
 use Rattle.calculus.proofs.Bools.{both}
 use Rattle.calculus.proofs.Cells.{put-other, put-cell}
 use Rattle.calculus.proofs.ClosedImage.{closed-kept}
+use Rattle.calculus.proofs.Lists.{map-none}
 
 -- ---- the assignment of a candidate
-
-map-append : (h : ℕ → ℕ) (xs ys : List ℕ) → map h (xs ++ ys) ≡ map h xs ++ map h ys
-map-append h [] ys = refl
-map-append h (x ∷ xs) ys = ap (λ (l : List ℕ). h x ∷ l) (map-append h xs ys)
 
 zeros-kept : (h : ℕ → ℕ) → Keeps h → (n : ℕ) → map h (replicate n 0) ≡ replicate n 0
 zeros-kept h keeps zero = refl
@@ -54,10 +51,6 @@ mapped-kept {b} {b′} m f k =
     rw (m .rows, m .candidate)
     (subst (λ (e : List ℕ). asked b f ⊑ₒ eval (closed (map (mapRow (m .by)) (b .rows))) f e) (assignment-map (m .by) (m .keeps) (b .candidate))
     (closed-kept (m .by) (m .keeps) f k (b .rows) (assignment (b .candidate))))
-
-map-none : (cs : List ℕ) → map (λ c. c) cs ≡ cs
-map-none [] = refl
-map-none (c ∷ cs) = ap (λ (l : List ℕ). c ∷ l) (map-none cs)
 
 rows-none : (rs : List Row) → map (mapRow (λ c. c)) rs ≡ rs
 rows-none [] = refl
@@ -112,7 +105,7 @@ mapped-next f b = go (answerOf f b) refl
     go (Refused r) e = mapped-none b
 
 pub mapped-run : (fs : List Fill) (b : Model) → Mapped b (run fs b)
-unfolding run
+unfolding afterFills
 mapped-run [] b = mapped-none b
 mapped-run (f ∷ fs) b = mapped-twice (mapped-next f b) (mapped-run fs (next f b))
 

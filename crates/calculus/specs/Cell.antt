@@ -3,6 +3,7 @@ use Prim.Native.Nat.{ℕ, _+_, _-_}
 use mathlib.Core.Bool.{Bool, true, _&&_, _||_, cond}
 use mathlib.Core.List.{List, [], _∷_}
 use lib.Dec.{leb, ltb, eqb}
+use Rattle.calculus.specs.All.{all}
 
 -- "0 to 999,999 is an inked value"
 abbrev pub constants : ℕ
@@ -38,6 +39,5 @@ unfoldable pub put : ℕ → ℕ → ℕ → ℕ
 put m c x = cond (eqb x (null m)) c x
 
 -- a list of cells that holds no null
-unfoldable pub allConstant : List ℕ → Bool
-allConstant [] = true
-allConstant (c ∷ cs) = isConstant c && allConstant cs
+abbrev pub allConstant : List ℕ → Bool
+allConstant cs = all isConstant cs

@@ -6,6 +6,7 @@ use lib.ListN.{getD}
 use Rattle.calculus.specs.Cell.{isConstant}
 use Rattle.calculus.specs.Padded.{padded}
 use Rattle.calculus.specs.Kleene.{Junction}
+use Rattle.calculus.specs.All.{all}
 
 -- "A term is an inked value, or 2,000,000 + v for variable v"
 pub data Term : Type 0 where
@@ -41,8 +42,7 @@ termInked (const c) = isConstant c
 termInked (var v) = true
 
 abbrev pub termsInked : List Term → Bool
-termsInked [] = true
-termsInked (t ∷ ts) = termInked t && termsInked ts
+termsInked ts = all termInked ts
 
 unfoldable pub inked : Formula → Bool
 inked (atom r ts) = termsInked ts

@@ -43,14 +43,21 @@ answerOf f b = filled (f .mark) (f .cell) (b .rows)
 abbrev pub next : Fill → Model → Model
 next f b = after (answerOf f b) (record { rows = substitute (f .mark) (f .cell) (b .rows); candidate = map (put (f .mark) (f .cell)) (b .candidate) }) b
 
--- the model after a list of fills, and what each of them answers
-unfoldable pub run : List Fill → Model → Model
-run [] b = b
-run (f ∷ fs) b = run fs (next f b)
+-- a list of fills, each of what the last one left: the state after them, and what each of them answers
+unfoldable pub afterFills : {S : Type 0} → (Fill → S → S) → List Fill → S → S
+afterFills step [] s = s
+afterFills step (f ∷ fs) s = afterFills step fs (step f s)
 
-unfoldable pub answers : List Fill → Model → List Answer
-answers [] b = []
-answers (f ∷ fs) b = answerOf f b ∷ answers fs (next f b)
+unfoldable pub fillAnswers : {S : Type 0} → (Fill → S → Answer) → (Fill → S → S) → List Fill → S → List Answer
+fillAnswers answer step [] s = []
+fillAnswers answer step (f ∷ fs) s = answer f s ∷ fillAnswers answer step fs (step f s)
+
+-- the same of the model
+abbrev pub run : List Fill → Model → Model
+run fs b = afterFills next fs b
+
+abbrev pub answers : List Fill → Model → List Answer
+answers fs b = fillAnswers answerOf next fs b
 
 -- the model with every null valued
 abbrev pub valued : Valuation → Model → Model

@@ -19,14 +19,14 @@ use Rattle.instance.specs.Rows.{areCells, rowsStand, wordsOf, rowsFrom}
 use Rattle.instance.specs.Sound.{sound, rows, headerFor}
 use Rattle.calculus.proofs.Bools.{both}
 use Rattle.calculus.proofs.Cells.{cell-below}
-use Rattle.instance.proofs.Rows.{row-parts, words-back, stand-rows, parts}
-use Rattle.instance.proofs.Headers.{sound-header}
+use Rattle.instance.proofs.Rows.{row-parts, words-back, stand-rows}
 use Rattle.card.specs.Parse.{read}
 use Rattle.card.specs.Format.{written, Card, readCard}
 use Rattle.card.specs.Blanks.{blanksIn, blanks, highestIn, highest, numbered, numberedRows}
 use Rattle.card.specs.Encode.{recordsBytes, cardBytes, encoded, encodedBytes}
 use Rattle.card.specs.Decode.{accepted, decodedFrom, decoded}
 use Rattle.card.proofs.Bytes.{fullRecord, read-records, read-head}
+use Rattle.calculus.specs.All.{all}
 
 -- the rows of a card without blanks are those that were written
 no-blank : (cs : List ℕ) → blanksIn (map written cs) ≡ 0
@@ -51,7 +51,7 @@ numbered-rows m (r ∷ rs) = rw (numbered-full m (r .cells), numbered-rows (m + 
 
 -- and their nulls are at most 200
 highest-in : (cs : List ℕ) → areCells cs ≡ true → highestIn (map written cs) ≤ nulls
-unfolding highestIn areCells
+unfolding highestIn all
 highest-in [] e = omega arith
 highest-in (c ∷ cs) e =
     let l : c ≤ 1000200 = cell-below c (both (isCell c) _ e .0) in

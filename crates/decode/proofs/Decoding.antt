@@ -15,7 +15,7 @@ use Rattle.calculus.specs.Cell.{nulls}
 use Rattle.calculus.specs.Refusal.{bytes-left-over, nulls-exhausted, no-room}
 use Rattle.instance.specs.declared.header.Header.{Header}
 use Rattle.instance.specs.Header.{aritiesStand, maxColumns, maxWords}
-use Rattle.instance.specs.Insert.{hasRoom}
+use Rattle.instance.specs.Room.{hasRoom}
 use Rattle.instance.specs.Rows.{wordsOf}
 use Rattle.decode.specs.declared.measure.Total.{Total}
 use Rattle.decode.specs.declared.measure.Needed.the-variants as needed

@@ -41,20 +41,9 @@ unfoldable pub readWritten : ℕ → List ℕ → Parsed (List ℕ)
 readWritten zero bs = read [] bs
 readWritten (suc k) bs = andThen (readField bs) (λ c bs. andThen (readWritten k bs) (λ cs bs. read (c ∷ cs) bs))
 
--- the highest null among cells, 0 where there is none
-unfoldable pub highestOf : List ℕ → ℕ
-highestOf [] = 0
-highestOf (c ∷ cs) = max (markOf c) (highestOf cs)
-
 unfoldable pub measuredFields : Parsed (List ℕ) → Answer
 measuredFields (read cs bs) = Done (highestOf cs)
 measuredFields (refused r) = Refused r
-
--- the fields that are written
-unfoldable pub writtenOf : List Field → List ℕ
-writtenOf [] = []
-writtenOf (written c ∷ fs) = c ∷ writtenOf fs
-writtenOf (blank ∷ fs) = writtenOf fs
 
 unfoldable pub measuredRecord : Parsed Record → Measured
 measuredRecord (read r bs) = measured.Record (length (r .fields)) (length (writtenOf (r .fields))) (highestIn (r .fields))

@@ -1,7 +1,7 @@
 // Reading a card into an instance.
 ghost use mathlib.Core.Path.{_≡_};
 ghost use Rattle.calculus.specs.declared.answer.Answer.the-variants.{Done, Refused};
-ghost use Rattle.instance.specs.Insert.{hasRoom};
+ghost use Rattle.instance.specs.Room.{hasRoom};
 ghost use Rattle.calculus.specs.Answer.{Tells};
 ghost use Rattle.card.specs.Decode.{decoded, noHeader};
 use calculus::answer::Answer;

@@ -17,7 +17,7 @@ use Rattle.calculus.proofs.Answers.{two-demands, tells}
 use Rattle.instance.specs.declared.header.Header.{Header}
 use Rattle.instance.specs.Header.{maxRelations}
 use Rattle.instance.specs.Sound.{sound, rows}
-use Rattle.instance.proofs.Rows.{headed, parts}
+use Rattle.instance.proofs.Rows.{headed}
 use Rattle.card.specs.Encode.{headBytes, recordsBytes, cardBytes, encoded, encodedBytes}
 use Rattle.instance.proofs.Parts.{part-to-end, put-to-end}
 use Rattle.encode.proofs.RecordSteps.{records-bytes, records-size}

@@ -12,7 +12,7 @@ use Rattle.instance.specs.Header.{arityOf}
 use Rattle.instance.specs.Rows.{wordsStand, rowsFrom}
 use Rattle.calculus.proofs.Bools.{both}
 use Rattle.instance.proofs.Rows.{cells-first}
-use Rattle.instance.proofs.ScanSteps.{rest}
+use Rattle.calculus.proofs.Lists.{rest}
 use Rattle.card.specs.Encode.{fieldBytes, fieldsBytes, fullMap, recordsBytes}
 
 -- the bytes of the records, from a place on where `left` cells of a row are still to come

@@ -5,7 +5,7 @@ use mathlib.Core.List.{List, [], _∷_, _++_}
 use lib.ListN.{length, getD, take, drop}
 use lib.Dec.{eqb}
 use Rattle.calculus.specs.declared.answer.Answer.{Answer}
-use Rattle.calculus.specs.Answer.{demand}
+use Rattle.calculus.specs.Demand.{demand}
 use Rattle.calculus.specs.Refusal.{unsound}
 use Rattle.instance.specs.declared.header.Header.{Header}
 use Rattle.instance.specs.Header.{maxRelations}

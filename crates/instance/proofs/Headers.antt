@@ -1,17 +1,18 @@
--- The header of rows: it makes them a sound instance, a sound instance has it, and a map of cells leaves it as it is. Assumes nothing.
+-- The header of rows: it makes them a sound instance, and rows of the same relations and lengths have the same. Assumes nothing.
 use Prim.Native.Nat.{ℕ, _≤_}
-use mathlib.Core.Path.{_≡_, refl, ap, _∙_}
+use mathlib.Core.Path.{_≡_, refl, ap}
 use mathlib.Core.Bool.{true}
 use mathlib.Core.List.{List, [], _∷_, _++_, map}
 use native.Mathlib.Omega.{arith}
+use borrow.Author.Tests.{le-leb}
 use lib.ListN.{length, take, length-append, length-map}
-use lib.Seq.{take-at, length-take-le}
+use lib.Seq.{take-at}
 use Rattle.calculus.specs.Row.{Row, mapRow}
 use Rattle.instance.specs.declared.header.Header.{Header}
-use Rattle.instance.specs.Header.{headerStands, maxWords}
+use Rattle.instance.specs.Header.{headerStands, maxWords, headerWith}
 use Rattle.instance.specs.Rows.{rowsStand, wordsOf}
 use Rattle.instance.specs.Sound.{sound, rows, headerFor}
-use Rattle.instance.proofs.Rows.{rows-back, rows-back-stand, stand-rows, words-back, parts, parts-sound}
+use Rattle.instance.proofs.Rows.{rows-back, rows-back-stand}
 
 -- a sound instance, and its rows
 pub record Holds (h : Header) (ws : List ℕ) (rs : List Row) : Type 0 where
@@ -21,45 +22,39 @@ pub record Holds (h : Header) (ws : List ℕ) (rs : List Row) : Type 0 where
 -- Rows that stand, as words that any others may follow, are a sound instance under their header.
 pub made : (n : ℕ) (ars : List ℕ) (rs : List Row) (back : List ℕ) → headerStands n ars ≡ true → length (wordsOf rs) ≤ maxWords
     → rowsStand n ars rs ≡ true → Holds (headerFor n ars rs) (wordsOf rs ++ back) rs
-unfolding rows
+unfolding sound rows
 made n ars rs back head few stand =
     let e = take-at (wordsOf rs) back (length (wordsOf rs)) refl in
+    let within : length (wordsOf rs) ≤ length (wordsOf rs ++ back) = rw length-append (omega arith) in
     record {
-      stands = parts-sound (headerFor n ars rs) (wordsOf rs ++ back) record {
-        header = head;
-        few = few;
-        within = rw length-append (omega arith);
-        words = rw e (rows-back-stand n ars rs stand);
-      };
+      stands = simp (head, le-leb _ _ few, le-leb _ _ within, e, rows-back-stand n ars rs stand);
       holds = rw e (rows-back n ars rs stand);
     }
 
--- the rows of a sound instance stand, their words are those in use, and its header is theirs
-module _ (h : Header) (ws : List ℕ) (e : sound h ws ≡ true) where
-  pub sound-rows : rowsStand (h .relations) (h .arities) (rows h ws) ≡ true
-  unfolding rows
-  sound-rows = stand-rows _ _ 0 _ (parts h ws e .words)
+-- the header of the relations and of the rows' number of words
+pub header-same : (h : Header) (rs : List Row) → length (wordsOf rs) ≡ h .used → headerFor (h .relations) (h .arities) rs ≡ h
+header-same h rs e = ap (headerWith (h .relations) (h .arities)) e
 
-  pub sound-words : wordsOf (rows h ws) ≡ take (h .used) ws
-  unfolding rows
-  sound-words = words-back (h .relations) (h .arities) 0 (take (h .used) ws) (parts h ws e .words)
+-- the same relations and lengths, row by row
+unfoldable pub Alike : List Row → List Row → Type 0
+Alike [] [] = Unit
+Alike [] (s ∷ ss) = ⊥
+Alike (r ∷ rs) [] = ⊥
+Alike (r ∷ rs) (s ∷ ss) = (r .relation ≡ s .relation) × (length (r .cells) ≡ length (s .cells)) × Alike rs ss
 
-  pub sound-header : headerFor (h .relations) (h .arities) (rows h ws) ≡ h
-  unfolding rows
-  sound-header =
-      ap (λ (u : ℕ). record { relations = h .relations; arities = h .arities; used = u })
-      (ap length sound-words ∙ length-take-le (h .used) ws (parts h ws e .within))
+pub words-alike : (rs ss : List Row) → Alike rs ss → length (wordsOf rs) ≡ length (wordsOf ss)
+unfolding Alike wordsOf
+words-alike [] [] a = refl
+words-alike [] (s ∷ ss) a = absurd a
+words-alike (r ∷ rs) [] a = absurd a
+words-alike (r ∷ rs) (s ∷ ss) a =
+    omega (arith, length-append (r .cells) (wordsOf rs), length-append (s .cells) (wordsOf ss), a .1, words-alike rs ss (a .2))
 
--- ---- a map of cells
+pub header-alike : (n : ℕ) (ars : List ℕ) (rs ss : List Row) → Alike rs ss → headerFor n ars rs ≡ headerFor n ars ss
+header-alike n ars rs ss a = header-same (headerFor n ars ss) rs (words-alike rs ss a)
 
-words-length : (f : ℕ → ℕ) (rs : List Row) → length (wordsOf (map (mapRow f) rs)) ≡ length (wordsOf rs)
-unfolding wordsOf
-words-length f [] = refl
-words-length f (r ∷ rs) =
-    let a = length-append (map f (r .cells)) (wordsOf (map (mapRow f) rs)) in
-    let b = length-append (r .cells) (wordsOf rs) in
-    omega (arith, length-map (r .cells) f, words-length f rs)
-
-pub header-map : (n : ℕ) (ars : List ℕ) (f : ℕ → ℕ) (rs : List Row) → headerFor n ars (map (mapRow f) rs) ≡ headerFor n ars rs
-header-map n ars f rs =
-    ap (λ (u : ℕ). record { relations = n; arities = ars; used = u }) (words-length f rs)
+-- a map of cells leaves relations and lengths as they are
+pub map-alike : (f : ℕ → ℕ) (rs : List Row) → Alike (map (mapRow f) rs) rs
+unfolding Alike
+map-alike f [] = tt
+map-alike f (r ∷ rs) = (refl, length-map (r .cells) f, map-alike f rs)

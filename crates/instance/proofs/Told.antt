@@ -6,8 +6,8 @@ use mathlib.Core.List.{List}
 use lib.ListN.{length}
 use lib.Dec.{leb}
 use Rattle.calculus.specs.declared.answer.Answer.{Answer}
-use Rattle.calculus.specs.declared.answer.Answer.the-variants.{Done}
-use Rattle.calculus.specs.Answer.{demand, Tells}
+use Rattle.calculus.specs.declared.answer.Answer.the-variants.{Done, Refused}
+use Rattle.calculus.specs.Answer.{Tells}
 use Rattle.calculus.specs.Cell.{nulls}
 use Rattle.calculus.specs.Fill.{held}
 use Rattle.calculus.specs.Refusal.{unsound, output-too-short}
@@ -20,6 +20,7 @@ use Rattle.instance.specs.Substitute.{substituted}
 use Rattle.instance.specs.NullCounts.{counted}
 use Rattle.instance.proofs.Accepted.{insert-accepted, substitute-accepted}
 use Rattle.instance.proofs.Kept.{entered-used}
+use Rattle.calculus.specs.Demand.{demand}
 
 module _ (h : Header) (ws : List ℕ) where
   pub scan-told : {r : Scanned} → r ≡ scanned h ws → (r ≡ scanned h ws) × Tells (scannedAs r) (soundAnswer h ws) (length (rows h ws))
@@ -28,7 +29,7 @@ module _ (h : Header) (ws : List ℕ) where
       let n = length (rows h ws) in
       (e, tells n (ap scannedAs e ∙ is (sound h ws) n) (λ k d. let f : Done n ≡ Done k = demand-done (sound h ws) unsound (Done n) k d .1 in cc))
     where
-      is : (b : Bool) (n : ℕ) → scannedAs (tally b n) ≡ demand b unsound (Done n)
+      is : (b : Bool) (n : ℕ) → scannedAs (tally b n) ≡ demand b (Refused unsound) (Done n)
       is true n = refl
       is false n = refl
 

@@ -8,7 +8,8 @@ ghost use Rattle.instance.specs.Insert.{inserted, insertedHeader, insert
 use super::cells::are_cells;
 use super::header::Header;
 use super::header::Stored;
-use super::header::WORDS;
+use super::header::header_with;
+use super::room::has_room;
 use super::scan::Scanned;
 use super::scan::scan;
 use calculus::answer::Answer;
@@ -35,10 +36,7 @@ fn check_insert(header: Header, plot: &[u32], relation: u32, cells: &[u32]) -> A
         return Answer::Refused(NOT_A_CELL);
     }
     let used = header.used as usize + (1 + cells.len());
-    if WORDS < used {
-        return Answer::Refused(NO_ROOM);
-    }
-    if plot.len() < used {
+    if !has_room(used, plot.len()) {
         return Answer::Refused(NO_ROOM);
     }
     Answer::Done(used as u32)
@@ -57,7 +55,7 @@ fn write_row(part: &mut [u32], relation: u32, cells: &[u32])
     }
 }
 
-// Enters a row behind the words in use.
+// Enters a row after the words in use.
 pub fn insert(header: Header, plot: &mut [u32], relation: u32, cells: &[u32]) -> Stored
     ensures answer { λ r. ⌜ r .answer ≡ inserted header (now (plot .entry)) relation (now (cells .entry)) ⌝ }
     ensures header { λ r. ⌜ r .header ≡ insertedHeader header (now (plot .entry)) relation (now (cells .entry)) ⌝ }
@@ -70,8 +68,8 @@ pub fn insert(header: Header, plot: &mut [u32], relation: u32, cells: &[u32]) ->
     };
     let at = header.used as usize;
     write_row(&mut plot[at..], relation, cells);
-    let mut grown = header;
-    grown.used = used;
+    let arities = header.arities;
+    let grown = header_with(header.relations, arities, used);
     Stored {
         answer,
         header: grown,

@@ -3,5 +3,6 @@ pub mod cells;
 pub mod header;
 pub mod insert;
 pub mod null_counts;
+pub mod room;
 pub mod scan;
 pub mod substitute;

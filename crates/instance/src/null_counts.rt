@@ -5,7 +5,7 @@ ghost use lib.ListN.{length};
 ghost use Rattle.calculus.specs.Answer.{Tells};
 ghost use Rattle.calculus.specs.Cell.{nulls};
 ghost use Rattle.instance.specs.Header.{maxWords};
-ghost use Rattle.instance.specs.NullCounts.{counted, countedWords, countsFrom};
+ghost use Rattle.instance.specs.NullCounts.{counted, countedWords, nullsIn};
 use super::header::Header;
 use super::scan::Scanned;
 use super::scan::scan;
@@ -18,7 +18,7 @@ use calculus::refusal::UNSOUND;
 // The count of each null in words, in one pass.
 fn count_words(words: &[u32]) -> [u32; 200]
     requires { ⌜ length (now words) ≤ maxWords ⌝ }
-    ensures { λ r. ⌜ r ≡ countsFrom 1 nulls (now (words .entry)) ⌝ }
+    ensures { λ r. ⌜ r ≡ nullsIn (now (words .entry)) ⌝ }
 {
     let mut counts = [0u32; 200];
     let mut i = 0;

@@ -25,10 +25,11 @@ use Rattle.line.specs.Decimal.{digitsIn}
 use Rattle.line.specs.Text.{lineWith}
 use Rattle.line.specs.Number.{readDigits, readNumbers, readBytes}
 use Rattle.line.specs.Fields.{readFields, readInput}
+use Rattle.calculus.specs.All.{all}
 
 abbrev pub input : List ℕ
 input = 0 ∷ 12 ∷ 2 ∷ 1 ∷ 1 ∷ 0 ∷ 2 ∷ 0 ∷ 1 ∷ 0 ∷ 0 ∷ 201 ∷ 1 ∷ 0 ∷ 0 ∷ 32 ∷ 0 ∷ 0 ∷ 0 ∷ 4 ∷ 0 ∷ 0 ∷ 0 ∷ 1 ∷ 0 ∷ 0 ∷ 0 ∷ 2 ∷ 0 ∷ 0 ∷ 0 ∷ 0 ∷ 0 ∷ 0 ∷ 0 ∷ 0 ∷ 0 ∷ 0 ∷ 0 ∷ 0 ∷ 0 ∷ 0 ∷ 0 ∷ 0 ∷ 0 ∷ 0 ∷ 0 ∷ 0 ∷ 0 ∷ 0 ∷ 0 ∷ 1 ∷ 0 ∷ 0 ∷ 0 ∷ 0 ∷ 0 ∷ 30 ∷ 132 ∷ 128 ∷ 0 ∷ 0 ∷ 0 ∷ 0 ∷ 0 ∷ 0 ∷ 0 ∷ 0 ∷ 0 ∷ 0 ∷ 0 ∷ 0 ∷ 0 ∷ 0 ∷ 0 ∷ 0 ∷ 0 ∷ 0 ∷ 0 ∷ 0 ∷ 0 ∷ 0 ∷ 0 ∷ 3 ∷ 0 ∷ 0 ∷ 0 ∷ 3 ∷ 0 ∷ 0 ∷ 0 ∷ 0 ∷ 0 ∷ 0 ∷ 0 ∷ 0 ∷ 0 ∷ 0 ∷ 0 ∷ 0 ∷ 0 ∷ 0 ∷ 0 ∷ 0 ∷ 0 ∷ 0 ∷ 0 ∷ 0 ∷ 0 ∷ 0 ∷ 0 ∷ 0 ∷ 0 ∷ 0 ∷ 0 ∷ 1 ∷ 0 ∷ 0 ∷ 0 ∷ 1 ∷ 0 ∷ 30 ∷ 132 ∷ 128 ∷ 0 ∷ 0 ∷ 0 ∷ 0 ∷ 0 ∷ 0 ∷ 0 ∷ 0 ∷ 0 ∷ 0 ∷ 0 ∷ 0 ∷ 0 ∷ 0 ∷ 0 ∷ 0 ∷ 0 ∷ 0 ∷ 0 ∷ 0 ∷ 1 ∷ 0 ∷ 0 ∷ 201 ∷ 0 ∷ 0 ∷ 0 ∷ 100 ∷ []
 
 pub whole-case : lineOf input ≡ 117 ∷ 110 ∷ 107 ∷ 110 ∷ 111 ∷ 119 ∷ 110 ∷ 32 ∷ 52 ∷ 10 ∷ []
-unfolding eval without distinct tuples some identical stands equality unifiesWith cellsOf isCell sound rows aritiesStand headerStands areCells wordsStand rowsFrom wordsOf accepted decodedFrom decoded blanksIn blanks highestIn highest numbered numberedRows readByte readArities readCount readHead readField readCardFields readRecord readRecords readCard termOf termsAt formulaAt zerosFrom checkTerms checkChild checkNode checkNodes checkQuery rightLength kindOf within askable ask blank askedCard answered lineOf digitsIn lineWith readDigits readNumbers readBytes readFields readInput
+unfolding eval without distinct tuples some identical stands equality unifiesWith cellsOf isCell sound rows aritiesStand headerStands all wordsStand rowsFrom wordsOf accepted decodedFrom decoded blanksIn blanks highestIn highest numbered numberedRows readByte readArities readCount readHead readField readCardFields readRecord readRecords readCard termOf termsAt formulaAt zerosFrom checkTerms checkChild checkNode checkNodes checkQuery rightLength kindOf within askable ask blank askedCard answered lineOf digitsIn lineWith readDigits readNumbers readBytes readFields readInput
 whole-case = refl

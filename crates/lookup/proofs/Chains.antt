@@ -9,7 +9,7 @@ use borrow.Author.Tests.{eqb-true, eqb-false, eq-eqb, ne-eqb}
 use lib.ListN.{length, getD, set, take, replicate, length-set, length-replicate, getD-replicate}
 use lib.Seq.{take-suc, take-set-le, drop-set-lt, getD-set-same, getD-set-other}
 use lib.Dec.{eqb}
-use Rattle.lookup.specs.Listed.{listed}
+use Rattle.calculus.specs.Listed.{listed}
 use Rattle.lookup.specs.Chains.{linkUnit, buckets, bucketOf, valueOf, linkOf, valuesOf, Chain, Linked, Chained, Added}
 
 -- one value behind others: the cell, or another

@@ -5,7 +5,7 @@ use mathlib.Core.List.{List, [], _∷_}
 use native.Mathlib.Omega.{arith}
 use lib.ListN.{length, getD, take, drop, length-take, length-drop, drop-of-length-le}
 use lib.Seq.{getD-take, getD-drop, length-take-le}
-use Rattle.instance.proofs.ScanSteps.{rest}
+use Rattle.calculus.proofs.Lists.{rest}
 
 -- from element i on: that element, and those from the next on
 pub first-step : (xs : List ℕ) (n i : ℕ) → n ≤ length xs → i < n → drop i (take n xs) ≡ getD xs i 0 ∷ drop (i + 1) (take n xs)

@@ -13,8 +13,8 @@ use lib.Dec.{eqb}
 use Rattle.calculus.specs.Row.{Row}
 use Rattle.calculus.specs.Closed.{tuples}
 use Rattle.instance.specs.Header.{maxRelations}
-use Rattle.lookup.specs.Counts.{rowCountsFrom, rowCounts}
-use Rattle.lookup.proofs.Tuples.{tuples-here, tuples-other}
+use Rattle.instance.specs.RowCounts.{rowCounts}
+use Rattle.calculus.proofs.Tuples.{tuples-here, tuples-other}
 
 -- the counts of rows rs, with the rows rest still to come
 pub record Counted (rs : List Row) (counts : List ℕ) (rest : List Row) : Type 0 where

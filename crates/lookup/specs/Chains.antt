@@ -5,7 +5,7 @@ use mathlib.Core.Path.{_≡_}
 use mathlib.Core.Bool.{cond}
 use mathlib.Core.List.{List, [], _∷_, _++_, map}
 use lib.ListN.{length, getD, take, drop}
-use Rattle.lookup.specs.Listed.{listed}
+use Rattle.calculus.specs.Listed.{listed}
 
 abbrev pub linkUnit : ℕ
 linkUnit = 1048576

@@ -4,7 +4,7 @@ ghost use Prim.Native.Nat.{_≤_, _<_};
 ghost use mathlib.Core.List.{map};
 ghost use lib.ListN.{length};
 ghost use Rattle.instance.specs.Header.{maxWords};
-ghost use Rattle.lookup.specs.Listed.{listed};
+ghost use Rattle.calculus.specs.Listed.{listed};
 ghost use Rattle.lookup.specs.Chains.{linkUnit, valueOf, valuesOf, InBucket, Linked, Chained, Added};
 
 // A word is a value and so many times its link: cells are below 2^20, and a link, a place among at most 4,095, fits the other 12 bits.

@@ -1,8 +1,8 @@
 // How many rows each relation has.
 ghost use mathlib.Core.Path.{_≡_};
 ghost use Rattle.instance.specs.Rows.{rowsFrom};
-ghost use Rattle.lookup.specs.Standing.{Standing};
-ghost use Rattle.lookup.specs.Counts.{rowCounts};
+ghost use Rattle.instance.specs.Standing.{Standing};
+ghost use Rattle.instance.specs.RowCounts.{rowCounts};
 
 // The number of rows of each of eight relations, in one pass from row to row.
 pub fn row_counts(words: &[u32], arities: &[u32; 8], relations: u32) -> [u32; 8]

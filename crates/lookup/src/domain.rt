@@ -6,7 +6,7 @@ ghost use lib.ListN.{length, drop};
 ghost use Rattle.calculus.specs.Row.{cellsOf};
 ghost use Rattle.calculus.specs.Domain.{domain};
 ghost use Rattle.instance.specs.Rows.{rowsFrom};
-ghost use Rattle.lookup.specs.Standing.{Standing};
+ghost use Rattle.instance.specs.Standing.{Standing};
 use super::chain::add_value;
 use super::chain::unlink;
 

@@ -6,7 +6,7 @@ ghost use Rattle.calculus.specs.Closed.{stands, tuples};
 ghost use Rattle.calculus.specs.KindOne.{MeansStands};
 ghost use Rattle.instance.specs.Header.{arityOf, maxColumns};
 ghost use Rattle.instance.specs.Rows.{rowsFrom};
-ghost use Rattle.lookup.specs.Standing.{Standing};
+ghost use Rattle.instance.specs.Standing.{Standing};
 use super::row::Match;
 use super::row::compare;
 use calculus::truth::Truth;

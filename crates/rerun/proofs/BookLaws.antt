@@ -8,7 +8,7 @@ use Rattle.calculus.specs.declared.answer.Answer.the-variants.{Done, Refused}
 use Rattle.calculus.specs.Answer.{after}
 use Rattle.calculus.specs.Cell.{put}
 use Rattle.calculus.specs.Fill.{substitute}
-use Rattle.calculus.specs.Model.{Fill, Model, answerOf, next, run}
+use Rattle.calculus.specs.Model.{Fill, Model, answerOf, next, run, afterFills}
 use Rattle.instance.specs.declared.header.Header.{Header}
 use Rattle.instance.specs.Sound.{sound}
 use Rattle.instance.specs.Substitute.{substitutedWords}
@@ -28,7 +28,7 @@ next-candidate f b = go (answerOf f b)
 
 module _ (h : Header) (start : List ℕ) where
   follows-candidate : (fs : List Fill) (ws : List ℕ) (b : Model) → Follows h start ws b → filledCandidate h fs ws (b .candidate) ≡ run fs b .candidate
-  unfolding filledCandidate run
+  unfolding filledCandidate afterFills
   follows-candidate [] ws b g = refl
   follows-candidate (f ∷ fs) ws b g =
       ap (λ (a : Answer). filledCandidate h fs (substitutedWords h ws (f .mark) (f .cell)) (after a (map (put (f .mark) (f .cell)) (b .candidate)) (b .candidate)))

@@ -17,7 +17,7 @@ use Rattle.calculus.specs.Model.{run}
 use Rattle.instance.specs.declared.header.Header.{Header}
 use Rattle.instance.specs.Header.{maxColumns}
 use Rattle.instance.specs.Sound.{sound, rows}
-use Rattle.instance.specs.Run.{filledWords, fillAnswers, modelOf}
+use Rattle.instance.specs.Run.{filledWords, modelOf}
 use Rattle.instance.proofs.Run.{ran}
 use Rattle.query.proofs.Passed as passed
 use Rattle.answer.specs.declared.asked.Asked.{Asked}

@@ -10,10 +10,10 @@ use Rattle.calculus.specs.declared.answer.Answer.{Answer}
 use Rattle.calculus.specs.declared.answer.Answer.the-variants.{Done, Refused}
 use Rattle.calculus.specs.Answer.{after}
 use Rattle.calculus.specs.Cell.{put}
-use Rattle.calculus.specs.Model.{Fill}
+use Rattle.calculus.specs.Model.{Fill, afterFills, fillAnswers}
 use Rattle.instance.specs.declared.header.Header.{Header}
 use Rattle.instance.specs.Substitute.{substituted, substitutedWords}
-use Rattle.instance.specs.Run.{filledWords, fillAnswers}
+use Rattle.instance.specs.Run.{filledWords}
 use Rattle.rerun.specs.Fills.{fillsOf, filledCandidate, answerPair, answerWords, stored}
 
 plus-two : (n : ℕ) → n + 2 ≡ suc (suc n)
@@ -83,7 +83,7 @@ module _ (h : Header) (fills ws₀ cs₀ out₀ : List ℕ) where
         cs′ ≡ after (substituted h ws (getD fills i 0) (getD fills (i + 1) 0)) (map (put (getD fills i 0) (getD fills (i + 1) 0)) cs) cs →
         out′ ≡ take i out ++ (answerPair a ++ drop 2 (drop i out)) →
         Going h fills ws₀ cs₀ out₀ ws′ cs′ out′ (i + 2)
-    unfolding filledWords filledCandidate fillAnswers
+    unfolding afterFills filledCandidate fillAnswers
     step l room ws′ cs′ out′ a ea ew ec eo =
         let f : Fill = record { mark = getD fills i 0; cell = getD fills (i + 1) 0 } in
         let fs = fillsOf (drop (i + 2) fills) in
@@ -104,7 +104,7 @@ module _ (h : Header) (fills ws₀ cs₀ out₀ : List ℕ) where
     pub finish :
         length fills ≤ i + 1 →
         (ws ≡ filledWords h (fillsOf fills) ws₀) × ((cs ≡ filledCandidate h (fillsOf fills) ws₀ cs₀) × (out ≡ stored (fillAnswers h (fillsOf fills) ws₀) out₀))
-    unfolding filledWords filledCandidate fillAnswers answerWords
+    unfolding afterFills filledCandidate fillAnswers answerWords
     finish l =
         let none = no-fill fills i l in (
           ap (λ (x : List Fill). filledWords h x ws) (sym none) ∙ g .words,

@@ -8,7 +8,7 @@ use lib.Dec.{leb}
 use Rattle.calculus.specs.declared.answer.Answer.{Answer}
 use Rattle.calculus.specs.declared.answer.Answer.the-variants as answer
 use Rattle.calculus.specs.declared.truth.Truth.{Truth}
-use Rattle.calculus.specs.Answer.{demand, after}
+use Rattle.calculus.specs.Answer.{after}
 use Rattle.calculus.specs.Refusal.{output-too-short}
 use Rattle.calculus.specs.Model.{Model, run, answers, asked as outcome}
 use Rattle.instance.specs.declared.header.Header.{Header}

@@ -7,7 +7,7 @@ ghost use Rattle.calculus.specs.Answer.{after};
 ghost use Rattle.calculus.specs.Cell.{put};
 ghost use Rattle.instance.specs.Header.{maxWords};
 ghost use Rattle.instance.specs.Substitute.{substituted, substitutedWords};
-ghost use Rattle.instance.specs.Run.{filledWords, fillAnswers};
+ghost use Rattle.instance.specs.Run.{filledWords};
 ghost use Rattle.rerun.specs.Fills.{fillsOf, filledCandidate, answerPair, stored};
 use calculus::answer::Answer;
 use instance::header::Header;

@@ -11,7 +11,8 @@ use lib.Seq.{length-take-le}
 use Rattle.instance.specs.declared.header.Header.{Header}
 use Rattle.instance.specs.Header.{maxRelations}
 use Rattle.instance.specs.Sound.{sound, rows}
-use Rattle.instance.proofs.Rows.{headed, parts, scanned-sound, scanned-unsound, scanned-rows}
+use Rattle.instance.proofs.Rows.{headed}
+use Rattle.instance.proofs.Sound.{scanned-sound, scanned-unsound, scanned-rows}
 use Rattle.card.specs.Encode.{cardBytes}
 use Rattle.encode.proofs.RecordSteps.{more-stand}
 use Rattle.encode.proofs.Encoding.{all-written, record-size, card-size, refused-unsound, refused-short, done, encode-told}

@@ -6,7 +6,7 @@ use native.Mathlib.Omega.{arith}
 use lib.ListN.{length, take, drop, getD, set, length-set, length-take, length-append}
 use lib.Seq.{drop-set-lt, length-take-le, getD-take, drop-length}
 use Rattle.instance.proofs.Rows.{headed}
-use Rattle.instance.proofs.ScanSteps.{rest}
+use Rattle.calculus.proofs.Lists.{rest}
 use Rattle.card.proofs.Stores.{Written, begin, store, anew, finish}
 use Rattle.encode.proofs.write_head.Statement.{statement}
 use Rattle.encode.proofs.write_head.Tie as tie

@@ -15,11 +15,10 @@ use Rattle.instance.specs.declared.scan.Scanned.the-variants.{Rows}
 use Rattle.instance.specs.Header.{maxRelations}
 use Rattle.instance.specs.Rows.{rowsFrom}
 use Rattle.instance.specs.Sound.{sound, rows, scanned}
-use Rattle.instance.proofs.Rows.{parts, scanned-sound, scanned-unsound, scanned-rows}
+use Rattle.instance.proofs.Sound.{scanned-sound, scanned-unsound, scanned-rows}
 use Rattle.query.specs.Scope.{Scopes}
 use Rattle.query.specs.Check.{checkQuery, passed}
 use Rattle.query.proofs.Passed.{passed-number}
-use Rattle.lookup.proofs.Entry.{sound-standing}
 use Rattle.answer.proofs.RerunLaws.{Asks}
 use Rattle.answer.proofs.AskLaws.{unsound-asked, check-asked, buffer-asked, answered, cells-count, made-ready, listed-part}
 use Rattle.answer.proofs.Told.{ask-told}

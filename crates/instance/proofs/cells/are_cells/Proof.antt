@@ -9,9 +9,11 @@ use borrow.Author.Tests.{not-true, not-false}
 use lib.ListN.{length, drop}
 use lib.Seq.{drop-length}
 use Rattle.instance.specs.Rows.{areCells}
-use Rattle.instance.proofs.ScanSteps.{cells-rest}
+use Rattle.calculus.proofs.All.{all-rest}
 use Rattle.instance.proofs.cells.are_cells.Statement.{statement}
 use Rattle.instance.proofs.cells.are_cells.Tie as tie
+use Rattle.calculus.specs.All.{all}
+use Rattle.calculus.specs.Cell.{isCell}
 
 abbrev Inv-loop : tie.InvT-loop
 Inv-loop cells i₀ i = (i ≤ length cells) × (areCells cells ≡ areCells (drop i cells))
@@ -41,7 +43,7 @@ module _ (c : tie.After-is-cell Inv-loop μ-loop) where
 
   seen : (b : Bool) → c .is-cell .result ≡ b → areCells cs ≡ b && areCells (drop (i + 1) cs)
   seen b e =
-      c .before .before .before .loop .inv .1 ∙ cells-rest cs i (omega arith)
+      c .before .before .before .loop .inv .1 ∙ all-rest isCell cs i (omega arith)
       ∙ ap (λ (b : Bool). b && areCells (drop (i + 1) cs)) (sym (c .is-cell .ensures) ∙ e)
 
 returns : tie.Need-returns Inv-loop μ-loop
@@ -57,7 +59,7 @@ loop-again : tie.Need-loop-again Inv-loop μ-loop
 loop-again c = (omega arith, seen (c .before) true (not-false _ (c .if1 .left)))
 
 returns-2 : tie.Need-returns-2 Inv-loop μ-loop
-unfolding areCells
+unfolding all
 returns-2 c =
     let cs = c .before .before .before .args .cells .now in
     let e : c .before .loop .i ≡ length cs = omega arith in

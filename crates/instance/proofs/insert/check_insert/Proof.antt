@@ -4,19 +4,24 @@ use mathlib.Core.Path.{_≡_, sym, _∙_}
 use mathlib.Core.Bool.{Bool, true, false}
 use mathlib.Core.List.{List}
 use native.Mathlib.Omega.{arith}
-use borrow.Author.Tests.{lt-ltb, le-ltb, le-leb, lt-leb, eq-eqb, ne-eqb, not-true, not-false}
+use borrow.Author.Tests.{lt-ltb, le-ltb, le-leb, lt-leb, eq-eqb, ne-eqb, not-true, not-false, leb-true}
 use lib.ListN.{length}
-use Rattle.calculus.specs.declared.answer.Answer.the-variants.{Done}
-use Rattle.calculus.specs.Answer.{demand}
+use Rattle.calculus.specs.declared.answer.Answer.the-variants.{Done, Refused}
+use Rattle.calculus.specs.Demand.{demand}
 use Rattle.calculus.specs.Refusal.{not-a-cell, no-room}
 use Rattle.instance.specs.declared.header.Header.{Header}
 use Rattle.instance.specs.Rows.{areCells}
 use Rattle.instance.specs.Sound.{sound}
-use Rattle.instance.specs.Insert.{hasRoom, inserted}
-use Rattle.instance.proofs.Rows.{headed, parts, scanned-sound, scanned-unsound}
+use Rattle.instance.specs.Insert.{inserted, enterable}
+use Rattle.instance.specs.Room.{hasRoom}
+use Rattle.instance.proofs.Rows.{headed}
+use Rattle.instance.proofs.Sound.{scanned-sound, scanned-unsound, sound-gives}
 use borrow.Author.Needs.{needs}
 use Rattle.instance.proofs.insert.check_insert.Statement.{statement}
 use Rattle.instance.proofs.insert.check_insert.Tie as tie
+use Rattle.calculus.proofs.Bools.{both}
+use lib.Dec.{leb}
+use Rattle.instance.specs.Header.{maxWords}
 
 scan-requires : tie.Need-scan-requires
 scan-requires c κs = search needs
@@ -39,24 +44,24 @@ module _ (c : tie.After-enum-told) where
   stands = scanned-sound h ws _ (sym (c .before .before .scan .ensures .0) ∙ c .enum-told .given .1)
 
 returns : tie.Need-returns
-unfolding inserted
+unfolding inserted enterable
 returns c = simp (scanned-unsound _ _ (sym (c .before .before .scan .ensures .0) ∙ c .enum-told2 .given .1))
 
 returns-2 : tie.Need-returns-2
-unfolding inserted
+unfolding inserted enterable
 returns-2 c = simp (stands (c .before .before), le-ltb _ _ (c .if1 .taken))
 
 mul-if2 : tie.Need-mul-if2
 mul-if2 c = search needs
 
 array-read-if2 : tie.Need-array-read-if2
-array-read-if2 c = let p = headed _ _ (parts _ _ (stands (c .before .before .before)) .header) in omega (arith, p .few)
+array-read-if2 c = omega (arith, sound-gives _ _ (stands (c .before .before .before)) .headed .few)
 
 cast-if2 : tie.Need-cast-if2
 cast-if2 c = search needs
 
 returns-3 : tie.Need-returns-3
-unfolding inserted
+unfolding inserted enterable
 returns-3 c = simp (stands (c .before .before .before .before), lt-ltb _ _ (c .before .before .if1 .left), ne-eqb _ _ (c .if2 .taken))
 
 are-cells-requires : tie.Need-are-cells-requires
@@ -77,8 +82,8 @@ module _ (c : tie.After-are-cells) where
   needed = h told .used + (1 + length cells)
 
   so-far : (b : Bool) → c .are-cells .result ≡ b
-      → inserted (h told) (ws told) relation cells ≡ demand b not-a-cell (demand (hasRoom needed (length (ws told))) no-room (Done needed))
-  unfolding inserted
+      → inserted (h told) (ws told) relation cells ≡ demand b (Refused not-a-cell) (demand (hasRoom needed (length (ws told))) (Refused no-room) (Done needed))
+  unfolding inserted enterable
   so-far b e =
       let f : areCells cells ≡ b = sym (c .are-cells .ensures) ∙ e in
       simp (stands told, lt-ltb _ _ (c .before .before .before .if1 .left), eq-eqb _ _ (c .before .if2 .left), f)
@@ -95,21 +100,24 @@ add-used c = search needs
 add-used-2 : tie.Need-add-used-2
 add-used-2 c = search needs
 
+has-room-requires : tie.Need-has-room-requires
+has-room-requires c κs = search needs
+
 returns-5 : tie.Need-returns-5
-returns-5 c = rw (so-far (c .before .before .before) true (not-false _ (c .before .before .if3 .left))) (simp (lt-leb _ _ (c .if4 .taken)))
+returns-5 c =
+    rw (so-far (c .before .before .before .before) true (not-false _ (c .before .before .before .if3 .left)))
+    (simp (sym (c .before .has-room .ensures) ∙ not-true _ (c .if4 .taken)))
+
+cast-t14 : tie.Need-cast-t14
+cast-t14 c =
+    let a = c .before .before .before .before in
+    let room : hasRoom (needed a) (length (ws (told a))) ≡ true = sym (c .before .has-room .ensures) ∙ not-false _ (c .if4 .left) in
+    omega (arith, leb-true (needed a) maxWords (both (leb (needed a) maxWords) (leb (needed a) (length (ws (told a)))) room .0))
 
 returns-6 : tie.Need-returns-6
 returns-6 c =
     rw (so-far (c .before .before .before .before) true (not-false _ (c .before .before .before .if3 .left)))
-    (simp (le-leb _ _ (c .before .if4 .left), lt-leb _ _ (c .if5 .taken)))
-
-cast-t14 : tie.Need-cast-t14
-cast-t14 c = search needs
-
-returns-7 : tie.Need-returns-7
-returns-7 c =
-    rw (so-far (c .before .before .before .before) true (not-false _ (c .before .before .before .if3 .left)))
-    (simp (le-leb _ _ (c .before .if4 .left), le-leb _ _ (c .if5 .left)))
+    (simp (sym (c .before .has-room .ensures) ∙ not-false _ (c .if4 .left)))
 
 pub check-insert-spec : {M : Type 1} → statement M
 check-insert-spec =
@@ -129,7 +137,7 @@ check-insert-spec =
     cast-used
     add-used
     add-used-2
+    has-room-requires
     returns-5
-    returns-6
     cast-t14
-    returns-7)
+    returns-6)

@@ -1,4 +1,4 @@
--- `instance::insert::insert` meets its contract: what check_insert accepts, write_row writes behind the words in use. Assumes nothing.
+-- `instance::insert::insert` meets its contract: what check_insert accepts, write_row writes after the words in use. Assumes nothing.
 use Prim.Native.Nat.{ℕ}
 use mathlib.Core.Path.{_≡_, sym, ap, _∙_}
 use mathlib.Core.List.{List}
@@ -14,6 +14,7 @@ use Rattle.instance.proofs.Told.{insert-told}
 use borrow.Author.Needs.{needs}
 use Rattle.instance.proofs.insert.insert.Statement.{statement}
 use Rattle.instance.proofs.insert.insert.Tie as tie
+use Rattle.instance.specs.Header.{headerWith}
 
 check-insert-requires : tie.Need-check-insert-requires
 check-insert-requires c κs = search needs
@@ -77,18 +78,22 @@ part-write-row-end c = search needs
 write-row-requires : tie.Need-write-row-requires
 write-row-requires c κs = simp (length-take, length-drop) (omega (arith, accepted (c .before) .within))
 
+header-with-requires : tie.Need-header-with-requires
+header-with-requires c κs = search needs
+
 same-length-2 : tie.Need-same-length-2
 same-length-2 c = search needs
 
 returns-2 : tie.Need-returns-2
 unfolding insertedHeader insertedWords
 returns-2 c =
-    let a = c .before .before .before .before in
+    let w = c .before .before .before .before in
+    let a = w .before .before in
     insert-told (h a) (ws a) (r a) (cs a) (
       sym (done a),
       (
-        simp (done a) (ap (λ (n : ℕ). record { relations = h a .relations; arities = h a .arities; used = n }) (entered-used (h a) (ws a) (r a) (cs a) (k a) (accepted a))),
-        simp (done a) (row-put _ (r a) (cs a) (ws a) _ (c .before .before .write-row .ensures)),
+        simp (done a) (c .header-with .ensures ∙ ap (headerWith (h a .relations) (h a .arities)) (entered-used (h a) (ws a) (r a) (cs a) (k a) (accepted a))),
+        simp (done a) (row-put _ (r a) (cs a) (ws a) _ (w .write-row .ensures)),
       ),
     )
 
@@ -107,5 +112,6 @@ insert-spec =
     part-write-row-start
     part-write-row-end
     write-row-requires
+    header-with-requires
     same-length-2
     returns-2)

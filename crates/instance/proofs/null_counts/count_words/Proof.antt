@@ -1,6 +1,6 @@
 -- `instance::null_counts::count_words` meets its contract: the counts have what the words from place i on do not add. Assumes nothing.
 use Prim.Native.Nat.{ℕ, _≤_, _<_, _-_, _+_}
-use mathlib.Core.Path.{_≡_, subst}
+use mathlib.Core.Path.{_≡_, subst, refl}
 use mathlib.Core.Logic.{⊎-elim}
 use mathlib.Core.List.{List, _∷_}
 use native.Mathlib.Omega.{arith}
@@ -9,19 +9,22 @@ use lib.ListN.{length, drop, getD, set}
 use lib.Seq.{drop-length}
 use Rattle.calculus.specs.Cell.{constants, nulls, null}
 use Rattle.instance.specs.Header.{maxWords}
-use Rattle.instance.proofs.ScanSteps.{rest}
-use Rattle.instance.proofs.Counts.{Census, census-starts, census-other, census-null, census-ends, count-le}
+use Rattle.calculus.proofs.Lists.{rest}
+use Rattle.instance.proofs.Counts.{Census, census-other, census-null}
+use Rattle.calculus.proofs.Counts.{count-le}
 use Rattle.instance.proofs.null_counts.count_words.Statement.{statement}
 use Rattle.instance.proofs.null_counts.count_words.Tie as tie
+use Rattle.calculus.proofs.Counting.{counting-starts, counting-ends}
+use Rattle.calculus.specs.Fill.{countOf}
 
 abbrev Inv-loop : tie.InvT-loop
-Inv-loop words counts₀ i₀ counts i = (i ≤ length words) × Census words counts (drop i words)
+Inv-loop words counts₀ i₀ counts i = (i ≤ length words) × Census words (drop i words) counts
 
 abbrev μ-loop : tie.MeasureT-loop
 μ-loop words counts₀ i₀ counts i = length words - i
 
 loop-holds : tie.Need-loop-holds Inv-loop μ-loop
-loop-holds c = (omega arith, census-starts _)
+loop-holds c = (omega arith, counting-starts nulls _)
 
 mul-w : tie.Need-mul-w Inv-loop μ-loop
 mul-w c = omega arith
@@ -64,16 +67,16 @@ module _ (c : tie.In-loop Inv-loop μ-loop) where
   abbrev behind : List ℕ
   behind = drop (c .before .loop .i + 1) ws
 
-  seen : Census ws counts (w ∷ behind)
+  seen : Census ws (w ∷ behind) counts
   seen = rw (rest ws (c .before .loop .i) (omega arith)) at (c .before .loop .inv .1)
 
-  at-null : constants < w → w ≤ constants + nulls → Census ws (set counts place (getD counts place 0 + 1)) behind
+  at-null : constants < w → w ≤ constants + nulls → Census ws behind (set counts place (getD counts place 0 + 1))
   at-null l g =
       let e : w ≡ null (1 + place) = omega arith in
-      census-null ws counts behind place (omega arith) (subst (λ (v : ℕ). Census ws counts (v ∷ behind)) e seen)
+      census-null ws behind counts place (omega arith) (subst (λ (v : ℕ). Census ws (v ∷ behind) counts) e seen)
 
-  at-other : ((k : ℕ) → k < nulls → w ≡ null (1 + k) → ⊥) → Census ws counts behind
-  at-other ne = census-other ws counts behind w ne seen
+  at-other : ((k : ℕ) → k < nulls → w ≡ null (1 + k) → ⊥) → Census ws behind counts
+  at-other ne = census-other ws behind counts w ne seen
 
   below : (k : ℕ) → k < nulls → getD counts k 0 ≤ maxWords
   below k l = omega (arith, c .before .loop .inv .1 .each k l, count-le (null (1 + k)) ws)
@@ -101,10 +104,11 @@ loop-again c =
     )
 
 returns : tie.Need-returns Inv-loop μ-loop
+unfolding countOf
 returns c =
     let ws = c .before .before .args .words .now in
     let e : c .before .loop .i ≡ length ws = omega arith in
-    census-ends ws _ (rw (e, drop-length) at (c .before .loop .inv .1))
+    counting-ends nulls _ _ _ (λ k. refl) (rw (e, drop-length) at (c .before .loop .inv .1))
 
 pub count-words-spec : {M : Type 1} → statement M
 count-words-spec =

@@ -1,6 +1,6 @@
 -- `instance::null_counts::null_counts` meets its contract: the counts of the words in use are those of the rows' cells, and the loop copies
 -- them in. Assumes nothing.
-use Prim.Native.Nat.{ℕ, _≤_, _<_, _-_}
+use Prim.Native.Nat.{ℕ, _≤_, _<_, _-_, _+_}
 use mathlib.Core.Path.{_≡_, refl, sym, ap, _∙_}
 use mathlib.Core.Bool.{true}
 use mathlib.Core.List.{List, _++_}
@@ -14,12 +14,14 @@ use Rattle.calculus.specs.Cell.{nulls}
 use Rattle.instance.specs.declared.header.Header.{Header}
 use Rattle.instance.specs.Sound.{sound, rows}
 use Rattle.instance.specs.NullCounts.{nullCounts, counted, countedWords}
-use Rattle.instance.proofs.Rows.{parts, scanned-sound, scanned-unsound}
+use Rattle.instance.proofs.Sound.{scanned-sound, scanned-unsound, sound-gives}
 use Rattle.instance.proofs.Fills.{held-words}
 use Rattle.instance.proofs.Passes.{copy-more}
-use Rattle.instance.proofs.Counts.{counts-size, counts-same}
 use Rattle.instance.proofs.null_counts.null_counts.Statement.{statement}
 use Rattle.instance.proofs.null_counts.null_counts.Tie as tie
+use Rattle.calculus.proofs.Table.{table-same, table-size}
+use Rattle.instance.proofs.Counts.{nulls-size}
+use Rattle.calculus.specs.Row.{cellsOf}
 
 abbrev Inv-loop : tie.InvT-loop
 Inv-loop plot counts₀ used found i₀ counts i = (i ≤ nulls) × (length counts ≡ length counts₀) × (counts ≡ take i found ++ drop i counts₀)
@@ -59,10 +61,10 @@ cast-used : tie.Need-cast-used Inv-loop μ-loop
 cast-used c = search needs
 
 slice-aggregate-count-words : tie.Need-slice-aggregate-count-words Inv-loop μ-loop
-slice-aggregate-count-words c = sym (length-take-le _ _ (parts _ _ (stands (c .before .before .before)) .within))
+slice-aggregate-count-words c = sym (sound-gives _ _ (stands (c .before .before .before)) .in-use)
 
 count-words-requires : tie.Need-count-words-requires Inv-loop μ-loop
-count-words-requires c κs = simp length-take (omega (arith, parts _ _ (stands (c .before .before .before)) .few))
+count-words-requires c κs = sound-gives _ _ (stands (c .before .before .before)) .standing .few
 
 loop-holds : tie.Need-loop-holds Inv-loop μ-loop
 loop-holds c = (omega arith, refl, refl)
@@ -73,10 +75,10 @@ module _ (c : tie.After-count-words Inv-loop μ-loop) where
   told = c .before .before .before .before
 
   found-is : c .count-words .result ≡ nullCounts (rows (h told) (ws told))
-  found-is = c .count-words .ensures ∙ counts-same _ _ (λ m. sym (held-words (h told) (ws told) (stands told) m)) 1 nulls
+  found-is = c .count-words .ensures ∙ table-same _ _ (λ k. sym (held-words (h told) (ws told) (stands told) (1 + k))) nulls
 
   found-size : length (c .count-words .result) ≡ nulls
-  found-size = ap length (c .count-words .ensures) ∙ counts-size _ 1 nulls
+  found-size = ap length (c .count-words .ensures) ∙ nulls-size _
 
 mul-counts : tie.Need-mul-counts Inv-loop μ-loop
 mul-counts c = omega arith
@@ -119,7 +121,7 @@ returns-3 c =
     let n = le-leb _ _ (b .before .before .before .if1 .left) in
     counts-told _ _ (b .before .before .before .before .before .before .before .before .before .args .counts .now) (
       simp (s, n),
-      simp (s, n) (c .before .loop .inv .2 ∙ rw (e, take-all nulls (b .count-words .result) (omega (arith, found-size b)), found-is b)),
+      simp (s, n) (c .before .loop .inv .2 ∙ rw (e, take-all nulls (b .count-words .result) (omega (arith, found-size b)), found-is b, nulls-size (cellsOf (rows (h (told b)) (ws (told b)))))),
     )
 
 pub null-counts-spec : {M : Type 1} → statement M

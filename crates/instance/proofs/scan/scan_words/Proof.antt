@@ -15,7 +15,8 @@ use Rattle.instance.specs.Header.{arityOf}
 use Rattle.instance.specs.Rows.{areCells}
 use Rattle.instance.specs.Sound.{scannedWords}
 use Rattle.instance.proofs.Rows.{Headed, headed}
-use Rattle.instance.proofs.ScanSteps.{rest, scanFrom, scan-end, scan-row, scan-cells, scan-short}
+use Rattle.instance.proofs.ScanSteps.{scanFrom, scan-end, scan-row, scan-cells, scan-short}
+use Rattle.calculus.proofs.Lists.{rest}
 use Rattle.instance.proofs.scan.scan_words.Statement.{statement}
 use Rattle.instance.proofs.scan.scan_words.Tie as tie
 

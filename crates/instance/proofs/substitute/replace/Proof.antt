@@ -11,7 +11,8 @@ use lib.Seq.{drop-length}
 use Rattle.calculus.specs.Cell.{null, put}
 use Rattle.calculus.proofs.Cells.{put-null, put-other}
 use Rattle.calculus.specs.Fill.{countOf}
-use Rattle.instance.proofs.Passes.{upto, upto-none, upto-all, upto-here, upto-set, upto-kept, count-rest}
+use Rattle.instance.proofs.Passes.{upto, upto-none, upto-all, upto-here, upto-set, upto-kept}
+use Rattle.calculus.proofs.Counts.{count-rest}
 use Rattle.instance.proofs.substitute.replace.Statement.{statement}
 use Rattle.instance.proofs.substitute.replace.Tie as tie
 

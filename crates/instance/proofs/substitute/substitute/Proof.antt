@@ -14,7 +14,7 @@ use Rattle.instance.specs.declared.header.Header.{Header}
 use Rattle.instance.specs.Sound.{sound, rows}
 use Rattle.calculus.specs.Fill.{held}
 use Rattle.instance.specs.Substitute.{substituted, substitutedWords}
-use Rattle.instance.proofs.Rows.{parts, scanned-sound, scanned-unsound}
+use Rattle.instance.proofs.Sound.{scanned-sound, scanned-unsound, sound-gives}
 use Rattle.instance.proofs.Fills.{held-words, filled-words, absent-same}
 use Rattle.instance.proofs.Told.{fill-told}
 use borrow.Author.Needs.{needs}
@@ -105,15 +105,14 @@ cast-used : tie.Need-cast-used
 cast-used c = search needs
 
 slice-relend-prefix-replace : tie.Need-slice-relend-prefix-replace
-slice-relend-prefix-replace c = parts _ _ (stands (c .before .before .before .before .before)) .within
+slice-relend-prefix-replace c = sound-gives _ _ (stands (c .before .before .before .before .before)) .within
 
 slice-aggregate-replace : tie.Need-slice-aggregate-replace
-slice-aggregate-replace c = sym (length-take-le _ _ (parts _ _ (stands (c .before .before .before .before .before .before)) .within))
+slice-aggregate-replace c = sym (sound-gives _ _ (stands (c .before .before .before .before .before .before)) .in-use)
 
 replace-requires : tie.Need-replace-requires
 replace-requires c κs =
-    let p = parts _ _ (stands (c .before .before .before .before .before .before)) in
-    (c .before .before .before .before .if2 .left, simp length-take (omega (arith, p .few)))
+    (c .before .before .before .before .if2 .left, sound-gives _ _ (stands (c .before .before .before .before .before .before)) .standing .few)
 
 same-length-5 : tie.Need-same-length-5
 same-length-5 c = search needs

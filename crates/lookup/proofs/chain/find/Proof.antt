@@ -5,7 +5,7 @@ use mathlib.Core.Bool.{true}
 use mathlib.Core.List.{List}
 use native.Mathlib.Omega.{arith}
 use lib.ListN.{length, getD}
-use Rattle.lookup.specs.Listed.{listed}
+use Rattle.calculus.specs.Listed.{listed}
 use Rattle.lookup.specs.Chains.{valueOf, linkOf, valuesOf, Chain}
 use Rattle.lookup.proofs.Chains.{chain-falls, chain-ends, chain-goes, chain-none}
 use Rattle.lookup.proofs.chain.find.Statement.{statement}

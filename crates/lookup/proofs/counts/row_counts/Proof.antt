@@ -7,8 +7,7 @@ use native.Mathlib.Omega.{arith}
 use lib.ListN.{length, drop, getD}
 use Rattle.instance.specs.Header.{maxRelations, maxWords}
 use Rattle.instance.specs.Rows.{wordsStand, rowsFrom}
-use Rattle.lookup.proofs.Walk.{AtRow, row-here, rows-end, relation-few}
-use Rattle.lookup.proofs.Tuples.{tuples-few}
+use Rattle.instance.proofs.Walk.{AtRow, row-here, rows-end, relation-few, tuples-few}
 use Rattle.lookup.proofs.Tally.{Counted, counted-starts, counted-row, counted-ends}
 use Rattle.lookup.proofs.counts.row_counts.Statement.{statement}
 use Rattle.lookup.proofs.counts.row_counts.Tie as tie

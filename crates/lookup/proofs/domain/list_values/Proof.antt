@@ -11,9 +11,9 @@ use lib.Seq.{drop-length, length-take-le, length-front}
 use Rattle.calculus.specs.Row.{cellsOf}
 use Rattle.instance.specs.Header.{maxRelations}
 use Rattle.instance.specs.Rows.{rowsFrom}
-use Rattle.instance.proofs.ScanSteps.{rest}
+use Rattle.calculus.proofs.Lists.{rest}
 use Rattle.lookup.specs.Chains.{valueOf, Chained}
-use Rattle.lookup.proofs.Walk.{relation-few}
+use Rattle.instance.proofs.Walk.{relation-few}
 use Rattle.lookup.proofs.Chains.{chained-starts}
 use Rattle.lookup.proofs.Listing.{Listing, listing-starts, listing-relation, listing-row, listing-cell, listing-room, listing-small, listing-added, listing-fits, listing-number, listing-ends}
 use Rattle.lookup.proofs.domain.list_values.Statement.{statement}

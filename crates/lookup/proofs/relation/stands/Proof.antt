@@ -16,8 +16,8 @@ use Rattle.lookup.specs.declared.row.Match.{Match}
 use Rattle.lookup.specs.declared.row.Match.the-variants.{Identical, Unifies, Apart}
 use Rattle.lookup.specs.Matching.{matching}
 use Rattle.calculus.proofs.KindOne.{row-means}
-use Rattle.lookup.proofs.Walk.{AtRow, row-here, relation-few, arity-few}
-use Rattle.lookup.proofs.Tuples.{tuples-here, tuples-other, tuples-few, no-tuples}
+use Rattle.instance.proofs.Walk.{AtRow, row-here, relation-few, arity-few, tuples-few}
+use Rattle.calculus.proofs.Tuples.{tuples-here, tuples-other, no-tuples}
 use Rattle.lookup.proofs.Atom.{truthFrom, truth-starts, truth-ends, truthAfter, truth-step}
 use Rattle.lookup.proofs.relation.stands.Statement.{statement}
 use Rattle.lookup.proofs.relation.stands.Tie as tie

@@ -1,4 +1,4 @@
--- Words that stand, walked row by row: what is known at a place where a row starts, and where the next row starts. Assumes nothing.
+-- Words that stand, walked row by row: what is known at an index where a row starts, and where the next row starts. Assumes nothing.
 use Prim.Native.Nat.{ℕ, zero, suc, _+_, _≤_, _<_}
 use mathlib.Core.Path.{_≡_, refl, ap, _∙_}
 use mathlib.Core.Bool.{true, false≢true}
@@ -8,11 +8,13 @@ use borrow.Author.Tests.{ltb-true}
 use lib.ListN.{length, getD, take, drop, length-drop}
 use lib.Seq.{drop-drop, drop-length}
 use Rattle.calculus.specs.Row.{Row}
+use Rattle.calculus.specs.Closed.{tuples}
+use Rattle.calculus.proofs.Lists.{rest}
+use Rattle.calculus.proofs.Tuples.{tuples-le}
 use Rattle.instance.specs.Header.{arityOf, maxRelations, maxColumns}
-use Rattle.instance.specs.Rows.{wordsStand, rowsFrom}
-use Rattle.instance.proofs.ScanSteps.{rest}
-use Rattle.instance.proofs.Rows.{at-row, at-cell, cells-within, headed}
-use Rattle.lookup.specs.Standing.{Standing}
+use Rattle.instance.specs.Rows.{areCells, wordsStand, rowsFrom}
+use Rattle.instance.specs.Standing.{Standing}
+use Rattle.instance.proofs.Rows.{headed, at-row, at-cell, cells-first, cells-within}
 
 module _ (n : ℕ) (ars : List ℕ) where
   -- past the cells that are still to come, a row starts
@@ -23,32 +25,43 @@ module _ (n : ℕ) (ars : List ℕ) where
   past-cells (suc left) [] e = absurd (false≢true e)
   past-cells (suc left) (w ∷ ws) e = past-cells left ws (at-cell n ars left w ws e .1)
 
--- what is known at a place i where a row starts
+-- a walk that has come to index i: the words from there stand, so a row starts there, or they end
+pub record Walk (n : ℕ) (ars ws : List ℕ) (i : ℕ) : Type 0 where
+  pub within : i ≤ length ws
+  pub stands : wordsStand n ars 0 (drop i ws) ≡ true
+
+pub walk-starts : (n : ℕ) (ars ws : List ℕ) → wordsStand n ars 0 ws ≡ true → Walk n ars ws 0
+walk-starts n ars ws e = record { within = omega arith; stands = e }
+
+-- the row at index i, and the walk after it
 pub record AtRow (n : ℕ) (ars ws : List ℕ) (i : ℕ) : Type 0 where
   pub relation : getD ws i 0 < n
-  pub within : i + (1 + arityOf ars (getD ws i 0)) ≤ length ws
-  pub stands : wordsStand n ars 0 (drop (i + (1 + arityOf ars (getD ws i 0))) ws) ≡ true
+  pub cells : areCells (take (arityOf ars (getD ws i 0)) (drop (i + 1) ws)) ≡ true
+  pub size : length (take (arityOf ars (getD ws i 0)) (drop (i + 1) ws)) ≡ arityOf ars (getD ws i 0)
+  pub next : Walk n ars ws (i + (1 + arityOf ars (getD ws i 0)))
   pub rows :
       rowsFrom ars 0 (drop i ws) ≡
       record { relation = getD ws i 0; cells = take (arityOf ars (getD ws i 0)) (drop (i + 1) ws) }
       ∷ rowsFrom ars 0 (drop (i + (1 + arityOf ars (getD ws i 0))) ws)
 
 module _ (n : ℕ) (ars ws : List ℕ) (i : ℕ) where
-  pub row-here : i < length ws → wordsStand n ars 0 (drop i ws) ≡ true → AtRow n ars ws i
+  pub row-here : i < length ws → Walk n ars ws i → AtRow n ars ws i
   unfolding rowsFrom
-  row-here l e =
+  row-here l walk =
       let w = getD ws i 0 in
       let a = arityOf ars w in
       let here = rest ws i l in
-      let f : wordsStand n ars 0 (w ∷ drop (i + 1) ws) ≡ true = rw here at e in
+      let f : wordsStand n ars 0 (w ∷ drop (i + 1) ws) ≡ true = rw here at (walk .stands) in
       let p = at-row n ars w (drop (i + 1) ws) f in
       let q = past-cells n ars a (drop (i + 1) ws) (p .1) in
+      let c = cells-first n ars a (drop (i + 1) ws) (p .1) in
       let sum : i + 1 + a ≡ i + (1 + a) = omega arith in
       let next : drop a (drop (i + 1) ws) ≡ drop (i + (1 + a)) ws = drop-drop a (i + 1) ws ∙ ap (λ (k : ℕ). drop k ws) sum in
       record {
         relation = ltb-true w n (p .0);
-        within = omega (arith, cells-within n ars a (drop (i + 1) ws) (p .1), length-drop (i + 1) ws);
-        stands = rw next at (q .0);
+        cells = c .1;
+        size = c .0;
+        next = record { within = omega (arith, cells-within n ars a (drop (i + 1) ws) (p .1), length-drop (i + 1) ws); stands = rw next at (q .0) };
         rows = ap (rowsFrom ars 0) here ∙ ap (λ (rs : List Row). record { relation = w; cells = take a (drop (i + 1) ws) } ∷ rs) (q .1 ∙ ap (rowsFrom ars 0) next);
       }
 
@@ -63,3 +76,13 @@ relation-few n ars ws r s l = let h = headed n ars (s .header) in omega (arith, 
 
 pub arity-few : (n : ℕ) (ars ws : List ℕ) (r : ℕ) → Standing n ars ws → r < n → arityOf ars r ≤ maxColumns
 arity-few n ars ws r s l = headed n ars (s .header) .columns r l .1
+
+rows-le : (ars : List ℕ) (left : ℕ) (ws : List ℕ) → length (rowsFrom ars left ws) ≤ length ws
+unfolding rowsFrom
+rows-le ars left [] = omega arith
+rows-le ars zero (w ∷ ws) = omega (arith, rows-le ars (arityOf ars w) ws)
+rows-le ars (suc left) (w ∷ ws) = omega (arith, rows-le ars left ws)
+
+-- words hold no more tuples than words
+pub tuples-few : (r : ℕ) (ars : List ℕ) (ws : List ℕ) → length (tuples r (rowsFrom ars 0 ws)) ≤ length ws
+tuples-few r ars ws = omega (arith, tuples-le r (rowsFrom ars 0 ws), rows-le ars 0 ws)

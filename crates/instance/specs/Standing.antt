@@ -1,11 +1,11 @@
--- What every question of an instance's words may assume: they are those of a sound instance.
+-- What a sound instance gives: a header and words in use that stand.
 use Prim.Native.Nat.{ℕ, _≤_}
 use mathlib.Core.Path.{_≡_}
 use mathlib.Core.Bool.{true}
 use mathlib.Core.List.{List}
 use lib.ListN.{length}
 use Rattle.instance.specs.Header.{headerStands, maxWords}
 use Rattle.instance.specs.Rows.{wordsStand}
 
 -- n relations with the arities ars, and the words in use
 pub record Standing (n : ℕ) (ars ws : List ℕ) : Type 0 where

@@ -1,7 +1,7 @@
--- `decode::has_room` meets its contract: each way through the two tests computes the definition. Assumes nothing.
+-- `instance::room::has_room` meets its contract: each way through the two tests computes the definition. Assumes nothing.
 use borrow.Author.Tests.{le-leb, lt-leb}
-use Rattle.decode.proofs.has_room.Statement.{statement}
-use Rattle.decode.proofs.has_room.Tie as tie
+use Rattle.instance.proofs.room.has_room.Statement.{statement}
+use Rattle.instance.proofs.room.has_room.Tie as tie
 
 returns : tie.Need-returns
 returns c = simp (le-leb _ _ (c .if1 .taken))

@@ -1,0 +1,8 @@
+-- A chain of demands that ends otherwise than in its first refusal has met the first demand. Assumes nothing.
+use mathlib.Core.Path.{_≡_, refl}
+use mathlib.Core.Bool.{Bool, true, false}
+use Rattle.calculus.specs.Demand.{demand}
+
+pub met : {A : Type 0} (b : Bool) {refusal a end : A} → demand b refusal a ≡ end → (refusal ≡ end → ⊥) → (b ≡ true) × (a ≡ end)
+met true e other = (refl, e)
+met false e other = absurd (other e)

@@ -1,0 +1,24 @@
+-- Lists: the rest from a place on, and maps. Assumes nothing.
+use Prim.Native.Nat.{ℕ, zero, suc, _+_, _<_}
+use mathlib.Core.Path.{_≡_, refl, ap}
+use mathlib.Core.List.{List, [], _∷_, _++_, map}
+use native.Mathlib.Numerals.{add-one}
+use lib.ListN.{length, getD, drop, set}
+use lib.Seq.{drop-cons}
+
+-- a list from index i is its element there and the list from the next index
+pub rest : (xs : List ℕ) (i : ℕ) → i < length xs → drop i xs ≡ getD xs i 0 ∷ drop (i + 1) xs
+rest xs i h = rw (add-one, drop-cons xs i 0)
+
+pub map-set : (h : ℕ → ℕ) (e : List ℕ) (v c : ℕ) → map h (set e v c) ≡ set (map h e) v (h c)
+map-set h [] v c = refl
+map-set h (x ∷ e) zero c = refl
+map-set h (x ∷ e) (suc v) c = ap (λ (l : List ℕ). h x ∷ l) (map-set h e v c)
+
+pub map-none : (cs : List ℕ) → map (λ c. c) cs ≡ cs
+map-none [] = refl
+map-none (c ∷ cs) = ap (λ (l : List ℕ). c ∷ l) (map-none cs)
+
+pub map-same : (f g : ℕ → ℕ) → ((c : ℕ) → f c ≡ g c) → (xs : List ℕ) → map f xs ≡ map g xs
+map-same f g e [] = refl
+map-same f g e (x ∷ xs) = rw (e x, map-same f g e xs) refl

@@ -1,0 +1,77 @@
+-- What a sound instance gives, and what the answer of a scan says of it. Assumes nothing.
+use Prim.Native.Nat.{ℕ, _≤_}
+use mathlib.Core.Path.{_≡_, refl, ap, _∙_}
+use mathlib.Core.Bool.{Bool, true, false, _&&_}
+use mathlib.Core.List.{List}
+use native.Mathlib.Omega.{arith}
+use borrow.Author.Tests.{leb-true}
+use lib.ListN.{length, take}
+use lib.Seq.{length-take-le}
+use lib.Dec.{leb}
+use Rattle.instance.specs.declared.header.Header.{Header}
+use Rattle.instance.specs.declared.scan.Scanned.the-variants.{Rows, Unsound}
+use Rattle.instance.specs.Header.{headerStands, maxWords}
+use Rattle.instance.specs.Rows.{rowsStand, wordsOf, rowsFrom}
+use Rattle.instance.specs.Sound.{sound, rows, headerFor, tally, scanned}
+use Rattle.instance.specs.Standing.{Standing}
+use Rattle.calculus.proofs.Bools.{both}
+use Rattle.instance.proofs.Rows.{Headed, headed, stand-rows, words-back}
+use Rattle.instance.proofs.Headers.{header-same}
+
+-- the header, the words in use, and the rows
+pub record Sound (h : Header) (ws : List ℕ) : Type 0 where
+  pub within : h .used ≤ length ws
+  pub few : h .used ≤ maxWords
+  pub in-use : length (take (h .used) ws) ≡ h .used
+  pub standing : Standing (h .relations) (h .arities) (take (h .used) ws)
+  pub headed : Headed (h .relations) (h .arities)
+  pub rows-stand : rowsStand (h .relations) (h .arities) (rows h ws) ≡ true
+  pub words : wordsOf (rows h ws) ≡ take (h .used) ws
+  pub header : headerFor (h .relations) (h .arities) (rows h ws) ≡ h
+
+pub sound-gives : (h : Header) (ws : List ℕ) → sound h ws ≡ true → Sound h ws
+unfolding sound rows
+sound-gives h ws e =
+    let p = both _ _ e in
+    let q = both _ _ (p .0) in
+    let s = both _ _ (q .0) in
+    let few = leb-true _ _ (s .1) in
+    let within = leb-true _ _ (q .1) in
+    let in-use = length-take-le (h .used) ws within in
+    let words = words-back (h .relations) (h .arities) 0 (take (h .used) ws) (p .1) in
+    record {
+      within = within;
+      few = few;
+      in-use = in-use;
+      standing = record { header = s .0; few = omega (arith, in-use); words = p .1 };
+      headed = headed _ _ (s .0);
+      rows-stand = stand-rows _ _ 0 _ (p .1);
+      words = words;
+      header = header-same h (rowsFrom (h .arities) 0 (take (h .used) ws)) (ap length words ∙ in-use);
+    }
+
+-- what a scan's answer says
+pub scanned-sound : (h : Header) (ws : List ℕ) (k : ℕ) → scanned h ws ≡ Rows k → sound h ws ≡ true
+unfolding scanned
+scanned-sound h ws k e = go (sound h ws) _ e
+  where
+    go : (b : Bool) (n : ℕ) → tally b n ≡ Rows k → b ≡ true
+    go true n q = refl
+    go false n q = cc
+
+pub scanned-unsound : (h : Header) (ws : List ℕ) → scanned h ws ≡ Unsound → sound h ws ≡ false
+unfolding scanned
+scanned-unsound h ws e = go (sound h ws) _ e
+  where
+    go : (b : Bool) (n : ℕ) → tally b n ≡ Unsound → b ≡ false
+    go true n q = cc
+    go false n q = refl
+
+-- the number of rows that a scan answers
+pub scanned-rows : (h : Header) (ws : List ℕ) (k : ℕ) → scanned h ws ≡ Rows k → length (rows h ws) ≡ k
+unfolding scanned
+scanned-rows h ws k e = go (sound h ws) e
+  where
+    go : (b : Bool) → tally b (length (rows h ws)) ≡ Rows k → length (rows h ws) ≡ k
+    go true q = cc
+    go false q = cc

@@ -1,0 +1,12 @@
+-- The number of rows of each relation. Document 01: "kind 1 costs 1 plus the number of rows of that sheet".
+use Prim.Native.Nat.{ℕ}
+use mathlib.Core.List.{List}
+use lib.ListN.{length}
+use Rattle.calculus.specs.Row.{Row}
+use Rattle.calculus.specs.Closed.{tuples}
+use Rattle.calculus.specs.Table.{table}
+use Rattle.instance.specs.Header.{maxRelations}
+
+-- for each of the eight relations that a header has room for; 0 for one that does not exist
+abbrev pub rowCounts : List Row → List ℕ
+rowCounts rs = table (λ r. length (tuples r rs)) maxRelations
