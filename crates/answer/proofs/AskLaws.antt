@@ -26,10 +26,11 @@ use Rattle.instance.proofs.Rows.{headed}
 use Rattle.query.specs.Words.{nodeCount}
 use Rattle.query.specs.Tree.{formulaOf}
 use Rattle.query.specs.Scope.{Scopes}
-use Rattle.query.specs.Check.{Checked, passed, refused, checkQuery, checkNumber}
+use Rattle.query.specs.Check.{Checked, passed, checkQuery, checkNumber}
+use Rattle.calculus.specs.Reading.{refused}
 use Rattle.query.proofs.Passed.{few-cells, count-within, node-stands}
 use Rattle.instance.specs.RowCounts.{rowCounts}
-use Rattle.lookup.proofs.Tally.{row-count-at, row-counts-size}
+use Rattle.instance.proofs.RowCounts.{row-count-at, row-counts-size}
 use Rattle.answer.specs.declared.asked.Asked.the-variants.{Refused}
 use Rattle.answer.specs.declared.evaluated.Evaluated.{Evaluated}
 use Rattle.answer.specs.Within.{within}

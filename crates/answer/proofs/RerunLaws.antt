@@ -27,7 +27,8 @@ use Rattle.instance.proofs.Run.{ran, candidate-stands}
 use Rattle.query.specs.Words.{nodeCount}
 use Rattle.query.specs.Tree.{formulaOf}
 use Rattle.query.specs.Scope.{Scopes}
-use Rattle.query.specs.Check.{Checked, passed, refused, checkQuery}
+use Rattle.query.specs.Check.{Checked, passed, checkQuery}
+use Rattle.calculus.specs.Reading.{refused}
 use Rattle.query.proofs.Passed.{passed-inked, count-within, are-cells, same-candidate}
 use Rattle.answer.specs.declared.asked.Asked.the-variants.{Verdict, Refused}
 use Rattle.answer.specs.declared.evaluated.Evaluated.{Evaluated}

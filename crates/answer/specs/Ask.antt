@@ -15,7 +15,8 @@ use Rattle.instance.specs.declared.header.Header.{Header}
 use Rattle.instance.specs.Sound.{sound, rows}
 use Rattle.instance.specs.Run.{modelOf}
 use Rattle.query.specs.Tree.{formulaOf}
-use Rattle.query.specs.Check.{Checked, passed, refused, checkQuery}
+use Rattle.query.specs.Check.{Checked, passed, checkQuery}
+use Rattle.calculus.specs.Reading.{refused}
 use Rattle.answer.specs.declared.asked.Asked.{Asked}
 use Rattle.answer.specs.declared.asked.Asked.the-variants as ask-answer
 use Rattle.answer.specs.declared.evaluated.Evaluated.{Evaluated}

@@ -5,14 +5,14 @@ use mathlib.Core.Bool.{Bool, true, false, _||_, cond, false≢true, true≢false
 use mathlib.Core.List.{List, [], _∷_, _++_, append-nil, append-assoc}
 use borrow.Author.Tests.{eqb-true, eqb-false, eq-eqb, ne-eqb}
 use lib.Dec.{eqb}
-use Rattle.calculus.specs.Domain.{without, distinct}
+use Rattle.calculus.specs.Domain.{without, distinct, listing}
 use Rattle.calculus.specs.Listed.{listed}
 use Rattle.calculus.proofs.Distinct.{without-skip, without-keep, without-comm, without-again}
 
--- the values vs, and after them the new ones of the cells
-unfoldable pub listing : List ℕ → List ℕ → List ℕ
-listing vs [] = vs
-listing vs (c ∷ cs) = listing (cond (listed c vs) vs (vs ++ c ∷ [])) cs
+pub listing-append : (vs cs ds : List ℕ) → listing vs (cs ++ ds) ≡ listing (listing vs cs) ds
+unfolding listing
+listing-append vs [] ds = refl
+listing-append vs (c ∷ cs) ds = listing-append (cond (listed c vs) vs (vs ++ c ∷ [])) cs ds
 
 -- a list with every value of vs left out
 unfoldable withoutAll : List ℕ → List ℕ → List ℕ

@@ -1,9 +1,10 @@
 -- The active domain. Document 01: "The plot's values are its cells, marks included, each once, in order of first standing."
 use Prim.Native.Nat.{ℕ}
 use mathlib.Core.Bool.{cond}
-use mathlib.Core.List.{List, [], _∷_}
+use mathlib.Core.List.{List, [], _∷_, _++_}
 use lib.Dec.{eqb}
 use Rattle.calculus.specs.Row.{Row, cellsOf}
+use Rattle.calculus.specs.Listed.{listed}
 
 -- a list with every x left out
 unfoldable pub without : ℕ → List ℕ → List ℕ
@@ -14,6 +15,11 @@ without x (c ∷ cs) = cond (eqb c x) (without x cs) (c ∷ without x cs)
 unfoldable pub distinct : List ℕ → List ℕ
 distinct [] = []
 distinct (c ∷ cs) = c ∷ without c (distinct cs)
+
+-- The same from the left: the values vs, and after them those of the cells that are not among them (`proofs/Listing.antt`, `listing-distinct`).
+unfoldable pub listing : List ℕ → List ℕ → List ℕ
+listing vs [] = vs
+listing vs (c ∷ cs) = listing (cond (listed c vs) vs (vs ++ c ∷ [])) cs
 
 -- in Libkin's paper adom(D), the quantifiers' range, here as a list
 abbrev pub domain : List Row → List ℕ

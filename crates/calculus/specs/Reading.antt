@@ -1,6 +1,9 @@
 -- Reading step by step: bytes from the front of a slice, or the nodes of a question by number. A step leaves what it read and the state after it, or the
 -- number of the refusal that it met; "First met wins".
 use Prim.Native.Nat.{ℕ}
+use mathlib.Core.Bool.{Bool, true}
+use mathlib.Core.List.{List}
+use Rattle.calculus.specs.Listed.{listed}
 
 pub data Reading (S A : Type 0) : Type 0 where
   read : A → S → Reading S A
@@ -15,3 +18,8 @@ andThen (refused r) next = refused r
 abbrev pub readingNumber : {S A : Type 0} → Reading S A → ℕ
 readingNumber (read a s) = 0
 readingNumber (refused r) = r
+
+-- a reading that is refused has one of these numbers
+abbrev pub refusedIn : {S A : Type 0} → List ℕ → Reading S A → Bool
+refusedIn ns (read a s) = true
+refusedIn ns (refused r) = listed r ns

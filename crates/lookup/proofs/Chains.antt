@@ -6,11 +6,13 @@ use mathlib.Core.List.{List, [], _∷_, _++_, map, map-append}
 use native.Mathlib.Numerals.{add-one}
 use native.Mathlib.Omega.{arith}
 use borrow.Author.Tests.{eqb-true, eqb-false, eq-eqb, ne-eqb}
-use lib.ListN.{length, getD, set, take, replicate, length-set, length-replicate, getD-replicate}
-use lib.Seq.{take-suc, take-set-le, drop-set-lt, getD-set-same, getD-set-other}
+use lib.ListN.{length, getD, set, take, replicate, length-set, length-replicate, getD-replicate, drop, length-append}
+use lib.Seq.{take-suc, take-set-le, drop-set-lt, getD-set-same, getD-set-other, drop-drop}
 use lib.Dec.{eqb}
 use Rattle.calculus.specs.Listed.{listed}
 use Rattle.lookup.specs.Chains.{linkUnit, buckets, bucketOf, valueOf, linkOf, valuesOf, Chain, Linked, Chained, Added}
+use Rattle.calculus.specs.Domain.{listing}
+use Rattle.calculus.proofs.Listing.{listing-append}
 
 -- one value behind others: the cell, or another
 module _ (c x : ℕ) where
@@ -135,7 +137,8 @@ module _ {heads ws : List ℕ} {n : ℕ} (s : Chained heads ws n) (room : n < le
   pub chained-more : Chained (set heads (bucketOf c) (n + 1)) longer (n + 1)
   chained-more = record { size = length-set heads (bucketOf c) (n + 1) ∙ s .size; links = links-more; starts = starts-more }
 
-  pub added-new : listed c (valuesOf n ws) ≡ false → Added ws n c longer (n + 1)
+  pub added-new : listed c (valuesOf n ws) ≡ false → Added ws n (c ∷ []) longer (n + 1)
+  unfolding listing
   added-new e = record {
     least = omega arith;
     most = omega arith;
@@ -145,5 +148,26 @@ module _ {heads ws : List ℕ} {n : ℕ} (s : Chained heads ws n) (room : n < le
   }
 
 -- a cell that is listed already
-pub added-old : (ws : List ℕ) (n c : ℕ) → listed c (valuesOf n ws) ≡ true → Added ws n c ws n
+pub added-old : (ws : List ℕ) (n c : ℕ) → listed c (valuesOf n ws) ≡ true → Added ws n (c ∷ []) ws n
+unfolding listing
 added-old ws n c e = record { least = omega arith; most = omega arith; long = refl; values = rw e refl; kept = refl }
+
+-- no cell
+pub added-none : (ws : List ℕ) (n : ℕ) → Added ws n [] ws n
+unfolding listing
+added-none ws n = record { least = omega arith; most = omega arith; long = refl; values = refl; kept = refl }
+
+-- cells, and then more
+pub added-then : {a b d cs ds : List ℕ} {n m k : ℕ} → Added a n cs b m → Added b m ds d k → Added a n (cs ++ ds) d k
+added-then {a} {b} {d} {cs} {ds} {n} {m} {k} s t =
+    let low = s .least in
+    let more = t .least in
+    let e : m + (k - m) ≡ k = omega arith in
+    let past : (xs : List ℕ) → drop k xs ≡ drop (k - m) (drop m xs) = λ xs. ap (λ (j : ℕ). drop j xs) (sym e) ∙ sym (drop-drop (k - m) m xs) in
+    record {
+      least = omega arith;
+      most = omega (arith, s .most, t .most, length-append cs ds);
+      long = t .long ∙ s .long;
+      values = t .values ∙ ap (λ (vs : List ℕ). listing vs ds) (s .values) ∙ sym (listing-append (valuesOf n a) cs ds);
+      kept = t .kept ∙ past b ∙ ap (drop (k - m)) (s .kept) ∙ sym (past a);
+    }

@@ -1,9 +1,5 @@
-pub mod Walk
-pub mod Tuples
-pub mod Tally
 pub mod Columns
 pub mod Chains
 pub mod Listing
 pub mod Matching
 pub mod Atom
-pub mod Entry

@@ -6,6 +6,7 @@ use mathlib.Core.Bool.{cond}
 use mathlib.Core.List.{List, [], _∷_, _++_, map}
 use lib.ListN.{length, getD, take, drop}
 use Rattle.calculus.specs.Listed.{listed}
+use Rattle.calculus.specs.Domain.{listing}
 
 abbrev pub linkUnit : ℕ
 linkUnit = 1048576
@@ -47,10 +48,10 @@ pub record Chained (heads ws : List ℕ) (n : ℕ) : Type 0 where
   pub links : Linked ws n
   pub starts : (c : ℕ) → Chain ws c n (getD heads (bucketOf c) 0)
 
--- the first n values, and then the first m: the cell c is put behind them where it is not among them, and the words behind stay
-pub record Added (before : List ℕ) (n c : ℕ) (after : List ℕ) (m : ℕ) : Type 0 where
+-- the first n values, and then the first m: the cells are put after them, each if it is not among them yet, and the other words stay
+pub record Added (before : List ℕ) (n : ℕ) (cells after : List ℕ) (m : ℕ) : Type 0 where
   pub least : n ≤ m
-  pub most : m ≤ n + 1
+  pub most : m ≤ n + length cells
   pub long : length after ≡ length before
-  pub values : valuesOf m after ≡ cond (listed c (valuesOf n before)) (valuesOf n before) (valuesOf n before ++ c ∷ [])
+  pub values : valuesOf m after ≡ listing (valuesOf n before) cells
   pub kept : drop m after ≡ drop m before

@@ -1,5 +1,2 @@
-pub mod Standing
-pub mod Counts
-pub mod Listed
 pub mod Chains
 pub mod Matching

@@ -7,29 +7,25 @@ ghost use Rattle.calculus.specs.Row.{cellsOf};
 ghost use Rattle.calculus.specs.Domain.{domain};
 ghost use Rattle.instance.specs.Rows.{rowsFrom};
 ghost use Rattle.instance.specs.Standing.{Standing};
-use super::chain::add_value;
+ghost use Rattle.calculus.specs.Overwrite.{overwrite};
+use super::chain::add_cells;
 use super::chain::unlink;
 
-// Lists the values at the start of a buffer, and answers how many they are; the rest of the buffer stays.
+// Lists the values at the start of a buffer, row by row, and returns how many they are; the rest of the buffer stays.
 pub fn list_values(words: &[u32], arities: &[u32; 8], relations: u32, buffer: &mut [u32]) -> usize
     requires { ⌜ Standing relations (now arities) (now words) ⌝ }
     requires { ⌜ length (cellsOf (rowsFrom (now arities) 0 (now words))) ≤ length (now buffer) ⌝ }
     ensures number { λ r. ⌜ r ≡ length (domain (rowsFrom (now (arities .entry)) 0 (now (words .entry)))) ⌝ }
-    ensures values { λ r. ⌜ now (buffer .exit) ≡ domain (rowsFrom (now (arities .entry)) 0 (now (words .entry))) ++ drop (length (domain (rowsFrom (now (arities .entry)) 0 (now (words .entry))))) (now (buffer .entry)) ⌝ }
+    ensures values { λ r. ⌜ now (buffer .exit) ≡ overwrite (domain (rowsFrom (now (arities .entry)) 0 (now (words .entry)))) (now (buffer .entry)) ⌝ }
 {
     let mut heads = [0u16; 1024];
     let mut n = 0;
-    let mut left: u32 = 0;
     let mut i = 0;
     while i < words.len() {
-        let w = words[i];
-        if left == 0 {
-            left = arities[w as usize];
-        } else {
-            n = add_value(buffer, &mut heads, n, w);
-            left -= 1;
-        }
-        i += 1;
+        let first = i + 1;
+        let next = first + arities[words[i] as usize] as usize;
+        n = add_cells(buffer, &mut heads, n, &words[first..next]);
+        i = next;
     }
     unlink(&mut buffer[..n]);
     n

@@ -15,24 +15,10 @@ use Rattle.instance.specs.Header.{arityOf}
 use Rattle.query.specs.Words.{Kind, rowStands, equals, negates, noKind, joins, ranges, kindOf, wordAt, nodeCount, maxNodes}
 use Rattle.query.specs.Scope.{Scopes, naming, binding}
 use Rattle.query.specs.Answers.{Long}
-use Rattle.query.specs.Check.{Checked, passed, refused, andThen, unless, restIsZero, isTerm, isBound, isChild, checkTerms, checkChild, checkBy, checkNode, checkNodes}
-
-pub refused-passed : {A : Type 0} {r : ℕ} {t : Scopes} → refused r ≡ passed t → A
-refused-passed e = let z : _≡_ {A = ℕ} 0 1 = cc in absurd (omega arith)
-
-pub unless-passed : (b : Bool) (r : ℕ) (k : Checked) {t : Scopes} → unless b r k ≡ passed t → (b ≡ true) × (k ≡ passed t)
-unless-passed true r k e = (refl, e)
-unless-passed false r k e = refused-passed e
-
--- what is known between two steps
-pub record Between (k : Checked) (f : Scopes → Checked) (t : Scopes) : Type 0 where
-  pub known : Scopes
-  pub first : k ≡ passed known
-  pub second : f known ≡ passed t
-
-pub then-passed : (k : Checked) (f : Scopes → Checked) {t : Scopes} → andThen k f ≡ passed t → Between k f t
-then-passed (passed s) f e = record { known = s; first = refl; second = e }
-then-passed (refused r) f e = refused-passed e
+use Rattle.query.specs.Check.{Checked, passed, restIsZero, isTerm, isBound, isChild, checkTerms, checkChild, checkBy, checkNode, checkNodes}
+use Rattle.calculus.specs.Demand.{demand}
+use Rattle.calculus.specs.Reading.{refused, andThen}
+use Rattle.calculus.proofs.Reading.{demand-read, then-read, refused-read}
 
 -- node i is named, in a scope
 pub record NamedIn (s : Scopes) (i mask : ℕ) : Type 0 where
@@ -73,7 +59,7 @@ module _ (count : ℕ) (few : count ≤ maxNodes) (mask i child : ℕ) (s : Scop
   pub child-passed : {t : Scopes} → checkChild count mask i child s ≡ passed t → ChildPassed count mask i child s t
   unfolding checkChild
   child-passed {t} e =
-      let p = unless-passed (isChild count i child s) _ _ e in
+      let p = demand-read (isChild count i child s) _ _ e in
       let q = both (ltb i child && ltb child count) (eqb (getD (s .named) child 0) 0) (p .0) in
       let o = both (ltb i child) (ltb child count) (q .0) in
       let b = ltb-true i child (o .0) in
@@ -107,8 +93,8 @@ terms-passed : (qs : List ℕ) (mask i j k : ℕ) (s : Scopes) {t : Scopes} → 
 unfolding checkTerms
 terms-passed qs mask i j zero s e = (λ m l. absurd (omega arith), cc)
 terms-passed qs mask i j (suc k) s {t} e =
-    let p = unless-passed (isTerm (wordAt qs i j)) _ _ e in
-    let q = unless-passed (isBound mask (wordAt qs i j)) _ _ (p .1) in
+    let p = demand-read (isTerm (wordAt qs i j)) _ _ e in
+    let q = demand-read (isBound mask (wordAt qs i j)) _ _ (p .1) in
     let r = terms-passed qs mask i (suc j) k s (q .1) in
     (terms-more qs mask i j k (p .0) (q .0) (r .0), r .1)
 
@@ -142,41 +128,41 @@ module _ (n : ℕ) (ars qs : List ℕ) where
 
     by-passed : {t : Scopes} (i mask : ℕ) (k : Kind) → checkBy n ars qs i mask s k ≡ passed t → NodePassed s i mask k t
     by-passed i mask rowStands e =
-        let p = unless-passed (ltb (wordAt qs i 1) n) _ _ e in
-        let q = unless-passed (restIsZero qs i (2 + arityOf ars (wordAt qs i 1))) _ _ (p .1) in
+        let p = demand-read (ltb (wordAt qs i 1) n) _ _ e in
+        let q = demand-read (restIsZero qs i (2 + arityOf ars (wordAt qs i 1))) _ _ (p .1) in
         let r = terms-passed qs mask i 2 (arityOf ars (wordAt qs i 1)) s (q .1) in
         unchanged i mask rowStands (ltb-true _ _ (p .0), r .0) (r .1)
     by-passed i mask equals e =
-        let p = unless-passed (restIsZero qs i 3) _ _ e in
+        let p = demand-read (restIsZero qs i 3) _ _ e in
         let r = terms-passed qs mask i 1 2 s (p .1) in
         unchanged i mask equals (r .0) (r .1)
     by-passed i mask negates e =
-        let p = unless-passed (restIsZero qs i 2) _ _ e in
+        let p = demand-read (restIsZero qs i 2) _ _ e in
         let c = child-passed (nodeCount qs) few mask i (wordAt qs i 1) s l (p .1) in
         record { stands = c .named; kept = c .kept; long = c .long }
     by-passed i mask (joins j) e =
-        let p = unless-passed (restIsZero qs i 3) _ _ e in
-        let b = then-passed (checkChild (nodeCount qs) mask i (wordAt qs i 1) s) (checkChild (nodeCount qs) mask i (wordAt qs i 2)) (p .1) in
+        let p = demand-read (restIsZero qs i 3) _ _ e in
+        let b = then-read (checkChild (nodeCount qs) mask i (wordAt qs i 1) s) (λ first. checkChild (nodeCount qs) mask i (wordAt qs i 2)) (p .1) in
         let c = child-passed (nodeCount qs) few mask i (wordAt qs i 1) s l (b .first) in
-        let d = child-passed (nodeCount qs) few mask i (wordAt qs i 2) (b .known) (c .long) (b .second) in
+        let d = child-passed (nodeCount qs) few mask i (wordAt qs i 2) (b .state) (c .long) (b .second) in
         record {
           stands = (child-kept (d .kept) (c .named), d .named);
           kept = λ j m h. d .kept j m (c .kept j m h);
           long = d .long;
         }
     by-passed i mask (ranges j) e =
-        let p = unless-passed (restIsZero qs i 3) _ _ e in
-        let q = unless-passed (ltb (wordAt qs i 1) variables) _ _ (p .1) in
+        let p = demand-read (restIsZero qs i 3) _ _ e in
+        let q = demand-read (ltb (wordAt qs i 1) variables) _ _ (p .1) in
         let c = child-passed (nodeCount qs) few (binding mask (wordAt qs i 1)) i (wordAt qs i 2) s l (q .1) in
         record { stands = (ltb-true _ _ (q .0), c .named); kept = c .kept; long = c .long }
-    by-passed i mask noKind e = refused-passed e
+    by-passed i mask noKind e = refused-read e
 
     -- the node is named, and stands by its kind in its scope
     pub node-passed : {t : Scopes} (i : ℕ) → checkNode n ars qs i s ≡ passed t
         → (getD (s .named) i 0 ≡ 1) × NodePassed s i (getD (s .masks) i 0) (kindOf (wordAt qs i 0)) t
     unfolding checkNode
     node-passed i e =
-        let p = unless-passed (eqb (getD (s .named) i 0) 1) _ _ e in
+        let p = demand-read (eqb (getD (s .named) i 0) 1) _ _ e in
         (eqb-true _ _ (p .0), by-passed i (getD (s .masks) i 0) (kindOf (wordAt qs i 0)) (p .1))
 
   -- every node from i on, k of them, stands in its scope
@@ -200,7 +186,7 @@ module _ (n : ℕ) (ars qs : List ℕ) where
   unfolding checkNodes
   nodes-passed few i zero s {t} l e = let z : t ≡ s = cc in (λ j m h. rw z h, λ j a b. absurd (omega arith))
   nodes-passed few i (suc k) s {t} l e =
-      let b = then-passed (checkNode n ars qs i s) (checkNodes n ars qs (suc i) k) e in
+      let b = then-read (checkNode n ars qs i s) (λ first. checkNodes n ars qs (suc i) k) e in
       let p = node-passed few s l i (b .first) in
-      let r = nodes-passed few (suc i) k (b .known) (p .1 .long) (b .second) in
+      let r = nodes-passed few (suc i) k (b .state) (p .1 .long) (b .second) in
       (λ j m h. r .0 j m (p .1 .kept j m h), one-more i k (p .0) (p .1) t (r .0) (r .1))

@@ -4,13 +4,14 @@ ghost use mathlib.Core.Bool.{true};
 ghost use Prim.Native.Nat.{_≤_};
 ghost use lib.ListN.{length};
 ghost use Rattle.instance.specs.Header.{headerStands, maxRelations};
-ghost use Rattle.query.specs.Words.{nodeCount, maxNodes};
+ghost use Rattle.query.specs.Words.{nodeCount, maxNodes, rightLength};
 ghost use Rattle.query.specs.Check.{checkNodes, checkQuery, checkNumber};
 ghost use Rattle.query.specs.Answers.{scopes, Long, Answers};
 use super::node::check_node;
+use super::words::NODE_WORDS;
 use calculus::refusal::BAD_CANDIDATE;
-use calculus::refusal::BAD_QUERY_LENGTH;
 use instance::cells::are_cells;
+use instance::header::COLUMNS;
 
 // The nodes by number, up to the first refusal.
 fn check_nodes(
@@ -26,7 +27,7 @@ fn check_nodes(
         (scopes (now (named .entry)) (now (masks .entry))))
         r (scopes (now (named .exit)) (now (masks .exit))) ⌝ }
 {
-    let count = query.len() / 8;
+    let count = query.len() / NODE_WORDS;
     let mut node = 0;
     while node < count {
         let refusal = check_node(relations, arities, query, node, named, masks);
@@ -38,21 +39,12 @@ fn check_nodes(
     0
 }
 
-// The number of the first refusal that a question and its candidate meet, and 0 where they meet none.
+// The number of the first refusal that a question of the right length and its candidate meet, or 0.
 pub fn check(relations: u32, arities: &[u32; 8], query: &[u32], candidate: &[u32]) -> u32
-    requires { ⌜ (headerStands relations (now arities) ≡ true) × (length (now arities) ≡ maxRelations) ⌝ }
+    requires { ⌜ (headerStands relations (now arities) ≡ true) × (length (now arities) ≡ maxRelations) × (rightLength (now query) ≡ true) ⌝ }
     ensures { λ r. ⌜ r ≡ checkNumber (checkQuery relations (now (arities .entry)) (now (query .entry)) (now (candidate .entry))) ⌝ }
 {
-    if query.len() < 8 {
-        return BAD_QUERY_LENGTH;
-    }
-    if 800 < query.len() {
-        return BAD_QUERY_LENGTH;
-    }
-    if query.len() % 8 != 0 {
-        return BAD_QUERY_LENGTH;
-    }
-    if 6 < candidate.len() {
+    if (COLUMNS as usize) < candidate.len() {
         return BAD_CANDIDATE;
     }
     if !are_cells(candidate) {

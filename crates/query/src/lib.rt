@@ -2,3 +2,4 @@
 pub mod check;
 mod node;
 mod term;
+pub mod words;

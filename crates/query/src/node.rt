@@ -13,19 +13,20 @@ ghost use Rattle.query.specs.Answers.{scopes, Long, AtNode, Answers};
 use super::term::VARIABLES;
 use super::term::bind;
 use super::term::check_terms;
+use super::words::NODE_WORDS;
 use calculus::refusal::BAD_CHILD;
 use calculus::refusal::BAD_NODE;
 use calculus::refusal::NO_SUCH_QUERY_RELATION;
 use calculus::refusal::UNBOUND_VARIABLE;
 
-// Whether the words of a node behind its first `from` are 0.
+// Whether the words of a node after its first `from` are 0.
 fn rest_is_zero(query: &[u32], node: usize, from: usize) -> bool
     requires { ⌜ (node * nodeWords + nodeWords ≤ length (now query)) × (from ≤ nodeWords) ⌝ }
     ensures { λ r. ⌜ r ≡ restIsZero (now (query .entry)) node from ⌝ }
 {
     let mut j = from;
-    while j < 8 {
-        if query[node * 8 + j] != 0 {
+    while j < NODE_WORDS {
+        if query[node * NODE_WORDS + j] != 0 {
             return false;
         }
         j += 1;
@@ -67,7 +68,7 @@ fn check_atom(relations: u32, arities: &[u32; 8], query: &[u32], node: usize, ma
     requires { ⌜ (headerStands relations (now arities) ≡ true) × (length (now arities) ≡ maxRelations) × (node * nodeWords + nodeWords ≤ length (now query)) ⌝ }
     ensures { λ r. ⌜ ((s : Scopes) → Answers (checkBy relations (now (arities .entry)) (now (query .entry)) node mask s rowStands) r s) ⌝ }
 {
-    let relation = query[node * 8 + 1];
+    let relation = query[node * NODE_WORDS + 1];
     if relations <= relation {
         return NO_SUCH_QUERY_RELATION;
     }
@@ -107,10 +108,10 @@ fn check_negation(
         return BAD_NODE;
     }
     check_child(
-        query.len() / 8,
+        query.len() / NODE_WORDS,
         mask,
         node,
-        query[node * 8 + 1],
+        query[node * NODE_WORDS + 1],
         named,
         masks,
     )
@@ -133,12 +134,12 @@ fn check_junction(
     if !rest_is_zero(query, node, 3) {
         return BAD_NODE;
     }
-    let count = query.len() / 8;
-    let left = check_child(count, mask, node, query[node * 8 + 1], named, masks);
+    let count = query.len() / NODE_WORDS;
+    let left = check_child(count, mask, node, query[node * NODE_WORDS + 1], named, masks);
     if left != 0 {
         return left;
     }
-    check_child(count, mask, node, query[node * 8 + 2], named, masks)
+    check_child(count, mask, node, query[node * NODE_WORDS + 2], named, masks)
 }
 
 // Kinds 6 and 7.
@@ -158,15 +159,15 @@ fn check_quantifier(
     if !rest_is_zero(query, node, 3) {
         return BAD_NODE;
     }
-    let variable = query[node * 8 + 1];
+    let variable = query[node * NODE_WORDS + 1];
     if VARIABLES <= variable {
         return UNBOUND_VARIABLE;
     }
     check_child(
-        query.len() / 8,
+        query.len() / NODE_WORDS,
         bind(mask, variable),
         node,
-        query[node * 8 + 2],
+        query[node * NODE_WORDS + 2],
         named,
         masks,
     )
@@ -190,7 +191,7 @@ pub fn check_node(
         return BAD_CHILD;
     }
     let mask = masks[node];
-    let kind = query[node * 8];
+    let kind = query[node * NODE_WORDS];
     match kind {
         1 => check_atom(relations, arities, query, node, mask),
         2 => check_equality(query, node, mask),

@@ -8,6 +8,7 @@ ghost use Rattle.query.specs.Words.{nodeWords};
 ghost use Rattle.query.specs.Scope.{Scopes, bound, binding};
 ghost use Rattle.query.specs.Check.{isTerm, isBound, checkTerms};
 ghost use Rattle.query.specs.Answers.{Answers};
+use super::words::NODE_WORDS;
 use calculus::cell::CONSTANTS;
 use calculus::refusal::BAD_NODE;
 use calculus::refusal::UNBOUND_VARIABLE;
@@ -48,14 +49,14 @@ fn is_bound(mask: u32, w: u32) -> bool
     has(mask, w - VARIABLE_BASE)
 }
 
-// Checks the terms in `count` words of a node, from word `from` on.
+// Checks the terms in `count` words of a node, from word `from`.
 pub fn check_terms(query: &[u32], mask: u32, node: usize, from: usize, count: usize) -> u32
     requires { ⌜ (node * nodeWords + nodeWords ≤ length (now query)) × (from + count ≤ nodeWords) ⌝ }
     ensures { λ r. ⌜ ((s : Scopes) → Answers (checkTerms (now (query .entry)) mask node from count s) r s) ⌝ }
 {
     let mut k = 0;
     while k < count {
-        let w = query[node * 8 + (from + k)];
+        let w = query[node * NODE_WORDS + (from + k)];
         if !is_term(w) {
             return BAD_NODE;
         }

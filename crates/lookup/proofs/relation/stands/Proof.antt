@@ -16,7 +16,7 @@ use Rattle.lookup.specs.declared.row.Match.{Match}
 use Rattle.lookup.specs.declared.row.Match.the-variants.{Identical, Unifies, Apart}
 use Rattle.lookup.specs.Matching.{matching}
 use Rattle.calculus.proofs.KindOne.{row-means}
-use Rattle.instance.proofs.Walk.{AtRow, row-here, relation-few, arity-few, tuples-few}
+use Rattle.instance.proofs.Walk.{AtRow, row-here, relation-few, arity-few, tuples-few, Walk, walk-starts}
 use Rattle.calculus.proofs.Tuples.{tuples-here, tuples-other, no-tuples}
 use Rattle.lookup.proofs.Atom.{truthFrom, truth-starts, truth-ends, truthAfter, truth-step}
 use Rattle.lookup.proofs.relation.stands.Statement.{statement}
@@ -24,7 +24,7 @@ use Rattle.lookup.proofs.relation.stands.Tie as tie
 
 abbrev Inv-loop : tie.InvT-loop
 Inv-loop words arities relations relation rows row arity possible₀ more₀ i₀ possible more i =
-    (i ≤ length words) × (wordsStand relations arities 0 (drop i words) ≡ true)
+    Walk relations arities words i
     × (stands (tuples relation (rowsFrom arities 0 words)) (take (arityOf arities relation) row)
     ≡ truthFrom possible (tuples relation (rowsFrom arities 0 (drop i words))) (take (arityOf arities relation) row))
     × (more ≡ length (tuples relation (rowsFrom arities 0 (drop i words))))
@@ -49,7 +49,7 @@ cast-arity : tie.Need-cast-arity Inv-loop μ-loop
 cast-arity c = omega (arith, arity-low (c .before .before))
 
 loop-holds : tie.Need-loop-holds Inv-loop μ-loop
-loop-holds c = (omega arith, c .before .before .pre .0 .words, truth-starts _ _, c .before .before .pre .1 .1)
+loop-holds c = (walk-starts _ _ _ (c .before .before .pre .0 .words), truth-starts _ _, c .before .before .pre .1 .1)
 
 -- the row at place i
 module _ (c : tie.In-loop Inv-loop μ-loop) where
@@ -88,16 +88,16 @@ module _ (c : tie.In-loop Inv-loop μ-loop) where
 
   -- rows of the relation are to come, so words are
   within : i < length ws
-  within = omega (arith, c .loop-test .taken, c .before .loop .inv .3, tuples-few relation ars (drop i ws), length-drop i ws)
+  within = omega (arith, c .loop-test .taken, c .before .loop .inv .2, tuples-few relation ars (drop i ws), length-drop i ws)
 
   here : AtRow n ars ws i
-  here = row-here n ars ws i within (c .before .loop .inv .1)
+  here = row-here n ars ws i within (c .before .loop .inv .0)
 
   few : w < maxRelations
   few = relation-few n ars ws w (start .pre .0) (here .relation)
 
   seen : (ts : List (List ℕ)) → tuples relation (rowsFrom ars 0 (drop i ws)) ≡ ts → answer ≡ truthFrom possible ts cells
-  seen ts e = c .before .loop .inv .2 ∙ ap (λ (ts : List (List ℕ)). truthFrom possible ts cells) e
+  seen ts e = c .before .loop .inv .1 ∙ ap (λ (ts : List (List ℕ)). truthFrom possible ts cells) e
 
   other : (w ≡ relation → ⊥) → answer ≡ truthFrom possible behind cells
   other ne = seen behind (ap (tuples relation) (here .rows) ∙ tuples-other relation _ _ ne)
@@ -110,10 +110,10 @@ module _ (c : tie.In-loop Inv-loop μ-loop) where
       ∙ ap (λ (m : Match). truthAfter m possible behind cells) (ap (matching cells) cut ∙ told)
 
   one-less : w ≡ relation → c .before .loop .more - 1 ≡ length behind
-  one-less e = omega (arith, c .before .loop .inv .3 ∙ ap length (ap (tuples relation) (here .rows) ∙ tuples-here relation _ _ e))
+  one-less e = omega (arith, c .before .loop .inv .2 ∙ ap length (ap (tuples relation) (here .rows) ∙ tuples-here relation _ _ e))
 
   no-less : (w ≡ relation → ⊥) → c .before .loop .more ≡ length behind
-  no-less ne = c .before .loop .inv .3 ∙ ap length (ap (tuples relation) (here .rows) ∙ tuples-other relation _ _ ne)
+  no-less ne = c .before .loop .inv .2 ∙ ap length (ap (tuples relation) (here .rows) ∙ tuples-other relation _ _ ne)
 
 mul-w : tie.Need-mul-w Inv-loop μ-loop
 mul-w c = omega (arith, within c)
@@ -128,7 +128,7 @@ compare-requires : tie.Need-compare-requires Inv-loop μ-loop
 compare-requires c κs =
     let b = c .before .before in
     let cut : arityOf (ars b) (w b) ≡ arityOf (ars b) (relation b) = ap (arityOf (ars b)) (c .if1 .taken) in
-    (omega (arith, here b .within), arity-low (start b), start b .pre .1 .0 .1)
+    (omega (arith, here b .next .within), arity-low (start b), start b .pre .1 .0 .1)
 
 enum-told : tie.Need-enum-told Inv-loop μ-loop
 enum-told c = search needs
@@ -157,22 +157,21 @@ element-copy-out-i : tie.Need-element-copy-out-i Inv-loop μ-loop
 element-copy-out-i c = few (c .before .before)
 
 cast-i-2 : tie.Need-cast-i-2 Inv-loop μ-loop
-cast-i-2 c = omega (arith, here (c .before .before .before) .within)
+cast-i-2 c = omega (arith, here (c .before .before .before) .next .within)
 
 add-i : tie.Need-add-i Inv-loop μ-loop
-add-i c = omega (arith, here (c .before .before .before) .within)
+add-i c = omega (arith, here (c .before .before .before) .next .within)
 
 add-i-2 : tie.Need-add-i-2 Inv-loop μ-loop
-add-i-2 c = omega (arith, here (c .before .before .before) .within)
+add-i-2 c = omega (arith, here (c .before .before .before) .next .within)
 
 loop-less : tie.Need-loop-less Inv-loop μ-loop
-loop-less c = omega (arith, here (c .before .before .before) .within)
+loop-less c = omega (arith, here (c .before .before .before) .next .within)
 
 loop-again : tie.Need-loop-again Inv-loop μ-loop
 loop-again c =
     let b = c .before .before .before in (
-      here b .within,
-      here b .stands,
+      here b .next,
       ⊎-elim
           (λ a. rw (a .3) (⊎-elim
           (λ m. rw (m .2) (same b (a .0 .taken) Unifies (sym (a .1 .ensures .0) ∙ m .1 .given .1)))
@@ -194,8 +193,8 @@ at-end :
     cond possible Unknown False
 at-end c possible e =
     let a = c .before .before .before .before .args in
-    let none = no-tuples (tuples (a .relation) (rowsFrom (a .arities .now) 0 (drop (c .before .loop .i) (a .words .now)))) (omega (arith, c .loop-test .left, c .before .loop .inv .3)) in
-    c .before .loop .inv .2 ∙ rw (e, none) (truth-ends possible _)
+    let none = no-tuples (tuples (a .relation) (rowsFrom (a .arities .now) 0 (drop (c .before .loop .i) (a .words .now)))) (omega (arith, c .loop-test .left, c .before .loop .inv .2)) in
+    c .before .loop .inv .1 ∙ rw (e, none) (truth-ends possible _)
 
 returns-2 : tie.Need-returns-2 Inv-loop μ-loop
 returns-2 c = row-means _ _ (sym (at-end (c .before) true (c .if2 .taken)))

@@ -6,7 +6,8 @@ use native.Mathlib.Nat.{sub-zero}
 use native.Mathlib.Omega.{arith}
 use Rattle.query.specs.Words.{nodeCount}
 use Rattle.query.specs.Scope.{Scopes}
-use Rattle.query.specs.Check.{Checked, passed, refused, andThen, checkNode, checkNodes}
+use Rattle.query.specs.Check.{Checked, passed, checkNode, checkNodes}
+use Rattle.calculus.specs.Reading.{refused, andThen}
 use Rattle.query.specs.Answers.{scopes, Long}
 use Rattle.query.proofs.Steps.{nodes-rest, answers-passed, answers-refused}
 use Rattle.query.proofs.Parts.{node-passed}
@@ -51,7 +52,7 @@ module _ (c : tie.After-check-node Inv-loop μ-loop) where
   check = checkNode (start .args .relations) (start .args .arities .now) qs node known
 
   seen : checkNodes (start .args .relations) (start .args .arities .now) qs 0 (nodeCount qs) (scopes (start .args .named .now) (start .args .masks .now))
-      ≡ andThen check (checkNodes (start .args .relations) (start .args .arities .now) qs (node + 1) (nodeCount qs - (node + 1)))
+      ≡ andThen check (λ first. checkNodes (start .args .relations) (start .args .arities .now) qs (node + 1) (nodeCount qs - (node + 1)))
   seen = c .before .before .before .before .loop .inv .2 ∙ nodes-rest _ _ qs (nodeCount qs) node known (c .before .before .before .loop-test .taken)
 
   first : c .check-node .result ≡ 0 → check ≡ passed left

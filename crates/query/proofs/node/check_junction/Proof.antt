@@ -8,7 +8,8 @@ use mathlib.Core.Bool.{true}
 use mathlib.Core.List.{List}
 use Rattle.query.specs.Words.{wordAt, nodeCount}
 use Rattle.query.specs.Scope.{Scopes}
-use Rattle.query.specs.Check.{Checked, passed, refused, restIsZero, checkChild}
+use Rattle.query.specs.Check.{Checked, passed, restIsZero, checkChild}
+use Rattle.calculus.specs.Reading.{refused}
 use Rattle.query.specs.Answers.{scopes, Long}
 use native.Mathlib.Omega.{arith}
 use Rattle.query.proofs.Steps.{answers-passed, answers-refused}

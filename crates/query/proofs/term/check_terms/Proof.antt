@@ -11,10 +11,12 @@ use borrow.Author.Tests.{not-true, not-false}
 use lib.Dec.{lit<}
 use Rattle.query.specs.Words.{wordAt}
 use Rattle.query.specs.Scope.{Scopes}
-use Rattle.query.specs.Check.{unless, isTerm, isBound, checkTerms}
+use Rattle.query.specs.Check.{isTerm, isBound, checkTerms}
+use Rattle.calculus.specs.Demand.{demand}
 use Rattle.query.proofs.Steps.{terms-rest}
 use Rattle.query.proofs.term.check_terms.Statement.{statement}
 use Rattle.query.proofs.term.check_terms.Tie as tie
+use Rattle.calculus.specs.Reading.{refused}
 
 abbrev Inv-loop : tie.InvT-loop
 Inv-loop query mask node from count k₀ k = (k ≤ count) × ((s : Scopes) → checkTerms query mask node from count s ≡ checkTerms query mask node (from + k) (count - k) s)
@@ -62,8 +64,8 @@ module _ (c : tie.After-is-term Inv-loop μ-loop) where
 
   seen : (s : Scopes)
       → checkTerms qs (start .args .mask) (start .args .node) (start .args .from) (start .args .count) s
-      ≡ unless (isTerm w) bad-node
-      (unless (isBound (start .args .mask) w) unbound-variable
+      ≡ demand (isTerm w) (refused bad-node)
+      (demand (isBound (start .args .mask) w) (refused unbound-variable)
       (checkTerms qs (start .args .mask) (start .args .node) (start .args .from + (k + 1)) (start .args .count - (k + 1)) s))
   seen s = c .before .before .before .loop .inv .1 s ∙ terms-rest _ _ _ _ _ _ s (omega arith)
 

@@ -1,0 +1,31 @@
+-- The rows of each relation, counted row by row. Assumes nothing.
+use Prim.Native.Nat.{ℕ, _+_, _<_}
+use mathlib.Core.Path.{_≡_, refl, sym, ap}
+use mathlib.Core.List.{List, _∷_}
+use lib.ListN.{length, getD, set}
+use Rattle.calculus.specs.Row.{Row}
+use Rattle.calculus.specs.Closed.{tuples}
+use Rattle.calculus.proofs.Counting.{Counting, counting-one}
+use Rattle.calculus.proofs.Table.{table-size, table-at}
+use Rattle.calculus.proofs.Tuples.{tuples-here, tuples-other}
+use Rattle.instance.specs.Header.{maxRelations}
+use Rattle.instance.specs.RowCounts.{rowCounts}
+
+-- the rows of each relation, counted, with the rows rest still to come
+abbrev pub RowsCounted : List Row → List Row → List ℕ → Type 0
+RowsCounted rs rest counts = Counting maxRelations (λ r. length (tuples r rs)) (λ r. length (tuples r rest)) counts
+
+pub counted-row :
+    (rs : List Row) (row : Row) (rest : List Row) (counts : List ℕ) → row .relation < maxRelations → RowsCounted rs (row ∷ rest) counts →
+    RowsCounted rs rest (set counts (row .relation) (getD counts (row .relation) 0 + 1))
+counted-row rs row rest counts l s =
+    counting-one maxRelations _ _ _ counts (row .relation) l (ap length (tuples-here (row .relation) row rest refl))
+    (λ j ne. ap length (tuples-other j row rest (λ e. ne (sym e)))) s
+
+-- the counts, by relation
+module _ (rs : List Row) where
+  pub row-count-at : (r : ℕ) → r < maxRelations → getD (rowCounts rs) r 0 ≡ length (tuples r rs)
+  row-count-at r l = table-at (λ r. length (tuples r rs)) maxRelations r l
+
+  pub row-counts-size : length (rowCounts rs) ≡ maxRelations
+  row-counts-size = table-size (λ r. length (tuples r rs)) maxRelations
