@@ -10,7 +10,7 @@ use borrow.Author.Tests.{lt-leb}
 use Rattle.calculus.specs.declared.answer.Answer.{Answer}
 use Rattle.calculus.specs.declared.answer.Answer.the-variants as answer
 use Rattle.calculus.specs.Answer.{after}
-use Rattle.calculus.specs.Refusal.{unsound, buffer-too-short}
+use Rattle.calculus.specs.Refusal.{unsound, buffer-too-short, bad-query-length}
 use Rattle.calculus.specs.Row.{Row, cellsOf}
 use Rattle.calculus.specs.Domain.{domain}
 use Rattle.calculus.specs.Model.{asked}
@@ -23,20 +23,22 @@ use Rattle.instance.specs.Rows.{wordsOf, rowsFrom}
 use Rattle.instance.specs.Sound.{sound, rows}
 use Rattle.instance.specs.Run.{modelOf}
 use Rattle.instance.proofs.Rows.{headed}
-use Rattle.query.specs.Words.{nodeCount}
+use Rattle.query.specs.Words.{nodeCount, rightLength}
 use Rattle.query.specs.Tree.{formulaOf}
 use Rattle.query.specs.Scope.{Scopes}
 use Rattle.query.specs.Check.{Checked, passed, checkQuery, checkNumber}
-use Rattle.calculus.specs.Reading.{refused}
+use Rattle.calculus.specs.Reading.{refused, read}
 use Rattle.query.proofs.Passed.{few-cells, count-within, node-stands}
 use Rattle.instance.specs.RowCounts.{rowCounts}
 use Rattle.instance.proofs.RowCounts.{row-count-at, row-counts-size}
 use Rattle.answer.specs.declared.asked.Asked.the-variants.{Refused}
 use Rattle.answer.specs.declared.evaluated.Evaluated.{Evaluated}
 use Rattle.answer.specs.Within.{within}
-use Rattle.answer.specs.Ready.{Ready}
+use Rattle.answer.specs.Ready.{Ready, world}
 use Rattle.answer.specs.Ask.{ifPassed, evaluatedAs, answeredBy, askable, ask, askedBuffer}
 use Rattle.answer.proofs.RerunLaws.{Asks, askable-done}
+use Rattle.calculus.specs.Overwrite.{overwrite}
+use Rattle.instance.proofs.Sound.{sound-gives}
 
 -- a row is one word and its cells
 words-cells : (rs : List Row) → length (wordsOf rs) ≡ length rs + length (cellsOf rs)
@@ -51,7 +53,7 @@ module _ (h : Header) (ws : List ℕ) (e : sound h ws ≡ true) where
   -- the words in use are as many as rows and cells
   pub cells-count : h .used ≡ length (rows h ws) + length (cellsOf (rows h ws))
   cells-count =
-      sym (length-take-le (h .used) ws (parts h ws e .within)) ∙ ap length (sym (sound-words h ws e)) ∙ words-cells (rows h ws)
+      let g = sound-gives h ws e in sym (g .in-use) ∙ ap length (sym (g .words)) ∙ words-cells (rows h ws)
 
 -- the refusals before the evaluation, in their order
 module _ (h : Header) (ws qs cs buffer : List ℕ) where
@@ -59,82 +61,89 @@ module _ (h : Header) (ws qs cs buffer : List ℕ) where
   unfolding askable
   unsound-first e = rw e
 
-  check-second : sound h ws ≡ true → (r : ℕ) → r ≡ checkNumber (checkQuery (h .relations) (h .arities) qs cs) → (r ≡ 0 → ⊥) → askable h ws qs cs buffer ≡ answer.Refused r
+  length-second : sound h ws ≡ true → rightLength qs ≡ false → askable h ws qs cs buffer ≡ answer.Refused bad-query-length
   unfolding askable
-  check-second e r is some = rw e (go (checkQuery (h .relations) (h .arities) qs cs) _ is)
+  length-second e l = rw (e, l)
+
+  check-third : sound h ws ≡ true → rightLength qs ≡ true → (r : ℕ) → r ≡ checkNumber (checkQuery (h .relations) (h .arities) qs cs) → (r ≡ 0 → ⊥) → askable h ws qs cs buffer ≡ answer.Refused r
+  unfolding askable
+  check-third e l r is some = rw (e, l) (go (checkQuery (h .relations) (h .arities) qs cs) _ is)
     where
       go : (c : Checked) (a : Answer) → r ≡ checkNumber c → ifPassed c a ≡ answer.Refused r
-      go (passed s) a p = absurd (some p)
+      go (read done s) a p = absurd (some p)
       go (refused q) a p = ap answer.Refused (sym p)
 
-  buffer-third : sound h ws ≡ true → (s : Scopes) → checkQuery (h .relations) (h .arities) qs cs ≡ passed s → length buffer < length (cellsOf (rows h ws)) → askable h ws qs cs buffer ≡ answer.Refused buffer-too-short
+  buffer-fourth : sound h ws ≡ true → rightLength qs ≡ true → (s : Scopes) → checkQuery (h .relations) (h .arities) qs cs ≡ passed s → length buffer < length (cellsOf (rows h ws)) → askable h ws qs cs buffer ≡ answer.Refused buffer-too-short
   unfolding askable
-  buffer-third e s p short = rw (e, p, lt-leb (length (cellsOf (rows h ws))) (length buffer) short) refl
+  buffer-fourth e l s p short = rw (e, l, p, lt-leb (length (cellsOf (rows h ws))) (length buffer) short) refl
 
 module _ (h : Header) (ws qs cs buffer : List ℕ) (budget : ℕ) where
   refused-by : (r : ℕ) → askable h ws qs cs buffer ≡ answer.Refused r → (Refused r ≡ ask h ws qs cs buffer budget) × (buffer ≡ askedBuffer h ws qs cs buffer)
   unfolding ask askedBuffer
   refused-by r e = (
     sym (ap (λ (x : Answer). answeredBy x (within budget (asked (modelOf h ws cs) (formulaOf (h .arities) qs)))) e),
-    sym (ap (λ (x : Answer). after x (domain (rows h ws) ++ drop (length (domain (rows h ws))) buffer) buffer) e),
+    sym (ap (λ (x : Answer). after x (overwrite (domain (rows h ws)) buffer) buffer) e),
   )
 
   pub unsound-asked : sound h ws ≡ false → (Refused unsound ≡ ask h ws qs cs buffer budget) × (buffer ≡ askedBuffer h ws qs cs buffer)
   unsound-asked e = refused-by unsound (unsound-first h ws qs cs buffer e)
 
+  pub length-asked : sound h ws ≡ true → rightLength qs ≡ false → (Refused bad-query-length ≡ ask h ws qs cs buffer budget) × (buffer ≡ askedBuffer h ws qs cs buffer)
+  length-asked e l = refused-by bad-query-length (length-second h ws qs cs buffer e l)
+
   pub check-asked :
-      sound h ws ≡ true → (r : ℕ) → r ≡ checkNumber (checkQuery (h .relations) (h .arities) qs cs) → (r ≡ 0 → ⊥) →
+      sound h ws ≡ true → rightLength qs ≡ true → (r : ℕ) → r ≡ checkNumber (checkQuery (h .relations) (h .arities) qs cs) → (r ≡ 0 → ⊥) →
       (Refused r ≡ ask h ws qs cs buffer budget) × (buffer ≡ askedBuffer h ws qs cs buffer)
-  check-asked e r is some = refused-by r (check-second h ws qs cs buffer e r is some)
+  check-asked e l r is some = refused-by r (check-third h ws qs cs buffer e l r is some)
 
   pub buffer-asked :
-      sound h ws ≡ true → (s : Scopes) → checkQuery (h .relations) (h .arities) qs cs ≡ passed s → length buffer < length (cellsOf (rows h ws)) →
+      sound h ws ≡ true → rightLength qs ≡ true → (s : Scopes) → checkQuery (h .relations) (h .arities) qs cs ≡ passed s → length buffer < length (cellsOf (rows h ws)) →
       (Refused buffer-too-short ≡ ask h ws qs cs buffer budget) × (buffer ≡ askedBuffer h ws qs cs buffer)
-  buffer-asked e s p short = refused-by buffer-too-short (buffer-third h ws qs cs buffer e s p short)
+  buffer-asked e l s p short = refused-by buffer-too-short (buffer-fourth h ws qs cs buffer e l s p short)
 
   pub evaluated-asked :
       Asks h ws qs cs buffer →
       (evaluatedAs (within budget (asked (modelOf h ws cs) (formulaOf (h .arities) qs))) ≡ ask h ws qs cs buffer budget) ×
-      (domain (rows h ws) ++ drop (length (domain (rows h ws))) buffer ≡ askedBuffer h ws qs cs buffer)
+      (overwrite (domain (rows h ws)) buffer ≡ askedBuffer h ws qs cs buffer)
   unfolding ask askedBuffer
   evaluated-asked a =
       let e = askable-done h ws qs cs buffer a in (
         sym (ap (λ (x : Answer). answeredBy x (within budget (asked (modelOf h ws cs) (formulaOf (h .arities) qs)))) e),
-        sym (ap (λ (x : Answer). after x (domain (rows h ws) ++ drop (length (domain (rows h ws))) buffer) buffer) e),
+        sym (ap (λ (x : Answer). after x (overwrite (domain (rows h ws)) buffer) buffer) e),
       )
 
 -- a sound instance and a question that passed are ready to be evaluated
-module _ (h : Header) (ws qs cs : List ℕ) (e : sound h ws ≡ true) (eight : length (h .arities) ≡ maxRelations) (s : Scopes) (p : checkQuery (h .relations) (h .arities) qs cs ≡ passed s) where
+module _ (h : Header) (ws qs cs : List ℕ) (e : sound h ws ≡ true) (eight : length (h .arities) ≡ maxRelations) (right : rightLength qs ≡ true) (s : Scopes) (p : checkQuery (h .relations) (h .arities) qs cs ≡ passed s) where
   pub made-ready :
       (counts values : List ℕ) → counts ≡ rowCounts (rowsFrom (h .arities) 0 (take (h .used) ws)) →
       values ≡ domain (rowsFrom (h .arities) 0 (take (h .used) ws)) →
-      Ready (h .relations) (h .arities) (take (h .used) ws) qs counts values × ((0 < nodeCount qs) × (length cs ≤ variables))
+      (Ready (h .relations) (h .arities) (take (h .used) ws) qs counts × (values ≡ world (h .arities) (take (h .used) ws) .range)) ×
+      ((0 < nodeCount qs) × (length cs ≤ variables))
   made-ready counts values is-counted is-listed =
       let rs = rowsFrom (h .arities) 0 (take (h .used) ws) in
-      let st = sound-standing h ws e in
-      let within = count-within (h .relations) (h .arities) qs cs s p in
-      let few = headed (h .relations) (h .arities) (st .header) .few in (
-        record {
-          header = st .header;
-          eight = eight;
-          words = st .words;
-          few = st .few;
-          whole = within .2;
-          nodes-few = within .1;
-          nodes = node-stands (h .relations) (h .arities) qs cs s p;
-          counted = λ r l. rw is-counted (row-count-at rs r (omega (arith, l, few)));
-          eight-counts = rw is-counted (row-counts-size rs);
-          listed = is-listed;
-        },
-        (within .0, omega (arith, few-cells (h .relations) (h .arities) qs cs s p)),
+      let g = sound-gives h ws e in
+      let within = count-within qs right in (
+        (
+          record {
+            standing = g .standing;
+            eight = eight;
+            whole = within .2;
+            nodes-few = within .1;
+            nodes = node-stands (h .relations) (h .arities) qs cs right s p;
+            counted = λ r l. rw is-counted (row-count-at rs r (omega (arith, l, g .headed .few)));
+            eight-counts = rw is-counted (row-counts-size rs);
+          },
+          is-listed,
+        ),
+        (within .0, omega (arith, few-cells (h .relations) (h .arities) qs cs right s p)),
       )
 
 -- what is answered where nothing is refused before the evaluation
 module _ (h : Header) (ws qs cs buffer : List ℕ) (budget : ℕ) (a : Asks h ws qs cs buffer) where
   pub answered :
-      (r : Evaluated) → r ≡ within budget (eval (closed (rowsFrom (h .arities) 0 (take (h .used) ws))) (formulaOf (h .arities) qs) (assignment cs)) →
+      (r : Evaluated) → r ≡ within budget (eval (world (h .arities) (take (h .used) ws)) (formulaOf (h .arities) qs) (assignment cs)) →
       (left : List ℕ) →
-      left ≡ domain (rowsFrom (h .arities) 0 (take (h .used) ws)) ++ drop (length (domain (rowsFrom (h .arities) 0 (take (h .used) ws)))) buffer →
+      left ≡ overwrite (domain (rowsFrom (h .arities) 0 (take (h .used) ws))) buffer →
       (evaluatedAs r ≡ ask h ws qs cs buffer budget) × (left ≡ askedBuffer h ws qs cs buffer)
   unfolding rows
   answered r is left holds =
@@ -142,6 +151,6 @@ module _ (h : Header) (ws qs cs buffer : List ℕ) (budget : ℕ) (a : Asks h ws
       (ap evaluatedAs is ∙ e .0, holds ∙ e .1)
 
 -- the values are the first words of the buffer that they were listed in
-pub listed-part : (vs buffer left : List ℕ) (n : ℕ) → n ≡ length vs → left ≡ vs ++ drop (length vs) buffer → (n ≤ length left) × (take n left ≡ vs)
+pub listed-part : (vs buffer left : List ℕ) (n : ℕ) → n ≡ length vs → left ≡ overwrite vs buffer → (n ≤ length left) × (take n left ≡ vs)
 listed-part vs buffer left n long is =
     (omega (arith, long, ap length is, length-append vs (drop (length vs) buffer)), ap (take n) is ∙ take-at vs (drop (length vs) buffer) n (sym long))

@@ -56,9 +56,9 @@ none-above w h = List·getD-eq-default kinds noKind h
 
 -- what a node that stands says of its children, by its kind
 pub stands-by :
-    (n : ℕ) (ars ws qs counts values : List ℕ) (i : ℕ) (kind : Kind) →
-    Ready n ars ws qs counts values → i < nodeCount qs → kindOf (wordAt qs i 0) ≡ kind → NodeBy n ars qs i kind
-stands-by n ars ws qs counts values i kind r known is = subst (NodeBy n ars qs i) is (r .nodes i known)
+    (n : ℕ) (ars ws qs counts : List ℕ) (i : ℕ) (kind : Kind) →
+    Ready n ars ws qs counts → i < nodeCount qs → kindOf (wordAt qs i 0) ≡ kind → NodeBy n ars qs i kind
+stands-by n ars ws qs counts i kind r known is = subst (NodeBy n ars qs i) is (r .nodes i known)
 
 -- what an atom's node says: its relation, how many rows that has, and its arity
 pub record AtomStands (n : ℕ) (ars ws qs counts : List ℕ) (i : ℕ) : Type 0 where
@@ -70,17 +70,17 @@ pub record AtomStands (n : ℕ) (ars ws qs counts : List ℕ) (i : ℕ) : Type 0
   pub terms : (j : ℕ) → j < arityOf ars (wordAt qs i 1) → isTerm (wordAt qs i (2 + j)) ≡ true
 
 pub atom-stands :
-    (n : ℕ) (ars ws qs counts values : List ℕ) (i : ℕ) →
-    Ready n ars ws qs counts values → i < nodeCount qs → kindOf (wordAt qs i 0) ≡ rowStands → AtomStands n ars ws qs counts i
-atom-stands n ars ws qs counts values i r known is =
-    let by = stands-by n ars ws qs counts values i rowStands r known is in
-    let head = headed n ars (r .header) in
+    (n : ℕ) (ars ws qs counts : List ℕ) (i : ℕ) →
+    Ready n ars ws qs counts → i < nodeCount qs → kindOf (wordAt qs i 0) ≡ rowStands → AtomStands n ars ws qs counts i
+atom-stands n ars ws qs counts i r known is =
+    let by = stands-by n ars ws qs counts i rowStands r known is in
+    let head = headed n ars (r .standing .header) in
     let count = r .counted (wordAt qs i 1) (by .0) in
     record {
       relation = by .0;
       eight = omega (arith, by .0, head .few);
       counted = count;
-      few = omega (arith, count, tuples-few (wordAt qs i 1) ars ws, r .few);
+      few = omega (arith, count, tuples-few (wordAt qs i 1) ars ws, r .standing .few);
       narrow = head .columns (wordAt qs i 1) (by .0) .1;
       terms = by .1;
     }

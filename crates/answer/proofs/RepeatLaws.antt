@@ -45,7 +45,7 @@ module _ (h h′ : Header) (ws ws′ qs candidate buffer : List ℕ) (budget : �
       let a = verdict-asked h ws qs candidate buffer budget t n e in
       let was = was-verdict budget twice t n (a .1) in
       let passes : checkQuery (h′ .relations) (h′ .arities) qs candidate ≡ passed (a .0 .scopes) = rw (r .relations, r .arities) (a .0 .passes) in
-      let asks : Asks h′ ws′ qs candidate buffer = record { stands = r .second-sound; scopes = a .0 .scopes; passes = passes; room = omega (arith, fewer, a .0 .room) } in
+      let asks : Asks h′ ws′ qs candidate buffer = record { stands = r .second-sound; right = a .0 .right; scopes = a .0 .scopes; passes = passes; room = omega (arith, fewer, a .0 .room) } in
       record {
         looks = once .cost;
         no-more = omega (arith, kept .cost, was .cost);
@@ -63,7 +63,7 @@ module _ (h h′ : Header) (ws ws′ qs candidate buffer : List ℕ) (budget : �
       let was = was-verdict budget once t n (a .1) in
       let passes : checkQuery (h .relations) (h .arities) qs candidate ≡ passed (a .0 .scopes) =
       sym (ap₂ (λ (k : ℕ) (ars : List ℕ). checkQuery k ars qs candidate) (r .relations) (r .arities)) ∙ a .0 .passes in
-      let asks : Asks h ws qs candidate buffer = record { stands = r .first-sound; scopes = a .0 .scopes; passes = passes; room = room } in
+      let asks : Asks h ws qs candidate buffer = record { stands = r .first-sound; right = a .0 .right; scopes = a .0 .scopes; passes = passes; room = room } in
       go (leb (twice .cost) budget) refl asks (was .truth) (was .cost)
     where
       go :

@@ -11,7 +11,7 @@ use Rattle.calculus.specs.declared.answer.Answer.{Answer}
 use Rattle.calculus.specs.declared.answer.Answer.the-variants as answer
 use Rattle.calculus.specs.declared.truth.Truth.{Truth}
 use Rattle.calculus.specs.Demand.{demand}
-use Rattle.calculus.specs.Refusal.{unsound, buffer-too-short}
+use Rattle.calculus.specs.Refusal.{unsound, buffer-too-short, bad-query-length}
 use Rattle.calculus.specs.Row.{Row, cellsOf}
 use Rattle.calculus.specs.Eval.{Outcome}
 use Rattle.calculus.specs.Order.{_⊑_}
@@ -24,11 +24,11 @@ use Rattle.instance.specs.declared.header.Header.{Header}
 use Rattle.instance.specs.Sound.{sound, rows}
 use Rattle.instance.specs.Run.{filledWords, modelOf}
 use Rattle.instance.proofs.Run.{ran, candidate-stands}
-use Rattle.query.specs.Words.{nodeCount}
+use Rattle.query.specs.Words.{nodeCount, rightLength}
 use Rattle.query.specs.Tree.{formulaOf}
 use Rattle.query.specs.Scope.{Scopes}
 use Rattle.query.specs.Check.{Checked, passed, checkQuery}
-use Rattle.calculus.specs.Reading.{refused}
+use Rattle.calculus.specs.Reading.{refused, read}
 use Rattle.query.proofs.Passed.{passed-inked, count-within, are-cells, same-candidate}
 use Rattle.answer.specs.declared.asked.Asked.the-variants.{Verdict, Refused}
 use Rattle.answer.specs.declared.evaluated.Evaluated.{Evaluated}
@@ -37,13 +37,12 @@ use Rattle.answer.specs.Within.{within}
 use Rattle.answer.specs.Ask.{ifPassed, evaluatedAs, answeredBy, askable, ask}
 use Rattle.answer.specs.Rerun.{DemandThree}
 use Rattle.answer.proofs.Budget.{verdict, was-verdict}
-
-zero-not-one : _≡_ {A = ℕ} 0 1 → ⊥
-zero-not-one z = omega arith
+use Rattle.calculus.proofs.Bools.{zero-not-one}
 
 -- what a verdict says of the refusals before it
 pub record Asks (h : Header) (ws qs candidate buffer : List ℕ) : Type 0 where
   pub stands : sound h ws ≡ true
+  pub right : rightLength qs ≡ true
   pub scopes : Scopes
   pub passes : checkQuery (h .relations) (h .arities) qs candidate ≡ passed scopes
   pub room : length (cellsOf (rows h ws)) ≤ length buffer
@@ -52,21 +51,22 @@ pub asks-done : (h : Header) (ws qs candidate buffer : List ℕ) (k : ℕ) → a
 unfolding askable
 asks-done h ws qs candidate buffer k e =
     let a = demand-done (sound h ws) unsound _ k e in
-    go (checkQuery (h .relations) (h .arities) qs candidate) refl (a .0) (a .1)
+    let q = demand-done (rightLength qs) bad-query-length _ k (a .1) in
+    go (checkQuery (h .relations) (h .arities) qs candidate) refl (a .0) (q .0) (q .1)
   where
     go :
-        (c : Checked) → checkQuery (h .relations) (h .arities) qs candidate ≡ c → sound h ws ≡ true →
-        ifPassed c (demand (leb (length (cellsOf (rows h ws))) (length buffer)) buffer-too-short (answer.Done 0)) ≡ answer.Done k →
+        (c : Checked) → checkQuery (h .relations) (h .arities) qs candidate ≡ c → sound h ws ≡ true → rightLength qs ≡ true →
+        ifPassed c (demand (leb (length (cellsOf (rows h ws))) (length buffer)) (answer.Refused buffer-too-short) (answer.Done 0)) ≡ answer.Done k →
         Asks h ws qs candidate buffer
-    go (passed s) p stands d =
+    go (read done s) p stands right d =
         let r = demand-done (leb (length (cellsOf (rows h ws))) (length buffer)) buffer-too-short (answer.Done 0) k d in
-        record { stands = stands; scopes = s; passes = p; room = leb-true (length (cellsOf (rows h ws))) (length buffer) (r .0) }
-    go (refused r) p stands d = let z : _≡_ {A = ℕ} 0 1 = cc in absurd (zero-not-one z)
+        record { stands = stands; right = right; scopes = s; passes = p; room = leb-true (length (cellsOf (rows h ws))) (length buffer) (r .0) }
+    go (refused r) p stands right d = let z : _≡_ {A = ℕ} 0 1 = cc in absurd (zero-not-one z)
 
 pub askable-done : (h : Header) (ws qs candidate buffer : List ℕ) → Asks h ws qs candidate buffer → askable h ws qs candidate buffer ≡ answer.Done 0
 unfolding askable
 askable-done h ws qs candidate buffer a =
-    rw (a .stands, a .passes, le-leb (length (cellsOf (rows h ws))) (length buffer) (a .room)) refl
+    rw (a .stands, a .right, a .passes, le-leb (length (cellsOf (rows h ws))) (length buffer) (a .room)) refl
 
 -- a verdict: nothing is refused, and the outcome is within the budget
 pub verdict-asked :
@@ -111,10 +111,10 @@ demand-three h ws qs candidate buffer budget fs buffer′ budget′ longer large
     let was = was-verdict budget (asked b (formulaOf (h .arities) qs)) t n (a .1) in
     let r = ran h fs ws candidate (a .0 .stands) in
     let m = mapped-run fs b in
-    let shared = runs-share fs b (formulaOf (h .arities) qs) (passed-inked (h .relations) (h .arities) qs candidate (a .0 .scopes) (a .0 .passes) (nodeCount qs) 0 (count-within (h .relations) (h .arities) qs candidate (a .0 .scopes) (a .0 .passes) .0)) in
+    let shared = runs-share fs b (formulaOf (h .arities) qs) (passed-inked (h .relations) (h .arities) qs candidate (a .0 .right) (a .0 .scopes) (a .0 .passes) (nodeCount qs) 0 (count-within qs (a .0 .right) .0)) in
     let after = run fs b in
     let ws′ = filledWords h fs ws in
-    let cells = are-cells (h .relations) (h .arities) qs candidate (a .0 .scopes) (a .0 .passes) in
+    let cells = are-cells (h .relations) (h .arities) qs candidate (a .0 .right) (a .0 .scopes) (a .0 .passes) in
     let long : length (after .candidate) ≡ length candidate = ap length (m .candidate) ∙ length-map candidate (m .by) in
     let passes = same-candidate (h .relations) (h .arities) qs (after .candidate) candidate long (candidate-stands fs b cells ∙ sym cells) ∙ a .0 .passes in
     let same-cells : length (cellsOf (rows h ws′)) ≡ length (cellsOf (rows h ws)) =
@@ -132,7 +132,7 @@ demand-three h ws qs candidate buffer budget fs buffer′ budget′ longer large
       truth = o .truth;
       cost = o .cost;
       answers =
-          asked-verdict h ws′ qs (after .candidate) buffer′ budget′ (record { stands = r .stands; scopes = a .0 .scopes; passes = passes; room = room }) fits ∙
+          asked-verdict h ws′ qs (after .candidate) buffer′ budget′ (record { stands = r .stands; right = a .0 .right; scopes = a .0 .scopes; passes = passes; room = room }) fits ∙
           ap (λ (x : Outcome). Verdict (x .truth) (x .cost)) same-outcome;
       kept = subst (λ (x : Truth). x ⊑ o .truth) (was .truth) (shared .kept .truth);
       no-more = omega (arith, shared .kept .cost, was .cost);

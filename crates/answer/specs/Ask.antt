@@ -7,7 +7,7 @@ use lib.Dec.{leb}
 use Rattle.calculus.specs.declared.answer.Answer.{Answer}
 use Rattle.calculus.specs.declared.answer.Answer.the-variants as answer
 use Rattle.calculus.specs.Answer.{after}
-use Rattle.calculus.specs.Refusal.{unsound, buffer-too-short, budget-spent}
+use Rattle.calculus.specs.Refusal.{unsound, buffer-too-short, budget-spent, bad-query-length}
 use Rattle.calculus.specs.Row.{cellsOf}
 use Rattle.calculus.specs.Domain.{domain}
 use Rattle.calculus.specs.Model.{asked}
@@ -16,16 +16,19 @@ use Rattle.instance.specs.Sound.{sound, rows}
 use Rattle.instance.specs.Run.{modelOf}
 use Rattle.query.specs.Tree.{formulaOf}
 use Rattle.query.specs.Check.{Checked, passed, checkQuery}
-use Rattle.calculus.specs.Reading.{refused}
+use Rattle.calculus.specs.Reading.{refused, read}
 use Rattle.answer.specs.declared.asked.Asked.{Asked}
 use Rattle.answer.specs.declared.asked.Asked.the-variants as ask-answer
 use Rattle.answer.specs.declared.evaluated.Evaluated.{Evaluated}
 use Rattle.answer.specs.declared.evaluated.Evaluated.the-variants as evaluated
 use Rattle.answer.specs.Within.{within}
+use Rattle.calculus.specs.Demand.{demand}
+use Rattle.calculus.specs.Overwrite.{overwrite}
+use Rattle.query.specs.Words.{rightLength}
 
--- goes on where the question passed its check
+-- goes on if the question passed its check
 abbrev pub ifPassed : Checked → Answer → Answer
-ifPassed (passed s) a = a
+ifPassed (read done s) a = a
 ifPassed (refused r) a = answer.Refused r
 
 -- an evaluation's answer; "46: the question's looks exceed the allowance"
@@ -33,7 +36,7 @@ abbrev pub evaluatedAs : Evaluated → Asked
 evaluatedAs (evaluated.Verdict t n) = ask-answer.Verdict t n
 evaluatedAs evaluated.Spent = ask-answer.Refused budget-spent
 
--- the evaluation is answered where nothing is refused before it
+-- the evaluation is answered if nothing is refused before it
 abbrev pub answeredBy : Answer → Evaluated → Asked
 answeredBy (answer.Done n) e = evaluatedAs e
 answeredBy (answer.Refused r) e = ask-answer.Refused r
@@ -42,13 +45,14 @@ module _ (h : Header) (ws qs candidate buffer : List ℕ) where
   -- the refusals that come before the evaluation
   unfoldable pub askable : Answer
   askable =
-      demand (sound h ws) unsound
+      demand (sound h ws) (answer.Refused unsound)
+      (demand (rightLength qs) (answer.Refused bad-query-length)
       (ifPassed (checkQuery (h .relations) (h .arities) qs candidate)
-      (demand (leb (length (cellsOf (rows h ws))) (length buffer)) buffer-too-short (answer.Done 0)))
+      (demand (leb (length (cellsOf (rows h ws))) (length buffer)) (answer.Refused buffer-too-short) (answer.Done 0))))
 
   unfoldable pub ask : ℕ → Asked
   ask budget = answeredBy askable (within budget (asked (modelOf h ws candidate) (formulaOf (h .arities) qs)))
 
   -- "After a verdict or number 46 it holds the plot's values first, and its other words keep their content. No other refusal touches it."
   unfoldable pub askedBuffer : List ℕ
-  askedBuffer = after askable (domain (rows h ws) ++ drop (length (domain (rows h ws))) buffer) buffer
+  askedBuffer = after askable (overwrite (domain (rows h ws)) buffer) buffer

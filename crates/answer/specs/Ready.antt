@@ -1,5 +1,4 @@
--- What evaluation is handed: a sound instance's words, a question that passed its check, the instance's values, and the rows of each relation
--- counted.
+-- What evaluation is given: a sound instance's words, a question that passed its check, the number of rows of each relation, and the instance's values.
 use Prim.Native.Nat.{ℕ, _+_, _*_, _<_, _≤_}
 use mathlib.Core.Path.{_≡_}
 use mathlib.Core.Bool.{Bool, true, false}
@@ -17,29 +16,28 @@ use Rattle.query.specs.Check.{isTerm}
 use Rattle.query.specs.Passed.{NodeStands}
 use Rattle.answer.specs.declared.evaluated.Evaluated.{Evaluated}
 use Rattle.answer.specs.Within.{within}
+use Rattle.instance.specs.Standing.{Standing}
 
 -- the structure that words stand for
 abbrev pub world : List ℕ → List ℕ → Structure
 world ars ws = closed (rowsFrom ars 0 ws)
 
-pub record Ready (n : ℕ) (ars ws qs counts values : List ℕ) : Type 0 where
-  pub header : headerStands n ars ≡ true
+pub record Ready (n : ℕ) (ars ws qs counts : List ℕ) : Type 0 where
+  pub standing : Standing n ars ws
   pub eight : length ars ≡ maxRelations
-  pub words : wordsStand n ars 0 ws ≡ true
-  pub few : length ws ≤ maxWords
   pub whole : nodeCount qs * nodeWords ≡ length qs
   pub nodes-few : nodeCount qs ≤ maxNodes
   pub nodes : (i : ℕ) → i < nodeCount qs → NodeStands n ars qs i
   pub counted : (r : ℕ) → r < n → getD counts r 0 ≡ length (tuples r (rowsFrom ars 0 ws))
   pub eight-counts : length counts ≡ maxRelations
-  pub listed : values ≡ world ars ws .range
 
 -- the outcome of node i in a structure, with k nodes left, under an assignment
 abbrev pub outcomeAt : Structure → List ℕ → List ℕ → ℕ → ℕ → List ℕ → Outcome
 outcomeAt S ars qs k i e = eval S (formulaAt ars qs k i) e
 
 pub record Evaluable (n : ℕ) (ars ws qs counts values : List ℕ) (i : ℕ) (e : List ℕ) : Type 0 where
-  pub ready : Ready n ars ws qs counts values
+  pub ready : Ready n ars ws qs counts
+  pub listed : values ≡ world ars ws .range
   pub known : i < nodeCount qs
   pub sixteen : length e ≡ variables
 

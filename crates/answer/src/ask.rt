@@ -9,7 +9,7 @@ ghost use Rattle.instance.specs.Rows.{rowsFrom};
 ghost use Rattle.query.specs.Words.{nodeCount};
 ghost use Rattle.query.specs.Tree.{formulaOf};
 ghost use Rattle.answer.specs.Within.{within};
-ghost use Rattle.answer.specs.Ready.{Ready};
+ghost use Rattle.answer.specs.Ready.{Ready, world};
 ghost use Rattle.calculus.specs.Model.{asked as askedOf};
 ghost use Rattle.instance.specs.Run.{modelOf};
 ghost use Rattle.answer.specs.Ask.{ask as askOf, askedBuffer};
@@ -17,6 +17,7 @@ ghost use Rattle.answer.specs.Numbers.{TellsVerdict};
 use super::asked::Asked;
 use super::evaluated::Evaluated;
 use super::nodes::evaluate;
+use calculus::refusal::BAD_QUERY_LENGTH;
 use calculus::refusal::BUDGET_SPENT;
 use calculus::refusal::BUFFER_TOO_SHORT;
 use calculus::refusal::UNSOUND;
@@ -26,6 +27,7 @@ use instance::scan::scan;
 use lookup::counts::row_counts;
 use lookup::domain::list_values;
 use query::check::check;
+use query::words::right_length;
 
 // The candidate's cells for the first variables, 0 for the others.
 fn assigned(candidate: &[u32]) -> [u32; 16]
@@ -52,9 +54,9 @@ fn evaluate_top(
     candidate: &[u32],
     budget: u32,
 ) -> Evaluated
-    requires { ⌜ Ready relations (now arities) (now words) (now query) (now counts) (now values) ⌝ }
+    requires { ⌜ Ready relations (now arities) (now words) (now query) (now counts) × (now values ≡ world (now arities) (now words) .range) ⌝ }
     requires { ⌜ (0 < nodeCount (now query)) × (length (now candidate) ≤ variables) ⌝ }
-    ensures { λ r. ⌜ r ≡ within budget (eval (closed (rowsFrom (now (arities .entry)) 0 (now (words .entry)))) (formulaOf (now (arities .entry)) (now (query .entry))) (assignment (now (candidate .entry)))) ⌝ }
+    ensures { λ r. ⌜ r ≡ within budget (eval (world (now (arities .entry)) (now (words .entry))) (formulaOf (now (arities .entry)) (now (query .entry))) (assignment (now (candidate .entry)))) ⌝ }
 {
     let mut env = assigned(candidate);
     evaluate(
@@ -88,6 +90,9 @@ pub fn ask(
     let relations = header.relations;
     let arities = header.arities;
     let used = header.used as usize;
+    if !right_length(query) {
+        return Asked::Refused(BAD_QUERY_LENGTH);
+    }
     let refusal = check(relations, &arities, query, candidate);
     if refusal != 0 {
         return Asked::Refused(refusal);

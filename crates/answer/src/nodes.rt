@@ -1,12 +1,16 @@
 // Evaluation of a question's nodes. The stack grows with the question's depth alone: the walk over values is a loop.
 ghost use mathlib.Core.Path.{_≡_};
-ghost use Rattle.calculus.specs.Eval.{settles as settlesOf};
+ghost use Rattle.calculus.specs.Eval.{settles as settlesOf, Structure};
 ghost use Rattle.calculus.specs.Kleene.{join as joinOf, unit as unitOf};
-ghost use Prim.Native.Nat.{_<_};
+ghost use Prim.Native.Nat.{_<_, ℕ};
 ghost use lib.ListN.{length, set};
 ghost use Rattle.calculus.specs.Formula.{variables};
 ghost use Rattle.query.specs.Words.{nodeCount, nodeWords, wordAt, kindOf, rowStands, equals, negates, joins, ranges};
-ghost use Rattle.answer.specs.Ready.{Evaluable, Right, junctionOf};
+ghost use Rattle.answer.specs.Ready.{Evaluable, Right, junctionOf, Ready, RightIn};
+ghost use Rattle.calculus.specs.Closed.{equality as equalityOf};
+ghost use mathlib.Core.List.{List};
+ghost use mathlib.Core.Bool.{true};
+ghost use Rattle.query.specs.Check.{isTerm};
 use super::evaluated::Evaluated;
 use super::terms::asked_row;
 use super::terms::same;
@@ -16,13 +20,14 @@ use calculus::truth::and;
 use calculus::truth::not;
 use calculus::truth::or;
 use lookup::relation::stands;
+use query::words::NODE_WORDS;
 
 // Word j of a node.
 fn word(query: &[u32], node: usize, j: usize) -> usize
     requires { ⌜ (node < nodeCount (now query)) × (j < nodeWords) ⌝ }
     ensures { λ r. ⌜ r ≡ wordAt (now (query .entry)) node j ⌝ }
 {
-    query[node * 8 + j] as usize
+    query[node * NODE_WORDS + j] as usize
 }
 
 // Gives a variable a cell.
@@ -39,13 +44,12 @@ fn atom(
     node: usize,
     env: &[u32; 16],
     budget: u32,
-    values: &[u32],
     relations: u32,
     arities: &[u32; 8],
     words: &[u32],
     counts: &[u32; 8],
 ) -> Evaluated
-    requires { ⌜ Evaluable relations (now arities) (now words) (now query) (now counts) (now values) node (now env) ⌝ }
+    requires { ⌜ Ready relations (now arities) (now words) (now query) (now counts) × (node < nodeCount (now query)) × (length (now env) ≡ variables) ⌝ }
     requires { ⌜ kindOf (wordAt (now query) node 0) ≡ rowStands ⌝ }
     ensures right { λ r. ⌜ Right (now (arities .entry)) (now (words .entry)) (now (query .entry)) node (now (env .entry)) budget r ⌝ }
 {
@@ -64,20 +68,11 @@ fn atom(
 }
 
 // An equality.
-fn equality(
-    query: &[u32],
-    node: usize,
-    env: &[u32; 16],
-    budget: u32,
-    values: &[u32],
-    relations: u32,
-    arities: &[u32; 8],
-    words: &[u32],
-    counts: &[u32; 8],
-) -> Evaluated
-    requires { ⌜ Evaluable relations (now arities) (now words) (now query) (now counts) (now values) node (now env) ⌝ }
+fn equality(query: &[u32], node: usize, env: &[u32; 16], budget: u32) -> Evaluated
+    requires { ⌜ (node < nodeCount (now query)) × (length (now env) ≡ variables) ⌝ }
+    requires { ⌜ (isTerm (wordAt (now query) node 1) ≡ true) × (isTerm (wordAt (now query) node 2) ≡ true) ⌝ }
     requires { ⌜ kindOf (wordAt (now query) node 0) ≡ equals ⌝ }
-    ensures right { λ r. ⌜ Right (now (arities .entry)) (now (words .entry)) (now (query .entry)) node (now (env .entry)) budget r ⌝ }
+    ensures right { λ r. ⌜ ((S : Structure) (ars : List ℕ) → S .equals ≡ equalityOf → RightIn S ars (now (query .entry)) node (now (env .entry)) budget r) ⌝ }
 {
     if budget < 1 {
         return Evaluated::Spent;
@@ -87,7 +82,7 @@ fn equality(
     Evaluated::Verdict(same(a, b), 1)
 }
 
-// And where every, or where not.
+// `and` if `every`, otherwise `or`.
 fn join(every: bool, a: Truth, b: Truth) -> Truth
     ensures { λ r. ⌜ r ≡ joinOf (junctionOf every) a b ⌝ }
 {
@@ -263,28 +258,8 @@ pub fn evaluate(
 {
     let kind = word(query, node, 0);
     match kind {
-        1 => atom(
-            query,
-            node,
-            env,
-            budget,
-            values,
-            relations,
-            arities,
-            words,
-            counts,
-        ),
-        2 => equality(
-            query,
-            node,
-            env,
-            budget,
-            values,
-            relations,
-            arities,
-            words,
-            counts,
-        ),
+        1 => atom(query, node, env, budget, relations, arities, words, counts),
+        2 => equality(query, node, env, budget),
         3 => negated(
             query,
             node,

@@ -13,8 +13,8 @@ ghost use Rattle.query.specs.Check.{isTerm};
 ghost use Rattle.answer.specs.Ready.{TermsStand};
 use calculus::cell::CONSTANTS;
 use calculus::truth::Truth;
-
-const VARIABLES: u32 = 2_000_000;
+use query::words::NODE_WORDS;
+use query::words::VARIABLE_BASE;
 
 // Whether two cells are the same: true, false for two different constants, else unknown.
 pub fn same(a: u32, b: u32) -> Truth
@@ -38,11 +38,11 @@ pub fn term(query: &[u32], node: usize, j: usize, env: &[u32; 16]) -> u32
     requires { ⌜ (isTerm (wordAt (now query) node j) ≡ true) × (length (now env) ≡ variables) ⌝ }
     ensures { λ r. ⌜ r ≡ value (now (env .entry)) (termOf (wordAt (now (query .entry)) node j)) ⌝ }
 {
-    let w = query[node * 8 + j];
-    if w < VARIABLES {
+    let w = query[node * NODE_WORDS + j];
+    if w < VARIABLE_BASE {
         return w;
     }
-    let v = (w - VARIABLES) as usize;
+    let v = (w - VARIABLE_BASE) as usize;
     env[v]
 }
 

@@ -10,10 +10,10 @@ ghost use Rattle.query.specs.Words.{nodeWords, maxNodes, rowStands, equa
 ghost use Rattle.query.specs.Scope.{Scopes};
 ghost use Rattle.query.specs.Check.{restIsZero, checkChild, checkBy, checkNode};
 ghost use Rattle.query.specs.Answers.{scopes, Long, AtNode, Answers};
-use super::term::VARIABLES;
 use super::term::bind;
 use super::term::check_terms;
 use super::words::NODE_WORDS;
+use super::words::VARIABLES;
 use calculus::refusal::BAD_CHILD;
 use calculus::refusal::BAD_NODE;
 use calculus::refusal::NO_SUCH_QUERY_RELATION;
@@ -135,11 +135,25 @@ fn check_junction(
         return BAD_NODE;
     }
     let count = query.len() / NODE_WORDS;
-    let left = check_child(count, mask, node, query[node * NODE_WORDS + 1], named, masks);
+    let left = check_child(
+        count,
+        mask,
+        node,
+        query[node * NODE_WORDS + 1],
+        named,
+        masks,
+    );
     if left != 0 {
         return left;
     }
-    check_child(count, mask, node, query[node * NODE_WORDS + 2], named, masks)
+    check_child(
+        count,
+        mask,
+        node,
+        query[node * NODE_WORDS + 2],
+        named,
+        masks,
+    )
 }
 
 // Kinds 6 and 7.

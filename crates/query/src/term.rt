@@ -9,13 +9,11 @@ ghost use Rattle.query.specs.Scope.{Scopes, bound, binding};
 ghost use Rattle.query.specs.Check.{isTerm, isBound, checkTerms};
 ghost use Rattle.query.specs.Answers.{Answers};
 use super::words::NODE_WORDS;
+use super::words::VARIABLE_BASE;
+use super::words::VARIABLES;
 use calculus::cell::CONSTANTS;
 use calculus::refusal::BAD_NODE;
 use calculus::refusal::UNBOUND_VARIABLE;
-
-pub const VARIABLE_BASE: u32 = 2_000_000;
-
-pub const VARIABLES: u32 = 16;
 
 fn is_term(w: u32) -> bool
     ensures { λ r. ⌜ r ≡ isTerm w ⌝ }

@@ -6,6 +6,11 @@ pub const NODE_WORDS: usize = 8;
 
 const QUERY_WORDS: usize = 800;
 
+// a term that is no constant is this and the number of a variable
+pub const VARIABLE_BASE: u32 = 2_000_000;
+
+pub const VARIABLES: u32 = 16;
+
 // The opposite of 21.
 pub fn right_length(query: &[u32]) -> bool
     ensures { λ r. ⌜ r ≡ rightLength (now (query .entry)) ⌝ }

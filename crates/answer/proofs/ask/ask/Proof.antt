@@ -15,44 +15,58 @@ use Rattle.instance.specs.declared.scan.Scanned.the-variants.{Rows}
 use Rattle.instance.specs.Header.{maxRelations}
 use Rattle.instance.specs.Rows.{rowsFrom}
 use Rattle.instance.specs.Sound.{sound, rows, scanned}
-use Rattle.instance.proofs.Sound.{scanned-sound, scanned-unsound, scanned-rows}
+use Rattle.instance.proofs.Sound.{scanned-sound, scanned-unsound, scanned-rows, Sound, sound-gives}
 use Rattle.query.specs.Scope.{Scopes}
 use Rattle.query.specs.Check.{checkQuery, passed}
 use Rattle.query.proofs.Passed.{passed-number}
 use Rattle.answer.proofs.RerunLaws.{Asks}
-use Rattle.answer.proofs.AskLaws.{unsound-asked, check-asked, buffer-asked, answered, cells-count, made-ready, listed-part}
+use Rattle.answer.proofs.AskLaws.{unsound-asked, check-asked, buffer-asked, answered, cells-count, made-ready, listed-part, length-asked}
 use Rattle.answer.proofs.Told.{ask-told}
 use Rattle.answer.proofs.ask.ask.Statement.{statement}
 use Rattle.answer.proofs.ask.ask.Tie as tie
+use borrow.Author.Tests.{not-true, not-false}
+use Rattle.query.specs.Words.{rightLength}
+use Rattle.query.specs.Tree.{formulaOf}
+use Rattle.instance.specs.Run.{modelOf}
+use Rattle.calculus.specs.Model.{asked}
+use Rattle.answer.specs.Ask.{ask, askedBuffer, evaluatedAs}
+use Rattle.answer.specs.Numbers.{TellsVerdict}
+use Rattle.answer.specs.declared.asked.Asked.{Asked}
 
 -- after the scan
-module _ (c : tie.After-arities2) where
+module _ (c : tie.After-struct-known) where
+  abbrev start : tie.Start
+  start = c .before .before .before .before .before .before .before .before .before .before
+
   abbrev h : Header
-  h = c .before .before .before .before .before .before .before .before .before .before .before .args .header
+  h = start .args .header
 
   abbrev ws : List ℕ
-  ws = c .before .before .before .before .before .before .before .before .before .before .before .args .plot .now
+  ws = start .args .plot .now
 
   abbrev qs : List ℕ
-  qs = c .before .before .before .before .before .before .before .before .before .before .before .args .query .now
+  qs = start .args .query .now
 
   abbrev cs : List ℕ
-  cs = c .before .before .before .before .before .before .before .before .before .before .before .args .candidate .now
+  cs = start .args .candidate .now
 
   abbrev buffer : List ℕ
-  buffer = c .before .before .before .before .before .before .before .before .before .before .before .args .buffer .now
+  buffer = start .args .buffer .now
 
   abbrev budget : ℕ
-  budget = c .before .before .before .before .before .before .before .before .before .before .before .args .budget
+  budget = start .args .budget
 
   abbrev count : ℕ
-  count = c .before .before .before .before .count .given .0 .0
+  count = c .before .before .before .count .given .0 .0
 
   is-scanned : scanned h ws ≡ Rows count
-  is-scanned = sym (c .before .before .before .before .before .before .scan .ensures .0) ∙ c .before .before .before .before .count .given .1
+  is-scanned = sym (c .before .before .before .before .before .scan .ensures .0) ∙ c .before .before .before .count .given .1
 
   stands : sound h ws ≡ true
   stands = scanned-sound h ws count is-scanned
+
+  abbrev given : Sound h ws
+  given = sound-gives h ws stands
 
   cells : h .used ≡ count + length (cellsOf (rows h ws))
   cells = rw (scanned-rows h ws count is-scanned) at (cells-count h ws stands)
@@ -60,34 +74,60 @@ module _ (c : tie.After-arities2) where
   eight : length (h .arities) ≡ maxRelations
   eight = search needs
 
-  in-use : length (take (h .used) ws) ≡ h .used
-  in-use = length-take-le (h .used) ws (parts h ws stands .within)
+  -- what is told of a refusal, or of a verdict
+  told :
+      {r : Asked} {left : List ℕ} → (r ≡ ask h ws qs cs buffer budget) × (left ≡ askedBuffer h ws qs cs buffer) →
+      (r ≡ ask h ws qs cs buffer budget) ×
+      ((left ≡ askedBuffer h ws qs cs buffer) × TellsVerdict r (ask h ws qs cs buffer budget) (asked (modelOf h ws cs) (formulaOf (h .arities) qs)))
+  told p = ask-told h ws qs cs buffer budget p
+
+-- after the question's length was tested
+module _ (c : tie.Else1) where
+  abbrev scan : tie.After-struct-known
+  scan = c .before .before
+
+  right : rightLength (qs scan) ≡ true
+  right = sym (c .before .right-length .ensures) ∙ not-false _ (c .if1 .left)
 
 -- after the check
-module _ (c : tie.Else1) where
-  checked : (s : Scopes) × (checkQuery (h (c .before .before) .relations) (h (c .before .before) .arities) (qs (c .before .before)) (cs (c .before .before)) ≡ passed s)
-  checked = passed-number _ _ _ _ (sym (c .before .check .ensures) ∙ c .if1 .left)
+module _ (c : tie.Else2) where
+  abbrev length-known : tie.Else1
+  length-known = c .before .before .before
+
+  checked : (s : Scopes) × (checkQuery (h (scan length-known) .relations) (h (scan length-known) .arities) (qs (scan length-known)) (cs (scan length-known)) ≡ passed s)
+  checked = passed-number _ _ _ _ (sym (c .before .check .ensures) ∙ c .if2 .left)
 
 -- after the buffer's length was tested
-module _ (c : tie.Else2) where
-  asks : Asks (h (c .before .before .before)) (ws (c .before .before .before)) (qs (c .before .before .before)) (cs (c .before .before .before)) (buffer (c .before .before .before))
+module _ (c : tie.Else3) where
+  abbrev first : tie.After-struct-known
+  first = scan (length-known (c .before))
+
+  asks : Asks (h first) (ws first) (qs first) (cs first) (buffer first)
   asks = record {
-    stands = stands (c .before .before .before);
+    stands = stands first;
+    right = right (length-known (c .before));
     scopes = checked (c .before) .0;
     passes = checked (c .before) .1;
-    room = omega (arith, cells (c .before .before .before), c .if2 .left);
+    room = omega (arith, cells first, c .if3 .left);
   }
 
 -- after the values were listed
 module _ (c : tie.After-buffer) where
+  abbrev tested : tie.Else3
+  tested = c .before .before .before .before .before
+
   abbrev left : List ℕ
   left = c .before .list-values .last .1 .1 .1 .0
 
   abbrev values : List ℕ
-  values = domain (rowsFrom (h (c .before .before .before .before .before .before .before .before) .arities) 0 (take (h (c .before .before .before .before .before .before .before .before) .used) (ws (c .before .before .before .before .before .before .before .before))))
+  values = domain (rowsFrom (h (first tested) .arities) 0 (take (h (first tested) .used) (ws (first tested))))
 
   are-listed : (c .before .list-values .result ≤ length left) × (take (c .before .list-values .result) left ≡ values)
-  are-listed = listed-part values (buffer (c .before .before .before .before .before .before .before .before)) left (c .before .list-values .result) (c .before .list-values .ensures .0) (c .before .list-values .ensures .1)
+  are-listed = listed-part values (buffer (first tested)) left (c .before .list-values .result) (c .before .list-values .ensures .0) (c .before .list-values .ensures .1)
+
+-- after the rows were counted
+abbrev listed : tie.After-row-counts → tie.After-buffer
+listed c = c .before .before .before .before
 
 scan-requires : tie.Need-scan-requires
 scan-requires c κs = search needs
@@ -104,51 +144,66 @@ returns c = ask-told _ _ _ _ _ _ (unsound-asked _ _ _ _ _ _ (scanned-unsound _ _
 cast-used : tie.Need-cast-used
 cast-used c = search needs
 
-check-requires : tie.Need-check-requires
-check-requires c κs = (parts (h c) (ws c) (stands c) .header, eight c)
+right-length-requires : tie.Need-right-length-requires
+right-length-requires c κs = search needs
 
 returns-2 : tie.Need-returns-2
 returns-2 c =
     let b = c .before .before in
-    ask-told (h b) (ws b) (qs b) (cs b) (buffer b) (budget b)
-    (check-asked (h b) (ws b) (qs b) (cs b) (buffer b) (budget b) (stands b) _ (c .before .check .ensures) (c .if1 .taken))
+    told b (length-asked (h b) (ws b) (qs b) (cs b) (buffer b) (budget b) (stands b) (sym (c .before .right-length .ensures) ∙ not-true _ (c .if1 .taken)))
 
-cast-if2 : tie.Need-cast-if2
-cast-if2 c = search needs
-
-sub-if2 : tie.Need-sub-if2
-sub-if2 c = let b = c .before .before in omega (arith, cells b)
+check-requires : tie.Need-check-requires
+check-requires c κs = let b = scan (c .before) in (given b .standing .header, eight b, right (c .before))
 
 returns-3 : tie.Need-returns-3
 returns-3 c =
-    let b = c .before .before .before in
-    ask-told (h b) (ws b) (qs b) (cs b) (buffer b) (budget b)
-    (buffer-asked (h b) (ws b) (qs b) (cs b) (buffer b) (budget b) (stands b) (checked (c .before) .0) (checked (c .before) .1) (omega (arith, cells b)))
+    let l = c .before .before .before in
+    let b = scan l in
+    told b (check-asked (h b) (ws b) (qs b) (cs b) (buffer b) (budget b) (stands b) (right l) _ (c .before .check .ensures) (c .if2 .taken))
+
+cast-if3 : tie.Need-cast-if3
+cast-if3 c = search needs
+
+sub-if3 : tie.Need-sub-if3
+sub-if3 c = omega (arith, cells (scan (length-known c)))
+
+returns-4 : tie.Need-returns-4
+returns-4 c =
+    let k = c .before in
+    let b = scan (length-known k) in
+    told b
+    (buffer-asked (h b) (ws b) (qs b) (cs b) (buffer b) (budget b) (stands b) (right (length-known k)) (checked k .0) (checked k .1) (omega (arith, cells b)))
 
 slice-aggregate-list-values : tie.Need-slice-aggregate-list-values
-slice-aggregate-list-values c = sym (in-use (c .before .before .before .before))
+slice-aggregate-list-values c = sym (given (first (c .before)) .in-use)
 
 list-values-requires : tie.Need-list-values-requires
 unfolding rows
-list-values-requires c κs = let b = c .before .before .before .before .before .before in (sound-standing (h b) (ws b) (stands b), asks (c .before .before .before) .room)
+list-values-requires c κs = let t = c .before .before .before in (given (first t) .standing, asks t .room)
 
 slice-aggregate-row-counts : tie.Need-slice-aggregate-row-counts
-slice-aggregate-row-counts c = sym (in-use (c .before .before .before .before .before .before .before .before .before .before))
+slice-aggregate-row-counts c = sym (given (first (tested (c .before .before))) .in-use)
 
 row-counts-requires : tie.Need-row-counts-requires
-row-counts-requires c κs = let b = c .before .before .before .before .before .before .before .before .before .before .before in sound-standing (h b) (ws b) (stands b)
+row-counts-requires c κs = given (first (tested (c .before .before .before))) .standing
 
 slice-aggregate-evaluate-top : tie.Need-slice-aggregate-evaluate-top
-slice-aggregate-evaluate-top c = sym (in-use (c .before .before .before .before .before .before .before .before .before .before .before .before .before .before))
+slice-aggregate-evaluate-top c = sym (given (first (tested (listed (c .before .before)))) .in-use)
 
 slice-reshare-prefix-evaluate-top : tie.Need-slice-reshare-prefix-evaluate-top
-slice-reshare-prefix-evaluate-top c = are-listed (c .before .before .before .before .before .before .before) .0
+slice-reshare-prefix-evaluate-top c = are-listed (listed (c .before .before .before)) .0
 
 slice-aggregate-evaluate-top-2 : tie.Need-slice-aggregate-evaluate-top-2
-slice-aggregate-evaluate-top-2 c = sym (length-take-le _ _ (are-listed (c .before .before .before .before .before .before .before .before) .0))
+slice-aggregate-evaluate-top-2 c = sym (length-take-le _ _ (are-listed (listed (c .before .before .before .before)) .0))
 
 evaluate-top-requires : tie.Need-evaluate-top-requires
-evaluate-top-requires c κs = let b = c .before .before .before .before .before .before .before .before .before .before .before .before .before .before .before .before in let q = checked (c .before .before .before .before .before .before .before .before .before .before .before .before .before .before) in made-ready (h b) (ws b) (qs b) (cs b) (stands b) (eight b) (q .0) (q .1) _ _ (c .before .before .before .before .row-counts .ensures) (are-listed (c .before .before .before .before .before .before .before .before) .1)
+evaluate-top-requires c κs =
+    let counted = c .before .before .before .before in
+    let l = listed counted in
+    let t = tested l in
+    let b = first t in
+    let q = checked (t .before) in
+    made-ready (h b) (ws b) (qs b) (cs b) (stands b) (eight b) (right (length-known (t .before))) (q .0) (q .1) _ _ (counted .row-counts .ensures) (are-listed l .1)
 
 enum-known-truth : tie.Need-enum-known-truth
 enum-known-truth c = search needs
@@ -159,20 +214,28 @@ enum-told-2 c = search needs
 same-length : tie.Need-same-length
 same-length c = search needs
 
-returns-4 : tie.Need-returns-4
-returns-4 c =
-    let b = c .before .before .before .before .before .before .before .before .before .before .before .before .before .before .before .before .before .before .before .before in
-    ask-told (h b) (ws b) (qs b) (cs b) (buffer b) (budget b)
-    (rw (c .before .truth .given .1) at (answered (h b) (ws b) (qs b) (cs b) (buffer b) (budget b) (asks (c .before .before .before .before .before .before .before .before .before .before .before .before .before .before .before .before .before)) _ (c .before .before .before .evaluate-top .ensures) _ (c .before .before .before .before .before .before .before .before .before .before .before .before .before .list-values .ensures .1)))
+-- after the evaluation
+module _ (c : tie.After-evaluate-top) where
+  abbrev lists : tie.After-buffer
+  lists = listed (c .before .before .before .before .before)
+
+  abbrev begins : tie.After-struct-known
+  begins = first (tested lists)
+
+  verdict : (evaluatedAs (c .evaluate-top .result) ≡ ask (h begins) (ws begins) (qs begins) (cs begins) (buffer begins) (budget begins))
+      × (left lists ≡ askedBuffer (h begins) (ws begins) (qs begins) (cs begins) (buffer begins))
+  verdict =
+      answered (h begins) (ws begins) (qs begins) (cs begins) (buffer begins) (budget begins) (asks (tested lists)) _ (c .evaluate-top .ensures) _
+      (lists .before .list-values .ensures .1)
+
+returns-5 : tie.Need-returns-5
+returns-5 c = let t = c .before .before .before in told (begins t) (rw (c .before .truth .given .1) at (verdict t))
 
 same-length-2 : tie.Need-same-length-2
 same-length-2 c = search needs
 
-returns-5 : tie.Need-returns-5
-returns-5 c =
-    let b = c .before .before .before .before .before .before .before .before .before .before .before .before .before .before .before .before .before .before .before in
-    ask-told (h b) (ws b) (qs b) (cs b) (buffer b) (budget b)
-    (rw (c .enum-told2 .given .1) at (answered (h b) (ws b) (qs b) (cs b) (buffer b) (budget b) (asks (c .before .before .before .before .before .before .before .before .before .before .before .before .before .before .before .before)) _ (c .before .before .evaluate-top .ensures) _ (c .before .before .before .before .before .before .before .before .before .before .before .before .list-values .ensures .1)))
+returns-6 : tie.Need-returns-6
+returns-6 c = let t = c .before .before in told (begins t) (rw (c .enum-told2 .given .1) at (verdict t))
 
 pub ask-spec : {M : Type 1} → statement M
 ask-spec =
@@ -183,11 +246,13 @@ ask-spec =
     enum-told
     returns
     cast-used
-    check-requires
+    right-length-requires
     returns-2
-    cast-if2
-    sub-if2
+    check-requires
     returns-3
+    cast-if3
+    sub-if3
+    returns-4
     slice-aggregate-list-values
     list-values-requires
     slice-aggregate-row-counts
@@ -199,6 +264,6 @@ ask-spec =
     enum-known-truth
     enum-told-2
     same-length
-    returns-4
+    returns-5
     same-length-2
-    returns-5)
+    returns-6)

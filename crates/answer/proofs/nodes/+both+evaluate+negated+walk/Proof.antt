@@ -8,7 +8,7 @@ use lib.ListN.{length, getD, set, length-set}
 use lib.Seq.{set-getD}
 use Rattle.calculus.specs.Formula.{variables}
 use Rattle.query.specs.Passed.{NodeBy}
-use Rattle.query.specs.Words.{noKind, negates, joins, ranges, kindOf, wordAt, nodeCount}
+use Rattle.query.specs.Words.{noKind, negates, joins, ranges, kindOf, wordAt, nodeCount, equals}
 use Rattle.answer.specs.declared.evaluated.Evaluated.{Evaluated}
 use Rattle.answer.specs.declared.evaluated.Evaluated.the-variants.{Spent}
 use Rattle.answer.specs.Ready.{world, Right, junctionOf}
@@ -97,7 +97,7 @@ both-word-requires-2 t c κs = (c .before .before .before .before .pre .1 .0 .kn
 -- what stands below a node that joins two others
 module _ (t : ℕ) (s : both-lts.Start (both-claims t) (both-at t) both.Post) where
   both-down : NodeBy (s .args .relations) (s .args .arities .now) (s .args .query .now) (s .args .node) (joins (junctionOf (s .args .every)))
-  both-down = stands-by _ _ _ _ _ _ _ (joins (junctionOf (s .args .every))) (s .pre .1 .0 .ready) (s .pre .1 .0 .known) (s .pre .1 .1)
+  both-down = stands-by _ _ _ _ _ _ (joins (junctionOf (s .args .every))) (s .pre .1 .0 .ready) (s .pre .1 .0 .known) (s .pre .1 .1)
 
 -- what the left child answered, as the answer of the node that word 1 names
 module _ (t : ℕ) (e : both-lts.After-evaluate (both-claims t) (both-at t) both.Post) where
@@ -126,7 +126,7 @@ both-evaluate-requires t c κs =
     let s = c .before .before .before .before .before .before in
     let left = both-down t s .0 in
     rw (c .before .before .word .ensures)
-    (omega (arith, left .0, left .1, s .pre .0), record { ready = s .pre .1 .0 .ready; known = left .1; sixteen = s .pre .1 .0 .sixteen })
+    (omega (arith, left .0, left .1, s .pre .0), record { ready = s .pre .1 .0 .ready; listed = s .pre .1 .0 .listed; known = left .1; sixteen = s .pre .1 .0 .sixteen })
 
 both-enum-known-a : (t : ℕ) → both-lts.Need-enum-known-a (both-claims t) (both-at t) both.Post
 both-enum-known-a t c = search needs
@@ -168,7 +168,7 @@ both-evaluate-requires-2 t c κs =
     let s = both-start t e in
     let right = both-down t s .1 in
     rw (e .before .before .word2 .ensures)
-    (omega (arith, right .0, right .1, s .pre .0), record { ready = s .pre .1 .0 .ready; known = right .1; sixteen = ap length (e .evaluate .ensures .0) ∙ s .pre .1 .0 .sixteen })
+    (omega (arith, right .0, right .1, s .pre .0), record { ready = s .pre .1 .0 .ready; listed = s .pre .1 .0 .listed; known = right .1; sixteen = ap length (e .evaluate .ensures .0) ∙ s .pre .1 .0 .sixteen })
 
 both-enum-known-b : (t : ℕ) → both-lts.Need-enum-known-b (both-claims t) (both-at t) both.Post
 both-enum-known-b t c = search needs
@@ -224,11 +224,16 @@ evaluate-word-requires t c κs = (c .before .before .before .pre .1 .known, omeg
 
 evaluate-atom-requires : (t : ℕ) → evaluate-lts.Need-atom-requires (evaluate-claims t) (evaluate-at t) evaluate.Post
 unfolding kindOf
-evaluate-atom-requires t c κs = (c .before .before .before .before .before .before .pre .1, ap kindOf (sym (c .before .before .word .ensures) ∙ c .before .match .keys1))
+evaluate-atom-requires t c κs =
+    let ev = c .before .before .before .before .before .before .pre .1 in
+    ((ev .ready, ev .known, ev .sixteen), ap kindOf (sym (c .before .before .word .ensures) ∙ c .before .match .keys1))
 
 evaluate-equality-requires : (t : ℕ) → evaluate-lts.Need-equality-requires (evaluate-claims t) (evaluate-at t) evaluate.Post
 unfolding kindOf
-evaluate-equality-requires t c κs = (c .before .before .before .before .before .before .pre .1, ap kindOf (sym (c .before .before .word .ensures) ∙ c .before .match .keys2))
+evaluate-equality-requires t c κs =
+    let ev = c .before .before .before .before .before .before .pre .1 in
+    let is = ap kindOf (sym (c .before .before .word .ensures) ∙ c .before .match .keys2) in
+    ((ev .known, ev .sixteen), (stands-by _ _ _ _ _ _ equals (ev .ready) (ev .known) is, is))
 
 evaluate-negated-requires : (t : ℕ) → evaluate-lts.Need-negated-requires (evaluate-claims t) (evaluate-at t) evaluate.Post
 unfolding kindOf
@@ -252,7 +257,7 @@ evaluate-returns : (t : ℕ) → evaluate-lts.Need-returns (evaluate-claims t) (
 evaluate-returns t c = (refl, c .atom .ensures)
 
 evaluate-returns-2 : (t : ℕ) → evaluate-lts.Need-returns-2 (evaluate-claims t) (evaluate-at t) evaluate.Post
-evaluate-returns-2 t c = (refl, c .equality .ensures)
+evaluate-returns-2 t c = (refl, c .equality .ensures _ _ refl)
 
 evaluate-returns-3 : (t : ℕ) → evaluate-lts.Need-returns-3 (evaluate-claims t) (evaluate-at t) evaluate.Post
 evaluate-returns-3 t c = c .negated .ensures
@@ -269,13 +274,13 @@ evaluate-returns-6 t c =
     let word = c .before .before in
     let ev = word .before .before .before .before .pre .1 in
     let none : word .word .result ≡ 0 = omega (arith, c .if1 .taken) in
-    absurd (stands-by _ _ _ _ _ _ _ noKind (ev .ready) (ev .known) (ap kindOf (sym (word .word .ensures) ∙ none)))
+    absurd (stands-by _ _ _ _ _ _ noKind (ev .ready) (ev .known) (ap kindOf (sym (word .word .ensures) ∙ none)))
 
 evaluate-returns-7 : (t : ℕ) → evaluate-lts.Need-returns-7 (evaluate-claims t) (evaluate-at t) evaluate.Post
 evaluate-returns-7 t c =
     let word = c .before .before .before .before in
     let ev = word .before .before .before .before .pre .1 in
-    absurd (stands-by _ _ _ _ _ _ _ noKind (ev .ready) (ev .known) (ap kindOf (sym (word .word .ensures)) ∙ none-above (word .word .result) (c .if3 .left)))
+    absurd (stands-by _ _ _ _ _ _ noKind (ev .ready) (ev .known) (ap kindOf (sym (word .word .ensures)) ∙ none-above (word .word .result) (c .if3 .left)))
 
 negated-word-requires : (t : ℕ) → negated-lts.Need-word-requires (negated-claims t) (negated-at t) negated.Post
 negated-word-requires t c κs = (c .before .before .before .pre .1 .0 .known, omega arith)
@@ -284,9 +289,9 @@ negated-evaluate-requires : (t : ℕ) → negated-lts.Need-evaluate-requires (ne
 negated-evaluate-requires t c κs =
     let start = c .before .before .before .before .before in
     let ev = start .pre .1 .0 in
-    let down = stands-by _ _ _ _ _ _ _ negates (ev .ready) (ev .known) (start .pre .1 .1) in
+    let down = stands-by _ _ _ _ _ _ negates (ev .ready) (ev .known) (start .pre .1 .1) in
     rw (c .before .word .ensures)
-    (omega (arith, down .0, down .1, start .pre .0), record { ready = ev .ready; known = down .1; sixteen = ev .sixteen })
+    (omega (arith, down .0, down .1, start .pre .0), record { ready = ev .ready; listed = ev .listed; known = down .1; sixteen = ev .sixteen })
 
 negated-enum-known-truth : (t : ℕ) → negated-lts.Need-enum-known-truth (negated-claims t) (negated-at t) negated.Post
 negated-enum-known-truth t c = search needs
@@ -298,7 +303,7 @@ negated-returns : (t : ℕ) → negated-lts.Need-returns (negated-claims t) (neg
 negated-returns t c =
     let start = c .before .before .before .before .before .before .before .before in
     let ev = start .pre .1 .0 in
-    let down = stands-by _ _ _ _ _ _ _ negates (ev .ready) (ev .known) (start .pre .1 .1) in
+    let down = stands-by _ _ _ _ _ _ negates (ev .ready) (ev .known) (start .pre .1 .1) in
     let child = c .before .before .evaluate .ensures in
     (child .0, negated-spent _ _ _ _ (ev .known) (start .pre .1 .1) (down .0) _ _ (rw (c .before .before .before .before .word .ensures, c .enum-told .given .1) at (child .1)))
 
@@ -309,7 +314,7 @@ negated-returns-2 : (t : ℕ) → negated-lts.Need-returns-2 (negated-claims t) 
 negated-returns-2 t c =
     let start = c .before .before .before .before .before .before .before .before .before .before in
     let ev = start .pre .1 .0 in
-    let down = stands-by _ _ _ _ _ _ _ negates (ev .ready) (ev .known) (start .pre .1 .1) in
+    let down = stands-by _ _ _ _ _ _ negates (ev .ready) (ev .known) (start .pre .1 .1) in
     let child = c .before .before .before .before .evaluate .ensures in
     (child .0, rw (c .not .ensures .0) (negated-verdict _ _ _ _ (ev .known) (start .pre .1 .1) (down .0) _ _ _ _ (rw (c .before .before .before .before .before .before .word .ensures, c .before .before .truth .given .1) at (child .1))))
 
@@ -324,7 +329,7 @@ walk-μ-loop query node every env₀ budget values relations arities words count
 -- what stands below a node that ranges over values
 module _ (t : ℕ) (s : walk-lts.Start (walk-claims t) (walk-at t) walk.Post walk-Inv-loop walk-μ-loop) where
   walk-down : NodeBy (s .args .relations) (s .args .arities .now) (s .args .query .now) (s .args .node) (ranges (junctionOf (s .args .every)))
-  walk-down = stands-by _ _ _ _ _ _ _ (ranges (junctionOf (s .args .every))) (s .pre .1 .0 .ready) (s .pre .1 .0 .known) (s .pre .1 .1)
+  walk-down = stands-by _ _ _ _ _ _ (ranges (junctionOf (s .args .every))) (s .pre .1 .0 .ready) (s .pre .1 .0 .known) (s .pre .1 .1)
 
 -- once the child was asked at a value
 module _ (t : ℕ) (e : walk-lts.After-evaluate (walk-claims t) (walk-at t) walk.Post walk-Inv-loop walk-μ-loop) where
@@ -389,7 +394,7 @@ walk-unit-requires t c κs = search needs
 walk-loop-holds : (t : ℕ) → walk-lts.Need-loop-holds (walk-claims t) (walk-at t) walk.Post walk-Inv-loop walk-μ-loop
 walk-loop-holds t c =
     let s = c .before .before .before .before .before .before .before in
-    (rw (c .unit .ensures) (walk-starts _ _ _ _ (s .pre .1 .0 .known) _ (s .pre .1 .1) (walk-down t s .1 .0) _ _ (s .pre .1 .0 .ready .listed) _), set-getD _ _ 0)
+    (rw (c .unit .ensures) (walk-starts _ _ _ _ (s .pre .1 .0 .known) _ (s .pre .1 .1) (walk-down t s .1 .0) _ _ (s .pre .1 .0 .listed) _), set-getD _ _ 0)
 
 walk-mul-assign : (t : ℕ) → walk-lts.Need-mul-assign (walk-claims t) (walk-at t) walk.Post walk-Inv-loop walk-μ-loop
 walk-mul-assign t c = omega arith
@@ -416,7 +421,7 @@ walk-evaluate-requires t c κs =
     let s = l .before .before .before .before .before .before .before .before in
     let child = walk-down t s .1 in
     rw (l .before .before .before .word2 .ensures)
-    (omega (arith, child .0, child .1, s .pre .0), record { ready = s .pre .1 .0 .ready; known = child .1; sixteen = ap length (c .before .assign .ensures) ∙ length-set (l .loop .env) _ _ ∙ kept-long t l })
+    (omega (arith, child .0, child .1, s .pre .0), record { ready = s .pre .1 .0 .ready; listed = s .pre .1 .0 .listed; known = child .1; sixteen = ap length (c .before .assign .ensures) ∙ length-set (l .loop .env) _ _ ∙ kept-long t l })
 
 walk-enum-known-one : (t : ℕ) → walk-lts.Need-enum-known-one (walk-claims t) (walk-at t) walk.Post walk-Inv-loop walk-μ-loop
 walk-enum-known-one t c = search needs
@@ -432,7 +437,7 @@ walk-returns t c =
     let e = c .before .before .before .before in
     let s = walk-start t e in (
       c .assign2 .ensures ∙ back t e,
-      walk-spent _ _ _ _ (s .pre .1 .0 .known) _ (s .pre .1 .1) (walk-down t s .1 .0) _ _ (s .pre .1 .0 .ready .listed) _ _ _ _
+      walk-spent _ _ _ _ (s .pre .1 .0 .known) _ (s .pre .1 .1) (walk-down t s .1 .0) _ _ (s .pre .1 .0 .listed) _ _ _ _
           (walk-loop t e .loop .inv .0) (e .before .before .before .before .before .loop-test .taken)
           (child-told t e Spent (c .before .before .enum-told .given .1)),
     )
@@ -458,7 +463,7 @@ walk-returns-2 t c =
     let s = walk-start t e in (
       c .assign3 .ensures ∙ back t e,
       rw (c .before .before .before .before .join .ensures)
-          (walk-settled _ _ _ _ (s .pre .1 .0 .known) _ (s .pre .1 .1) (walk-down t s .1 .0) _ _ (s .pre .1 .0 .ready .listed) _ _ _ _
+          (walk-settled _ _ _ _ (s .pre .1 .0 .known) _ (s .pre .1 .1) (walk-down t s .1 .0) _ _ (s .pre .1 .0 .listed) _ _ _ _
           (walk-loop t e .loop .inv .0) (e .before .before .before .before .before .loop-test .taken) _ _
           (child-told t e _ (c .before .before .before .before .before .before .one .given .1))
           (sym (c .before .before .before .settles .ensures) ∙ c .before .before .if1 .taken)),
@@ -477,7 +482,7 @@ walk-loop-again t c =
     let e = c .before .before .before .before .before .before in
     let s = walk-start t e in (
       rw (c .before .before .join .ensures)
-          (walk-more _ _ _ _ (s .pre .1 .0 .known) _ (s .pre .1 .1) (walk-down t s .1 .0) _ _ (s .pre .1 .0 .ready .listed) _ _ _ _
+          (walk-more _ _ _ _ (s .pre .1 .0 .known) _ (s .pre .1 .1) (walk-down t s .1 .0) _ _ (s .pre .1 .0 .listed) _ _ _ _
           (walk-loop t e .loop .inv .0) (e .before .before .before .before .before .loop-test .taken) _ _
           (child-told t e _ (c .before .before .before .before .one .given .1))
           (sym (c .before .settles .ensures) ∙ c .if1 .left)),
@@ -494,7 +499,7 @@ walk-returns-3 t c =
     let l = c .before .before .before in
     let s = l .before .before .before .before .before .before .before .before in (
       c .assign4 .ensures ∙ l .loop .inv .1,
-      walk-ends _ _ _ _ (s .pre .1 .0 .known) _ (s .pre .1 .1) (walk-down t s .1 .0) _ _ (s .pre .1 .0 .ready .listed) _ _ _ _ (l .loop .inv .0) (c .before .before .loop-test .left),
+      walk-ends _ _ _ _ (s .pre .1 .0 .known) _ (s .pre .1 .1) (walk-down t s .1 .0) _ _ (s .pre .1 .0 .listed) _ _ _ _ (l .loop .inv .0) (c .before .before .loop-test .left),
     )
 
 pub +both+evaluate+negated+walk-spec : {M : Type 1} → statement M
