@@ -28,7 +28,7 @@ next-candidate f b = go (answerOf f b)
 
 module _ (h : Header) (start : List ℕ) where
   follows-candidate : (fs : List Fill) (ws : List ℕ) (b : Model) → Follows h start ws b → filledCandidate h fs ws (b .candidate) ≡ run fs b .candidate
-  unfolding filledCandidate afterFills
+  unfolding afterFills
   follows-candidate [] ws b g = refl
   follows-candidate (f ∷ fs) ws b g =
       ap (λ (a : Answer). filledCandidate h fs (substitutedWords h ws (f .mark) (f .cell)) (after a (map (put (f .mark) (f .cell)) (b .candidate)) (b .candidate)))

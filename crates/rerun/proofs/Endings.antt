@@ -17,7 +17,7 @@ use Rattle.calculus.specs.Model.{run}
 use Rattle.instance.specs.declared.header.Header.{Header}
 use Rattle.instance.specs.Header.{maxColumns}
 use Rattle.instance.specs.Sound.{sound, rows}
-use Rattle.instance.specs.Run.{filledWords, modelOf}
+use Rattle.instance.specs.Run.{filledWords, modelOf, filledAnswers}
 use Rattle.instance.proofs.Run.{ran}
 use Rattle.query.proofs.Passed as passed
 use Rattle.answer.specs.declared.asked.Asked.{Asked}
@@ -104,14 +104,14 @@ module _ (h : Header) (ws qs candidate buffer : List ℕ) (budget : ℕ) (fills 
   pub few-cells : (t : Truth) (n : ℕ) → asked.Verdict t n ≡ ask h ws qs candidate buffer budget → length candidate ≤ maxColumns
   few-cells t n e =
       let a = verdict-asked h ws qs candidate buffer budget t n (sym e) .0 in
-      passed.few-cells (h .relations) (h .arities) qs candidate (a .scopes) (a .passes)
+      passed.few-cells (h .relations) (h .arities) qs candidate (a .right) (a .scopes) (a .passes)
 
   -- both runs, with what run A left of the list, and the fills of the rest
   module _
       (l : length fills ≤ length out) (t : Truth) (n : ℕ) (e : asked.Verdict t n ≡ ask h ws qs candidate buffer budget)
       (list ws′ candidate′ buffer′ out′ : List ℕ) (b : Asked) (is-list : list ≡ askedBuffer h ws qs candidate buffer)
       (is-words : ws′ ≡ filledWords h (fillsOf fills) ws) (is-candidate : candidate′ ≡ filledCandidate h (fillsOf fills) ws candidate)
-      (is-stored : out′ ≡ stored (fillAnswers h (fillsOf fills) ws) out)
+      (is-stored : out′ ≡ stored (filledAnswers h (fillsOf fills) ws) out)
       (is-asked : b ≡ ask h ws′ qs candidate′ list budget) (is-listed : buffer′ ≡ askedBuffer h ws′ qs candidate′ list)
     where
       is-sound : sound h ws ≡ true

@@ -13,7 +13,7 @@ use Rattle.calculus.specs.Cell.{put}
 use Rattle.calculus.specs.Model.{Fill, afterFills, fillAnswers}
 use Rattle.instance.specs.declared.header.Header.{Header}
 use Rattle.instance.specs.Substitute.{substituted, substitutedWords}
-use Rattle.instance.specs.Run.{filledWords}
+use Rattle.instance.specs.Run.{filledWords, filledAnswers}
 use Rattle.rerun.specs.Fills.{fillsOf, filledCandidate, answerPair, answerWords, stored}
 
 plus-two : (n : ℕ) → n + 2 ≡ suc (suc n)
@@ -68,7 +68,7 @@ stored-here i a more out out′ l e =
 pub record Going (h : Header) (fills ws₀ cs₀ out₀ ws cs out : List ℕ) (i : ℕ) : Type 0 where
   pub words : filledWords h (fillsOf (drop i fills)) ws ≡ filledWords h (fillsOf fills) ws₀
   pub candidate : filledCandidate h (fillsOf (drop i fills)) ws cs ≡ filledCandidate h (fillsOf fills) ws₀ cs₀
-  pub answers : take i out ++ stored (fillAnswers h (fillsOf (drop i fills)) ws) (drop i out) ≡ stored (fillAnswers h (fillsOf fills) ws₀) out₀
+  pub answers : take i out ++ stored (filledAnswers h (fillsOf (drop i fills)) ws) (drop i out) ≡ stored (filledAnswers h (fillsOf fills) ws₀) out₀
 
 module _ (h : Header) (fills ws₀ cs₀ out₀ : List ℕ) where
   pub begin : Going h fills ws₀ cs₀ out₀ ws₀ cs₀ out₀ 0
@@ -83,7 +83,7 @@ module _ (h : Header) (fills ws₀ cs₀ out₀ : List ℕ) where
         cs′ ≡ after (substituted h ws (getD fills i 0) (getD fills (i + 1) 0)) (map (put (getD fills i 0) (getD fills (i + 1) 0)) cs) cs →
         out′ ≡ take i out ++ (answerPair a ++ drop 2 (drop i out)) →
         Going h fills ws₀ cs₀ out₀ ws′ cs′ out′ (i + 2)
-    unfolding afterFills filledCandidate fillAnswers
+    unfolding afterFills fillAnswers
     step l room ws′ cs′ out′ a ea ew ec eo =
         let f : Fill = record { mark = getD fills i 0; cell = getD fills (i + 1) 0 } in
         let fs = fillsOf (drop (i + 2) fills) in
@@ -94,22 +94,22 @@ module _ (h : Header) (fills ws₀ cs₀ out₀ : List ℕ) where
               ap (λ (x : List ℕ). filledCandidate h fs x cs′) ew ∙ ap (filledCandidate h fs (substitutedWords h ws (f .mark) (f .cell))) ec ∙
               ap (λ (x : List Fill). filledCandidate h x ws cs) (sym here) ∙ g .candidate;
           answers =
-              stored-here i a (fillAnswers h fs ws′) out out′ room eo ∙
-              ap (λ (x : Answer). take i out ++ stored (x ∷ fillAnswers h fs ws′) (drop i out)) ea ∙
-              ap (λ (x : List ℕ). take i out ++ stored (substituted h ws (f .mark) (f .cell) ∷ fillAnswers h fs x) (drop i out)) ew ∙
-              ap (λ (x : List Fill). take i out ++ stored (fillAnswers h x ws) (drop i out)) (sym here) ∙ g .answers;
+              stored-here i a (filledAnswers h fs ws′) out out′ room eo ∙
+              ap (λ (x : Answer). take i out ++ stored (x ∷ filledAnswers h fs ws′) (drop i out)) ea ∙
+              ap (λ (x : List ℕ). take i out ++ stored (substituted h ws (f .mark) (f .cell) ∷ filledAnswers h fs x) (drop i out)) ew ∙
+              ap (λ (x : List Fill). take i out ++ stored (filledAnswers h x ws) (drop i out)) (sym here) ∙ g .answers;
         }
 
     -- none left
     pub finish :
         length fills ≤ i + 1 →
-        (ws ≡ filledWords h (fillsOf fills) ws₀) × ((cs ≡ filledCandidate h (fillsOf fills) ws₀ cs₀) × (out ≡ stored (fillAnswers h (fillsOf fills) ws₀) out₀))
-    unfolding afterFills filledCandidate fillAnswers answerWords
+        (ws ≡ filledWords h (fillsOf fills) ws₀) × ((cs ≡ filledCandidate h (fillsOf fills) ws₀ cs₀) × (out ≡ stored (filledAnswers h (fillsOf fills) ws₀) out₀))
+    unfolding afterFills fillAnswers answerWords
     finish l =
         let none = no-fill fills i l in (
           ap (λ (x : List Fill). filledWords h x ws) (sym none) ∙ g .words,
           (
             ap (λ (x : List Fill). filledCandidate h x ws cs) (sym none) ∙ g .candidate,
-            sym (take-append-drop i out) ∙ ap (λ (x : List Fill). take i out ++ stored (fillAnswers h x ws) (drop i out)) (sym none) ∙ g .answers,
+            sym (take-append-drop i out) ∙ ap (λ (x : List Fill). take i out ++ stored (filledAnswers h x ws) (drop i out)) (sym none) ∙ g .answers,
           ),
         )

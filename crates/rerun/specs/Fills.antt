@@ -5,9 +5,11 @@ use lib.ListN.{length, drop}
 use Rattle.calculus.specs.declared.answer.Answer.{Answer}
 use Rattle.calculus.specs.Answer.{numberOf, valueOf, after}
 use Rattle.calculus.specs.Cell.{put}
-use Rattle.calculus.specs.Model.{Fill}
+use Rattle.calculus.specs.Model.{Fill, afterFills}
 use Rattle.instance.specs.declared.header.Header.{Header}
 use Rattle.instance.specs.Substitute.{substituted, substitutedWords}
+use Rattle.instance.specs.Run.{fillWords, fillAnswer}
+use Rattle.calculus.specs.Overwrite.{overwrite}
 
 -- "each one's mark and cell alone": two words for each fill; a last word without its pair is no fill
 unfoldable pub fillsOf : List ℕ → List Fill
@@ -15,12 +17,21 @@ fillsOf [] = []
 fillsOf (m ∷ []) = []
 fillsOf (m ∷ c ∷ ws) = record { mark = m; cell = c } ∷ fillsOf ws
 
--- the candidate after a list of fills: "each accepted one is made in the candidate too"
-unfoldable pub filledCandidate : Header → List Fill → List ℕ → List ℕ → List ℕ
-filledCandidate h [] ws candidate = candidate
-filledCandidate h (f ∷ fs) ws candidate =
-    filledCandidate h fs (substitutedWords h ws (f .mark) (f .cell))
-    (after (substituted h ws (f .mark) (f .cell)) (map (put (f .mark) (f .cell)) candidate) candidate)
+-- what a fill of a run changes
+pub record Filled : Type 0 where
+  pub words : List ℕ
+  pub candidate : List ℕ
+
+-- "each accepted one is made in the candidate too"
+abbrev pub fillBoth : Header → Fill → Filled → Filled
+fillBoth h f s = record {
+  words = fillWords h f (s .words);
+  candidate = after (fillAnswer h f (s .words)) (map (put (f .mark) (f .cell)) (s .candidate)) (s .candidate);
+}
+
+-- the candidate after a list of fills
+abbrev pub filledCandidate : Header → List Fill → List ℕ → List ℕ → List ℕ
+filledCandidate h fs ws candidate = afterFills (fillBoth h) fs (record { words = ws; candidate = candidate }) .candidate
 
 -- what a fill answers, in two words: the refusal's number or 0, and the count or 0
 abbrev pub answerPair : Answer → List ℕ
@@ -32,4 +43,4 @@ answerWords (a ∷ answers) = answerPair a ++ answerWords answers
 
 -- a slice with the answers in front; its other words stay
 abbrev pub stored : List Answer → List ℕ → List ℕ
-stored answers out = answerWords answers ++ drop (length (answerWords answers)) out
+stored answers out = overwrite (answerWords answers) out

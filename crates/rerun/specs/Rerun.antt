@@ -23,6 +23,7 @@ use Rattle.answer.specs.Rerun.{Rerun}
 use Rattle.rerun.specs.declared.reran.Reran.{Reran}
 use Rattle.rerun.specs.declared.reran.Reran.the-variants.{Verdicts, Refused}
 use Rattle.rerun.specs.Fills.{fillsOf, stored}
+use Rattle.calculus.specs.Demand.{demand}
 
 -- the verdicts of both runs, or the refusal of the first that is refused
 abbrev pub bothRuns : Asked → Asked → Reran
@@ -72,7 +73,7 @@ module _ (h : Header) (ws qs candidate buffer : List ℕ) (budget : ℕ) (fills 
 
   -- 44 before anything is asked, then the refusals of run A
   unfoldable pub begun : Answer
-  begun = demand hasPlace output-too-short (goesOn runA)
+  begun = demand hasPlace (answer.Refused output-too-short) (goesOn runA)
 
   unfoldable pub reran : Reran
   reran = cond hasPlace (bothRuns runA runB) (Refused output-too-short)

@@ -7,7 +7,7 @@ ghost use Rattle.calculus.specs.Answer.{after};
 ghost use Rattle.calculus.specs.Cell.{put};
 ghost use Rattle.instance.specs.Header.{maxWords};
 ghost use Rattle.instance.specs.Substitute.{substituted, substitutedWords};
-ghost use Rattle.instance.specs.Run.{filledWords};
+ghost use Rattle.instance.specs.Run.{filledWords, filledAnswers};
 ghost use Rattle.rerun.specs.Fills.{fillsOf, filledCandidate, answerPair, stored};
 use calculus::answer::Answer;
 use instance::header::Header;
@@ -56,7 +56,7 @@ pub fn fill_all(
     requires { ⌜ (length (now candidate) ≤ maxWords) × (length (now fills) ≤ length (now answers)) ⌝ }
     ensures words { λ _. ⌜ now (plot .exit) ≡ filledWords header (fillsOf (now (fills .entry))) (now (plot .entry)) ⌝ }
     ensures candidate { λ _. ⌜ now (candidate .exit) ≡ filledCandidate header (fillsOf (now (fills .entry))) (now (plot .entry)) (now (candidate .entry)) ⌝ }
-    ensures answers { λ _. ⌜ now (answers .exit) ≡ stored (fillAnswers header (fillsOf (now (fills .entry))) (now (plot .entry))) (now (answers .entry)) ⌝ }
+    ensures answers { λ _. ⌜ now (answers .exit) ≡ stored (filledAnswers header (fillsOf (now (fills .entry))) (now (plot .entry))) (now (answers .entry)) ⌝ }
 {
     let mut i = 0;
     while i + 1 < fills.len() {
