@@ -1,55 +1,70 @@
-.PHONY: run test fmt lib host-test example verdicts bench bench-page
+# The program and the library are built by rt, the C side by the rules here and in the folders' own .mk files. What is built goes below target/.
+.PHONY: run test fmt lib c-test example verdicts bench bench-page builds
 
+# the crate whose exports are the library for C
+EXPORTS := host
 CRATES := crates.txt $(shell find crates -name '*.rt' -o -name '*.antt')
+LIBRARY := target/lib/libplotask.a
+PROGRAM := target/bin/plotask
 
 # proves and builds what plotask needs, and puts document 01's whole case through it: it prints `unknown 4`
 run:
 	rt check plotask
-	@target/bin/plotask < crates/plotask/stdin
+	@$(PROGRAM) < crates/plotask/stdin
 
 # the gate
 test:
 	.ci/run
 
-# lays every .rt and .antt file out
+# formats every .rt and .antt file, and the C side
 fmt:
 	rt fmt
+	clang-format -i $(shell find include examples tests bench -name '*.[ch]' -o -name '*.cpp')
 
 # proves and builds the calls for C, and puts library, header and pkg-config file in one folder
-lib: target/lib/libplotask.a target/lib/plotask.h target/lib/plotask.pc
+lib: $(LIBRARY) target/lib/plotask.h target/lib/plotask.pc
 
-target/lib/libplotask.a: $(CRATES)
-	rt staticlib host
-	@mkdir -p target/lib
-	cp target/staticlib/libhost.a $@
+$(LIBRARY): $(CRATES)
+	rt staticlib $(EXPORTS)
+	@mkdir -p $(@D)
+	cp target/staticlib/lib$(EXPORTS).a $@
 
-target/lib/plotask.%: host/plotask.%
-	@mkdir -p target/lib
+target/lib/plotask.%: include/plotask.%
+	@mkdir -p $(@D)
 	cp $< $@
 
-target/bin/plotask: $(CRATES)
+$(PROGRAM): $(CRATES)
 	rt check plotask
 	@touch $@
 
-# all tests of the C side; the last line is the total
-host-test: lib target/bin/plotask
-	$(MAKE) --no-print-directory -C host test
+# C is compiled in three ways, each with a folder of its own below target/: plainly, with sanitizers, and with loops aligned for timing
+CC ?= cc
+CFLAGS := -std=c11 -O2 -Wall -Wextra -Werror
+CPPFLAGS := -D_XOPEN_SOURCE=700 -Iinclude -Itests -Ibench
+CXXFLAGS := -std=c++11 -O2 -Wall -Wextra -Wpedantic -Wold-style-cast -Wconversion -Werror
+SANITIZE ?= -g -fsanitize=address,undefined -fno-sanitize-recover=all
+# each loop starts on a line of its own, so that its time does not depend on where the linker puts it
+ALIGN ?= -falign-functions=64 -falign-loops=32
 
-# the sample cue host, and what it prints
-example: lib
-	$(MAKE) -C host $@
+target/c/%.o: %.c
+	@mkdir -p $(@D)
+	$(CC) $(CPPFLAGS) $(CFLAGS) -MMD -MP -c $< -o $@
 
-# every box of docs/VERDICTS.md through the program
-verdicts: target/bin/plotask
-	$(MAKE) -C host $@
+target/c/%.o: %.cpp
+	@mkdir -p $(@D)
+	$(CXX) $(CPPFLAGS) $(CXXFLAGS) -MMD -MP -c $< -o $@
 
-# times as ratios to C, and the stack: the tables of docs/BENCHMARKS.md
-bench: lib
-	$(MAKE) -C host $@
+target/c-sanitized/%.o: %.c
+	@mkdir -p $(@D)
+	$(CC) $(CPPFLAGS) $(CFLAGS) $(SANITIZE) -MMD -MP -c $< -o $@
 
-# renews the tables of docs/BENCHMARKS.md, all that stands below its mark
-bench-page: lib
-	$(MAKE) -s -C host ../target/host/bench
-	sed '/^<!-- make bench -->$$/{G;q}' docs/BENCHMARKS.md > target/host/page.md
-	$(MAKE) -s --no-print-directory -C host bench >> target/host/page.md
-	cp target/host/page.md docs/BENCHMARKS.md
+target/c-aligned/%.o: %.c
+	@mkdir -p $(@D)
+	$(CC) $(CPPFLAGS) $(CFLAGS) $(ALIGN) -MMD -MP -c $< -o $@
+
+-include $(shell find target/c target/c-sanitized target/c-aligned -name '*.d' 2> /dev/null)
+
+# the objects of whole folders, compiled in one of the three ways: $(call objects,c,tests/page tests/support)
+objects = $(patsubst %.c,target/$(1)/%.o,$(wildcard $(2:%=%/*.c)))
+
+include examples/examples.mk tests/tests.mk bench/bench.mk

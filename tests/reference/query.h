@@ -2,7 +2,7 @@
 #ifndef REFERENCE_QUESTION_H
 #define REFERENCE_QUESTION_H
 
-#include "reference_plot.h"
+#include "plot.h"
 
 enum kind { ROW_STANDS = 1, EQUAL = 2, NOT = 3, AND = 4, OR = 5, SOME = 6, EVERY = 7 };
 

@@ -1,8 +1,6 @@
 /* The program plotask against the reference: feed program [seed [runs]]. The program gets random input bytes
    through a pipe, in pieces of many sizes; its line has to be the reference's, byte by byte. */
-#define _POSIX_C_SOURCE 200809L
-
-#include "generate.h"
+#include "generators/generate.h"
 
 #include <inttypes.h>
 #include <sched.h>

@@ -3,7 +3,7 @@
 #define GENERATE_H
 
 #include "random.h"
-#include "reference.h"
+#include "reference/reference.h"
 
 enum {
     PLOT_ROOM = 4400,    /* words: some plots are to be over 4,096 */

@@ -2,7 +2,7 @@
 #ifndef LOOPS_H
 #define LOOPS_H
 
-#include "work.h"
+#include "work/work.h"
 
 answering nothing_by_hand, row_by_hand, absent_by_hand, pairs_by_hand;
 

@@ -1,6 +1,6 @@
 #include "work.h"
-#include "baseline.h"
-#include "reference.h"
+#include "baseline/baseline.h"
+#include "reference/reference.h"
 
 #include <stdio.h>
 #include <stdlib.h>

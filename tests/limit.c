@@ -7,7 +7,7 @@
 
    The first two and one equality are 2^32 - 1 looks, the most that an allowance can cover. */
 #include "plotask.h"
-#include "reference.h"
+#include "reference/reference.h"
 
 #include <inttypes.h>
 #include <stdio.h>

@@ -1,5 +1,5 @@
 /* The library's questions against those of another build of it, in one run. The other's symbols have the prefix other_. */
-#include "work.h"
+#include "work/work.h"
 
 #include <stdio.h>
 

@@ -1,6 +1,6 @@
 /* The library against the reference, on random input: differential [seed [rounds [first round]]]. */
-#include "calls.h"
-#include "two_runs.h"
+#include "differential/calls.h"
+#include "differential/two_runs.h"
 
 #include <inttypes.h>
 #include <stdio.h>

@@ -3,7 +3,7 @@
 #define WORK_H
 
 #include "sample.h"
-#include "timing.h"
+#include "measure/timing.h"
 
 /* What all work reads. */
 extern struct sample now;

@@ -1,6 +1,6 @@
 /* The program plotask, from its input bytes to its line. */
 #include "reference.h"
-#include "reference_bytes.h"
+#include "support/bytes.h"
 
 #include <stdio.h>
 

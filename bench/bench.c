@@ -1,7 +1,7 @@
 /* Times of the library's calls, as ratios to C, and the stack that they need: the tables of docs/BENCHMARKS.md. */
-#include "loops.h"
-#include "stack.h"
-#include "work.h"
+#include "baseline/loops.h"
+#include "measure/stack.h"
+#include "work/work.h"
 
 #include <stdio.h>
 #include <stdlib.h>

@@ -3,7 +3,7 @@
  *
  *   verdicts PAGE PLOTASK
  */
-#include "block.h"
+#include "page/block.h"
 
 #include <stdlib.h>
 #include <string.h>

@@ -1,5 +1,5 @@
 /* What is done to a plot in hand: enter a row, fill a mark, take the census. */
-#include "reference_plot.h"
+#include "plot.h"
 
 static struct plot plot;
 

@@ -1,4 +1,4 @@
-#include "reference_plot.h"
+#include "plot.h"
 
 bool is_inked(uint32_t cell) { return cell <= 999999; }
 

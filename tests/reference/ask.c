@@ -1,5 +1,5 @@
 /* The three-valued rules and their looks. */
-#include "reference_question.h"
+#include "query.h"
 
 #include <string.h>
 

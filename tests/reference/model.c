@@ -1,5 +1,5 @@
 /* "Run A and run B": the book, and two-valued logic on it. */
-#include "reference_question.h"
+#include "query.h"
 
 #include <string.h>
 

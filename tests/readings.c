@@ -1,5 +1,5 @@
 /* Document 01's "Readings to hold up beside the rules", asked of the library and of the reference at once. */
-#include "compare.h"
+#include "differential/compare.h"
 
 #include <stdio.h>
 #include <string.h>

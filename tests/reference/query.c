@@ -1,4 +1,4 @@
-#include "reference_question.h"
+#include "query.h"
 
 #include <string.h>
 

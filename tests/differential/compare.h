@@ -4,7 +4,7 @@
 #ifndef COMPARE_H
 #define COMPARE_H
 
-#include "generate.h"
+#include "generators/generate.h"
 #include "tally.h"
 
 uint32_t both_read_card(struct any_plot *plot, const struct any_card *card);

@@ -1,6 +1,6 @@
 /* The card: reading and writing. */
-#include "reference_bytes.h"
-#include "reference_plot.h"
+#include "support/bytes.h"
+#include "plot.h"
 
 static struct plot plot;
 

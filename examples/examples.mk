@@ -1,0 +1,14 @@
+# Each file is a program, compiled over target/lib as a host's programmer would, and in the oldest C that plotask.h takes.
+EXAMPLES := $(notdir $(basename $(wildcard examples/*.c)))
+HOSTS := $(EXAMPLES:%=target/c/bin/%)
+
+# the sample cue host, and what it prints
+example: $(HOSTS)
+	@for host in $(EXAMPLES); do \
+		target/c/bin/$$host > target/c/$$host.out && diff examples/$$host.out target/c/$$host.out || exit 1; \
+	done
+	@echo "$(words $(EXAMPLES)) passed, 0 failed"
+
+$(HOSTS): target/c/bin/%: examples/%.c $(LIBRARY) target/lib/plotask.h
+	@mkdir -p $(@D)
+	$(CC) -std=c99 -O2 -Wall -Wextra -Wpedantic -Werror -Itarget/lib $< -Ltarget/lib -lplotask -o $@
