@@ -1,4 +1,4 @@
-/* A sample cue host: which lamps must be hired? Sheet 0 has the lamps that hang, sheet 1 the lamps in the house's store. */
+/* A sample cue host: which lamps must be hired? Sheet 0 has the lamps that hang, sheet 1 those in the house's store. */
 #include "plotask.h"
 
 #include <stdio.h>
@@ -9,10 +9,10 @@ static struct plotask_header header;
 static uint32_t plot[PLOTASK_WORDS];
 static uint32_t list[PLOTASK_CELLS];
 
-/* Two sheets of one column, two rows: lamp 201 hangs; the store has one lamp, whose number nobody has noted, a blank. */
+/* Two sheets of one column, two rows: lamp 201 hangs; the store has one lamp, whose number is not known: a blank. */
 static const uint8_t card[] = {0x02, 0x01, 0x01, 0x00, 0x02, 0x00, 0x01, 0x00, 0x00, 0xC9, 0x01, 0x00};
 
-/* "The lamp hangs, and it is not in the store"; the lamp is variable 0, the candidate's cell. */
+/* "The lamp hangs, and it is not in the store." The lamp is variable 0, the candidate's cell. */
 static const uint32_t to_hire[4][PLOTASK_NODE_WORDS] = {
     {PLOTASK_AND, 1, 2},
     {PLOTASK_STANDS, HUNG, PLOTASK_VARIABLE(0)},
@@ -34,12 +34,12 @@ static const char *reason(uint32_t refusal)
     }
 }
 
-/* Says why a call was refused, if it was; the plot is then as it was before. */
-static int refused(uint32_t answer)
+/* Returns whether a call was refused, and says why. The plot is then as it was before. */
+static int refused(uint32_t refusal)
 {
-    if (answer == PLOTASK_DONE)
+    if (refusal == PLOTASK_DONE)
         return 0;
-    printf("refused %u, %s\n", (unsigned)answer, reason(answer));
+    printf("refused %u, %s\n", (unsigned)refusal, reason(refusal));
     return 1;
 }
 
@@ -49,9 +49,9 @@ static void ask_to_hire(uint32_t lamp, uint32_t allowance)
     uint32_t truth, looks;
 
     printf("hire %u, with %u looks: ", (unsigned)lamp, (unsigned)allowance);
-    uint32_t answer = plotask_ask(PLOTASK_HEADER(&header), plot, PLOTASK_WORDS, &to_hire[0][0], 4 * PLOTASK_NODE_WORDS, &lamp, 1, list,
-                                  PLOTASK_CELLS, allowance, &truth, &looks);
-    if (!refused(answer))
+    uint32_t refusal = plotask_ask(PLOTASK_HEADER(&header), plot, PLOTASK_WORDS, &to_hire[0][0], 4 * PLOTASK_NODE_WORDS,
+                                   &lamp, 1, list, PLOTASK_CELLS, allowance, &truth, &looks);
+    if (!refused(refusal))
         printf("%s, %u looks\n", names[truth], (unsigned)looks);
 }
 
@@ -83,7 +83,7 @@ int main(void)
     ask_to_hire(201, 100);
     ask_to_hire(202, 100);
 
-    /* Refusals are answers too: the host goes on. */
+    /* A refused call changes nothing, so the host goes on. */
     fill(1, 203);
     ask_to_hire(201, 4);
 

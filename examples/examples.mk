@@ -1,4 +1,4 @@
-# Each file is a program, compiled over target/lib as a host's programmer would, and in the oldest C that plotask.h takes.
+# Each file is a program, compiled over target/lib as by a user of the library, in the oldest C that plotask.h takes.
 EXAMPLES := $(notdir $(basename $(wildcard examples/*.c)))
 HOSTS := $(EXAMPLES:%=target/c/bin/%)
 
