@@ -1,4 +1,5 @@
-# The program and the library are built by rt, the C side by the rules here and in the folders' own .mk files. What is built goes below target/.
+# The program and the library are built by rt, the C side by the rules here and in the .mk file of each folder.
+# What is built goes below target/.
 .PHONY: run test fmt lib c-test example verdicts bench bench-page builds
 
 # the crate whose exports are the library for C
@@ -19,7 +20,7 @@ test:
 # formats every .rt and .antt file, and the C side
 fmt:
 	rt fmt
-	clang-format -i $(shell find include examples tests bench -name '*.[ch]' -o -name '*.cpp')
+	clang-format -i $$(find include examples tests bench -name '*.[ch]' -o -name '*.cpp')
 
 # proves and builds the calls for C, and puts library, header and pkg-config file in one folder
 lib: $(LIBRARY) target/lib/plotask.h target/lib/plotask.pc
@@ -37,15 +38,15 @@ $(PROGRAM): $(CRATES)
 	rt check plotask
 	@touch $@
 
-# C is compiled in three ways, each with a folder of its own below target/: plainly, with sanitizers, and with loops aligned for timing
 CC ?= cc
 CFLAGS := -std=c11 -O2 -Wall -Wextra -Werror
-CPPFLAGS := -D_XOPEN_SOURCE=700 -Iinclude -Itests -Ibench
 CXXFLAGS := -std=c++11 -O2 -Wall -Wextra -Wpedantic -Wold-style-cast -Wconversion -Werror
+CPPFLAGS := -D_XOPEN_SOURCE=700 -Iinclude -Itests -Ibench
 SANITIZE ?= -g -fsanitize=address,undefined -fno-sanitize-recover=all
 # each loop starts on a line of its own, so that its time does not depend on where the linker puts it
 ALIGN ?= -falign-functions=64 -falign-loops=32
 
+# C is compiled in three ways, each with a folder below target/: plainly, with sanitizers, and aligned for timing
 target/c/%.o: %.c
 	@mkdir -p $(@D)
 	$(CC) $(CPPFLAGS) $(CFLAGS) -MMD -MP -c $< -o $@
@@ -64,7 +65,7 @@ target/c-aligned/%.o: %.c
 
 -include $(shell find target/c target/c-sanitized target/c-aligned -name '*.d' 2> /dev/null)
 
-# the objects of whole folders, compiled in one of the three ways: $(call objects,c,tests/page tests/support)
+# the objects of whole folders, compiled in one of these ways: $(call objects,c,tests/page tests/support)
 objects = $(patsubst %.c,target/$(1)/%.o,$(wildcard $(2:%=%/*.c)))
 
 include examples/examples.mk tests/tests.mk bench/bench.mk

@@ -8,7 +8,7 @@
 
 enum { FULL_ROWS = 585, FEW_VALUES = 16, PASSES = 8 };
 
-static void question_row(const char *name, answering *loop, uint32_t expected)
+static void query_row(const char *name, answering *loop, uint32_t expected)
 {
     work *const works[] = {ask, ask_scanning, ask_hashing, ask_reference};
     double ns[4];
@@ -17,7 +17,7 @@ static void question_row(const char *name, answering *loop, uint32_t expected)
     for (int i = 0; i < 4; i++) {
         must_do(works[i]);
         if (truth != expected) {
-            fprintf(stderr, "bench: a verdict of '%s' differs\n", name);
+            fprintf(stderr, "bench: a truth of '%s' differs\n", name);
             exit(1);
         }
     }
@@ -28,33 +28,34 @@ static void question_row(const char *name, answering *loop, uint32_t expected)
     puts("");
 }
 
-static void question_table(void)
+static void query_table(void)
 {
     puts("## Questions\n");
-    puts("| question | library, ns | C, values by scan, ns | ratio | C, values by hash table, ns | ratio | reference, ns | ratio |");
+    puts("| question | library, ns | C, values by scan, ns | ratio | C, values by hash table, ns | ratio | reference, "
+         "ns | ratio |");
     puts("|---|---|---|---|---|---|---|---|");
     make_plot(&now, PLOTASK_COLUMNS, FULL_ROWS, FEW_VALUES);
     ask_nothing(&now);
-    question_row("no row asked; 16 different values", nothing_by_hand, PLOTASK_TRUE);
+    query_row("no row asked; 16 different values", nothing_by_hand, PLOTASK_TRUE);
     ask_row(&now, 999000);
-    question_row("one row, no match; 16 different values", row_by_hand, PLOTASK_FALSE);
+    query_row("one row, no match; 16 different values", row_by_hand, PLOTASK_FALSE);
     ask_row(&now, 0);
-    question_row("one row, match in the first row; 16 different values", row_by_hand, PLOTASK_TRUE);
+    query_row("one row, match in the first row; 16 different values", row_by_hand, PLOTASK_TRUE);
     ask_absent(&now);
-    question_row("for every value one row, no match; 16 different values", absent_by_hand, PLOTASK_TRUE);
-    mark_every_row(&now);
+    query_row("for every value one row, no match; 16 different values", absent_by_hand, PLOTASK_TRUE);
+    null_every_row(&now);
     ask_nothing(&now);
-    question_row("no row asked; marks in every row, 205 different values", nothing_by_hand, PLOTASK_TRUE);
+    query_row("no row asked; marks in every row, 205 different values", nothing_by_hand, PLOTASK_TRUE);
     ask_row(&now, 0);
-    question_row("one row, unifies with every row; marks in every row", row_by_hand, PLOTASK_UNKNOWN);
+    query_row("one row, unifies with every row; marks in every row", row_by_hand, PLOTASK_UNKNOWN);
     make_plot(&now, PLOTASK_COLUMNS, FULL_ROWS, PLOTASK_CELLS);
     ask_nothing(&now);
-    question_row("no row asked; 3,510 different values", nothing_by_hand, PLOTASK_TRUE);
+    query_row("no row asked; 3,510 different values", nothing_by_hand, PLOTASK_TRUE);
     ask_row(&now, 999000);
-    question_row("one row, no match; 3,510 different values", row_by_hand, PLOTASK_FALSE);
+    query_row("one row, no match; 3,510 different values", row_by_hand, PLOTASK_FALSE);
     make_plot(&now, 1, 64, 64);
     ask_pairs(&now);
-    question_row("two nested quantifiers over 64 rows of one cell; 64 different values", pairs_by_hand, PLOTASK_TRUE);
+    query_row("two nested quantifiers over 64 rows of one cell; 64 different values", pairs_by_hand, PLOTASK_TRUE);
 }
 
 static void call_row(const char *name, work *library, work *hand, work *reference)
@@ -76,10 +77,10 @@ static void call_table(void)
     prepare_calls(FULL_ROWS);
     call_row("decode, 585 rows", decode, decode_by_hand, decode_reference);
     call_row("encode, 585 rows", encode, encode_by_hand, encode_reference);
-    call_row("substitute, a mark in 585 cells", fill, fill_by_hand, fill_reference);
-    call_row("null counts, 585 rows", census, census_by_hand, census_reference);
+    call_row("substitute, a mark in 585 cells", substitute, substitute_by_hand, substitute_reference);
+    call_row("null counts, 585 rows", null_counts, null_counts_by_hand, null_counts_reference);
     prepare_calls(FULL_ROWS - 1);
-    call_row("insert behind 584 rows", enter, enter_by_hand, enter_reference);
+    call_row("insert after 584 rows", insert, insert_by_hand, insert_reference);
 }
 
 static void few_values(uint32_t rows)
@@ -94,7 +95,7 @@ static void many_values(uint32_t rows)
     ask_nothing(&now);
 }
 
-/* A quarter, a half, and a full plot with room for one more row. */
+/* The rows of a quarter, a half, and a full plot with room for one more row. */
 static const uint32_t SHARES[] = {FULL_ROWS / 4, FULL_ROWS / 2, FULL_ROWS - 1};
 
 static void growth_row(const char *name, void (*prepare)(uint32_t rows), work *piece)
@@ -121,9 +122,9 @@ static void growth_table(void)
     growth_row("ask, no row asked; all values different", many_values, ask);
     growth_row("decode", prepare_calls, decode);
     growth_row("encode", prepare_calls, encode);
-    growth_row("substitute", prepare_calls, fill);
-    growth_row("null counts", prepare_calls, census);
-    growth_row("insert", prepare_calls, enter);
+    growth_row("substitute", prepare_calls, substitute);
+    growth_row("null counts", prepare_calls, null_counts);
+    growth_row("insert", prepare_calls, insert);
 }
 
 static double time_of(work *piece)
@@ -135,22 +136,22 @@ static double time_of(work *piece)
     return ns;
 }
 
-/* The time of a look: what a question takes beyond one that asks no row, by its looks. */
-static void look_row(const char *name, void (*question)(struct sample *sample))
+/* The time of a look: what a query takes beyond one that asks no row, divided by its cost. */
+static void look_row(const char *name, void (*query)(struct sample *sample))
 {
     double whole = 0, none = 0;
-    uint32_t looks = 0;
+    uint32_t cost = 0;
 
     for (int pass = 0; pass < PASSES; pass++) {
-        question(&now);
+        query(&now);
         double ns = time_of(ask);
         whole = pass == 0 || ns < whole ? ns : whole;
-        looks = count;
+        cost = count;
         ask_nothing(&now);
         ns = time_of(ask);
         none = pass == 0 || ns < none ? ns : none;
     }
-    printf("| %s | %u | %.1f |\n", name, (unsigned)looks, (whole - none) / looks);
+    printf("| %s | %u | %.1f |\n", name, (unsigned)cost, (whole - none) / cost);
 }
 
 static void look_table(void)
@@ -162,7 +163,7 @@ static void look_table(void)
     look_row("for every value one row of a sheet with 585 rows, no match", ask_absent);
     make_plot(&now, 1, PLOTASK_WORDS / 2 - 1, FEW_VALUES);
     add_last_row(&now);
-    look_row("for every value one row of a sheet whose only row stands last, behind 2,047 of one cell", ask_last_row);
+    look_row("for every value one row of a sheet whose only row stands last, after 2,047 of one cell", ask_last_row);
     make_plot(&now, 1, 64, 64);
     look_row("two nested quantifiers over 64 values, with equalities alone", ask_pairs);
 }
@@ -179,7 +180,7 @@ static void chain_row(const char *name, uint32_t kind, uint32_t nodes)
     stack_row(name, ask);
 }
 
-/* Over a row of one mark, so that each quantifier has one value, and the deepest node has to unify. */
+/* Over a row of one null, so that each quantifier has one value, and the deepest node has to unify. */
 static void chain_rows(void)
 {
     make_plot(&now, PLOTASK_COLUMNS, 1, 1);
@@ -204,9 +205,9 @@ static void stack_table(void)
     prepare_calls(FULL_ROWS - 1);
     stack_row("decode", decode);
     stack_row("encode", encode);
-    stack_row("insert", enter);
-    stack_row("substitute", fill);
-    stack_row("null counts", census);
+    stack_row("insert", insert);
+    stack_row("substitute", substitute);
+    stack_row("null counts", null_counts);
     chain_rows();
     many_values(FULL_ROWS);
     stack_row("ask, 1 node; 3,510 different values", ask);
@@ -214,7 +215,7 @@ static void stack_table(void)
 
 int main(void)
 {
-    question_table();
+    query_table();
     call_table();
     growth_table();
     look_table();

@@ -1,25 +1,20 @@
 // The examples that plotask.h gives, through the library, from C++.
 #include "plotask.h"
+#include "support/checks.h"
 
 #include <cstdio>
 
-namespace {
-
-int passed = 0;
-int failed = 0;
+namespace
+{
 
 void expect(bool holds, const char *what)
 {
-    if (holds) {
-        passed++;
-        return;
-    }
-    failed++;
-    std::printf("plotask.h: %s\n", what);
+    if (!check(holds))
+        std::printf("plotask.h: %s\n", what);
 }
 
 struct Answer {
-    uint32_t refusal, truth, looks;
+    uint32_t refusal, truth, cost;
 };
 
 Answer ask(const plotask_header &header, const uint32_t *plot, const uint32_t *query, size_t query_words)
@@ -27,44 +22,54 @@ Answer ask(const plotask_header &header, const uint32_t *plot, const uint32_t *q
     const uint32_t candidate[] = {201};
     uint32_t list[4];
     Answer answer = {0, 9, 9};
-    answer.refusal = plotask_ask(PLOTASK_CONST_HEADER(&header), plot, 4, query, query_words, candidate, 1, list, 4, 100, &answer.truth,
-                                 &answer.looks);
+    answer.refusal = plotask_ask(PLOTASK_CONST_HEADER(&header), plot, 4, query, query_words, candidate, 1, list, 4, 100,
+                                 &answer.truth, &answer.cost);
     return answer;
 }
 
-bool is(const Answer &answer, plotask_truth truth, uint32_t looks)
+bool is(const Answer &answer, plotask_truth truth, uint32_t cost)
 {
-    return answer.refusal == PLOTASK_DONE && answer.truth == truth && answer.looks == looks;
+    return answer.refusal == PLOTASK_DONE && answer.truth == truth && answer.cost == cost;
 }
 
 // 201 stands in sheet 0, and a blank of sheet 1 may be 201 too.
 void card_and_difference()
 {
     const uint8_t card[] = {2, 1, 1, 0, 2, 0, 1, 0, 0, 201, 1, 0};
-    const uint32_t question[4][PLOTASK_NODE_WORDS] = {
-        {PLOTASK_AND, 1, 2}, {PLOTASK_STANDS, 0, PLOTASK_VARIABLE(0)}, {PLOTASK_NOT, 3}, {PLOTASK_STANDS, 1, PLOTASK_VARIABLE(0)}};
+    const uint32_t question[4][PLOTASK_NODE_WORDS] = {{PLOTASK_AND, 1, 2},
+                                                      {PLOTASK_STANDS, 0, PLOTASK_VARIABLE(0)},
+                                                      {PLOTASK_NOT, 3},
+                                                      {PLOTASK_STANDS, 1, PLOTASK_VARIABLE(0)}};
     plotask_header header = plotask_header();
     uint32_t plot[4] = {};
     uint32_t count = 0;
 
     expect(plotask_decode(card, sizeof card, PLOTASK_HEADER(&header), plot, 4) == PLOTASK_DONE, "the card is not read");
-    expect(header.relations == 2 && header.arities[0] == 1 && header.arities[1] == 1 && header.used == 4, "the card's header");
+    expect(header.relations == 2 && header.arities[0] == 1 && header.arities[1] == 1 && header.used == 4,
+           "the card's header");
     expect(plot[0] == 0 && plot[1] == 201 && plot[2] == 1 && plot[3] == PLOTASK_MARK(1), "the card's rows");
-    expect(is(ask(header, plot, &question[0][0], 4 * PLOTASK_NODE_WORDS), PLOTASK_UNKNOWN, 4), "the difference, with the mark");
-    expect(plotask_substitute(PLOTASK_CONST_HEADER(&header), plot, 4, 1, 202, &count) == PLOTASK_DONE && count == 1, "the fill");
+    expect(is(ask(header, plot, &question[0][0], 4 * PLOTASK_NODE_WORDS), PLOTASK_UNKNOWN, 4),
+           "the difference, with the mark");
+    expect(plotask_substitute(PLOTASK_CONST_HEADER(&header), plot, 4, 1, 202, &count) == PLOTASK_DONE && count == 1,
+           "the fill");
     expect(is(ask(header, plot, &question[0][0], 4 * PLOTASK_NODE_WORDS), PLOTASK_TRUE, 4), "the difference, filled");
 }
 
 // The row (201, 5) in sheet 2; the values are tried in the order 201, 5.
 void some_value()
 {
-    const uint32_t question[2][PLOTASK_NODE_WORDS] = {
-        {PLOTASK_SOME, 5, 1}, {PLOTASK_STANDS, 2, PLOTASK_VARIABLE(0), PLOTASK_VARIABLE(5)}};
+    const uint32_t question[2][PLOTASK_NODE_WORDS] = {{PLOTASK_SOME, 5, 1},
+                                                      {PLOTASK_STANDS, 2, PLOTASK_VARIABLE(0), PLOTASK_VARIABLE(5)}};
     const uint32_t row[] = {201, 5};
-    plotask_header header = {3, {1, 1, 2, 0, 0, 0, 0, 0}, 0};
+    plotask_header header = plotask_header();
     uint32_t plot[4] = {};
 
-    expect(plotask_insert(PLOTASK_HEADER(&header), plot, 4, 2, row, 2) == PLOTASK_DONE && header.used == 3, "the row is not entered");
+    header.relations = 3;
+    header.arities[0] = 1;
+    header.arities[1] = 1;
+    header.arities[2] = 2;
+    expect(plotask_insert(PLOTASK_HEADER(&header), plot, 4, 2, row, 2) == PLOTASK_DONE && header.used == 3,
+           "the row is not entered");
     expect(is(ask(header, plot, &question[0][0], 2 * PLOTASK_NODE_WORDS), PLOTASK_TRUE, 4), "some value");
 }
 
@@ -74,6 +79,5 @@ int main()
 {
     card_and_difference();
     some_value();
-    std::printf("%d passed, %d failed\n", passed, failed);
-    return failed != 0;
+    return finish_checks();
 }

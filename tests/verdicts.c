@@ -1,95 +1,60 @@
-/*
- * Checks docs/VERDICTS.md: puts each of its blocks through plotask and compares the line.
- *
- *   verdicts PAGE PLOTASK
- */
+/* Puts each block of docs/VERDICTS.md through plotask and compares the line: verdicts page program. */
 #include "page/block.h"
+#include "support/checks.h"
+#include "support/program.h"
 
-#include <stdlib.h>
 #include <string.h>
-#include <sys/wait.h>
-#include <unistd.h>
 
 /* A page with fewer blocks has lost some. */
 enum { BLOCKS = 20 };
 
-/* Runs a program on an input, and takes what it prints, without its line feed. The input goes through a file, so neither side can wait. */
-static int run(const char *program, const struct block *block, char *line, size_t size)
+/* The line that the program prints for a block, without its line feed; false if it prints none. */
+static bool run(const char *program, const struct block *block, char *line, size_t room)
 {
-    FILE *input = tmpfile();
-    int ends[2];
-    int status = 0;
-    size_t n = 0;
-    ssize_t got;
-
-    if (!input || pipe(ends) != 0)
-        return 0;
-    fwrite(block->input, 1, block->input_bytes, input);
-    fflush(input);
-    rewind(input);
-    pid_t child = fork();
-    if (child == 0) {
-        dup2(fileno(input), 0);
-        dup2(ends[1], 1);
-        close(ends[0]);
-        close(ends[1]);
-        execl(program, program, (char *)NULL);
-        _exit(127);
-    }
-    close(ends[1]);
-    while (n + 1 < size && (got = read(ends[0], line + n, size - 1 - n)) > 0)
-        n += (size_t)got;
-    close(ends[0]);
-    fclose(input);
-    line[n] = '\0';
-    if (child < 0 || waitpid(child, &status, 0) < 0 || status != 0 || n == 0 || line[n - 1] != '\n')
-        return 0;
-    line[n - 1] = '\0';
-    return 1;
+    if (!run_program(program, block->input, block->input_bytes, NULL, NULL, line, room))
+        return false;
+    size_t length = strlen(line);
+    if (length == 0 || line[length - 1] != '\n')
+        return false;
+    line[length - 1] = '\0';
+    return true;
 }
 
-/* Whether a student expects this line; one who names a verdict alone expects it with any looks. */
-static int student_is_right(const struct block *block)
+/* Whether a student expects plotask's line. A student who names a verdict alone expects it with any looks. */
+static bool student_is_right(const struct block *block)
 {
     size_t length = strlen(block->student);
 
-    return length > 0 && strncmp(block->plotask, block->student, length) == 0 && strchr(" ", block->plotask[length]) != NULL;
+    return length > 0 && strncmp(block->plotask, block->student, length) == 0 &&
+           strchr(" ", block->plotask[length]) != NULL;
 }
 
-static int holds(const char *program, const struct block *block, unsigned at)
+static bool holds(const char *program, const struct block *block, unsigned at)
 {
-    char line[64] = "";
+    char line[64];
 
     if (!run(program, block, line, sizeof line)) {
         printf("line %u: %s did not run, or printed no line\n", at, program);
-        return 0;
+        return false;
     }
     if (strcmp(line, block->plotask) != 0) {
         printf("line %u: the page says '%s', plotask prints '%s'\n", at, block->plotask, line);
-        return 0;
+        return false;
     }
     if (student_is_right(block)) {
         printf("line %u: the student is right\n", at);
-        return 0;
+        return false;
     }
-    return 1;
+    return true;
 }
 
-int main(int count, char **arguments)
+/* Checks the page's blocks, and returns their number. */
+static unsigned check_page(FILE *page, const char *program)
 {
     static struct block block;
-    unsigned at = 0, passed = 0, failed = 0;
+    unsigned at = 0, blocks = 0;
     char text[1024];
 
-    if (count != 3) {
-        fprintf(stderr, "usage: verdicts PAGE PLOTASK\n");
-        return 2;
-    }
-    FILE *page = fopen(arguments[1], "r");
-    if (!page) {
-        perror(arguments[1]);
-        return 2;
-    }
     while (fgets(text, sizeof text, page)) {
         at++;
         if (strcmp(text, "```verdict\n") != 0)
@@ -98,16 +63,28 @@ int main(int count, char **arguments)
         const char *fault = read_block(page, &at, &block);
         if (fault)
             printf("line %u: %s\n", first, fault);
-        if (!fault && holds(arguments[2], &block, first))
-            passed++;
-        else
-            failed++;
+        check(!fault && holds(program, &block, first));
+        blocks++;
     }
+    return blocks;
+}
+
+int main(int count, char **arguments)
+{
+    if (count != 3) {
+        fprintf(stderr, "usage: verdicts page program\n");
+        return 2;
+    }
+    FILE *page = fopen(arguments[1], "r");
+    if (!page) {
+        perror(arguments[1]);
+        return 2;
+    }
+    unsigned blocks = check_page(page, arguments[2]);
     fclose(page);
-    if (passed + failed < BLOCKS) {
-        printf("the page has %u blocks, not %u\n", passed + failed, (unsigned)BLOCKS);
-        failed++;
+    if (blocks < BLOCKS) {
+        printf("the page has %u blocks, not %u\n", blocks, (unsigned)BLOCKS);
+        check(false);
     }
-    printf("%u passed, %u failed\n", passed, failed);
-    return failed != 0;
+    return finish_checks();
 }

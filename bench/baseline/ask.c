@@ -1,11 +1,11 @@
-/* The parts of a question: listing the values, and whether a row stands in a sheet. */
+/* The parts of a query: listing the values, and testing whether a row stands in a relation. */
 #include "baseline.h"
 
 #include <string.h>
 
 enum { SLOTS = 8192, STRIDE = 8 };
 
-/* Whether a cell is among the first n of a list. A stride has no early end, so that the compiler can compare its cells at once. */
+/* Whether a cell is among the first n of a list. A stride has no early exit, so that its cells are compared at once. */
 static int contains(const uint32_t *list, size_t n, uint32_t cell)
 {
     size_t i = 0;
@@ -35,7 +35,7 @@ size_t list_by_scan(const struct plotask_header *header, const uint32_t *plot, u
     return count;
 }
 
-/* A slot holds a value's place in the list, plus 1; 0 is free. At most 3,510 of the 8,192 slots are taken. */
+/* A slot holds a value's index in the list, plus 1; 0 is free. At most 3,510 of the 8,192 slots are taken. */
 size_t list_by_table(const struct plotask_header *header, const uint32_t *plot, uint32_t *list)
 {
     uint16_t slots[SLOTS];
@@ -58,7 +58,7 @@ size_t list_by_table(const struct plotask_header *header, const uint32_t *plot, 
     return count;
 }
 
-/* Whether two rows unify: `from` and `to` keep what is put for marks, and are followed to the end. */
+/* Whether two rows unify. `from` and `to` hold what has been put for nulls, in the order in which it was put. */
 static int unifies(const uint32_t *a, const uint32_t *b, uint32_t columns)
 {
     uint32_t from[PLOTASK_COLUMNS], to[PLOTASK_COLUMNS];
@@ -80,14 +80,14 @@ static int unifies(const uint32_t *a, const uint32_t *b, uint32_t columns)
     return 1;
 }
 
-uint32_t row_stands(const struct plotask_header *header, const uint32_t *plot, uint32_t sheet, const uint32_t *row)
+uint32_t row_stands(const struct plotask_header *header, const uint32_t *plot, uint32_t relation, const uint32_t *row)
 {
     const uint32_t *end = plot + header->used;
-    uint32_t columns = header->arities[sheet];
-    uint32_t verdict = PLOTASK_FALSE;
+    uint32_t columns = header->arities[relation];
+    uint32_t truth = PLOTASK_FALSE;
 
     for (; plot < end; plot += 1 + header->arities[*plot]) {
-        if (*plot != sheet)
+        if (*plot != relation)
             continue;
         uint32_t i = 0;
         while (i < columns && plot[1 + i] == row[i])
@@ -96,8 +96,8 @@ uint32_t row_stands(const struct plotask_header *header, const uint32_t *plot, u
             return PLOTASK_TRUE;
         if (row[i] < PLOTASK_CONSTANTS && plot[1 + i] < PLOTASK_CONSTANTS)
             continue;
-        if (verdict == PLOTASK_FALSE && unifies(plot + 1 + i, row + i, columns - i))
-            verdict = PLOTASK_UNKNOWN;
+        if (truth == PLOTASK_FALSE && unifies(plot + 1 + i, row + i, columns - i))
+            truth = PLOTASK_UNKNOWN;
     }
-    return verdict;
+    return truth;
 }

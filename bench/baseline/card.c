@@ -1,4 +1,4 @@
-/* Reading and writing a card. */
+/* Decode and encode. Bytes are written one by one, since their time is measured. */
 #include "baseline.h"
 
 static uint32_t field_at(const uint8_t *p)
@@ -6,20 +6,21 @@ static uint32_t field_at(const uint8_t *p)
     return (uint32_t)p[0] << 16 | (uint32_t)p[1] << 8 | p[2];
 }
 
-/* The number of bits that stand in a map of six. */
-static uint32_t standing(uint32_t map)
+/* The number of bits that are set in a map of six. */
+static uint32_t bits_set(uint32_t map)
 {
     map = (map & 0x15) + (map >> 1 & 0x15);
     map = (map & 0x33) + (map >> 2 & 0x33);
     return (map & 0x0F) + (map >> 4);
 }
 
-/* One record at p, of a card that ends at end: its bytes, or 0 where it breaks a rule. */
-static size_t measure_record(const struct plotask_header *header, const uint8_t *p, const uint8_t *end, uint32_t *blanks, uint32_t *highest)
+/* The number of bytes of the record at p, of a card that ends at `end`; 0 if it breaks a rule. */
+static size_t measure_record(const struct plotask_header *header, const uint8_t *p, const uint8_t *end,
+                             uint32_t *blanks, uint32_t *highest)
 {
     if (end - p < 2 || p[0] >= header->relations || p[1] >> header->arities[p[0]] != 0)
         return 0;
-    uint32_t fields = standing(p[1]);
+    uint32_t fields = bits_set(p[1]);
     if ((size_t)(end - p) < 2 + 3 * fields)
         return 0;
     for (uint32_t i = 0; i < fields; i++) {
@@ -32,8 +33,8 @@ static size_t measure_record(const struct plotask_header *header, const uint8_t 
     return 2 + 3 * fields;
 }
 
-/* Writes the row of a record that is measured already, and answers its end. */
-static const uint8_t *read_record(const uint8_t *p, uint32_t columns, uint32_t *to, uint32_t *blank)
+/* Writes the row of a record that has been measured, and returns the record's end. */
+static const uint8_t *decode_record(const uint8_t *p, uint32_t columns, uint32_t *to, uint32_t *blank)
 {
     uint32_t map = p[1];
 
@@ -50,8 +51,8 @@ static const uint8_t *read_record(const uint8_t *p, uint32_t columns, uint32_t *
     return p;
 }
 
-/* What stands before the records: 0 where it breaks a rule. */
-static int read_head(const uint8_t *card, size_t bytes, struct plotask_header *header)
+/* What comes before the records; returns 0 if it breaks a rule. */
+static int decode_head(const uint8_t *card, size_t bytes, struct plotask_header *header)
 {
     if (bytes < 1 || card[0] < 1 || card[0] > PLOTASK_RELATIONS || bytes < 3u + card[0])
         return 0;
@@ -64,12 +65,13 @@ static int read_head(const uint8_t *card, size_t bytes, struct plotask_header *h
     return 1;
 }
 
-uint32_t read_card(const uint8_t *card, size_t bytes, struct plotask_header *header, uint32_t *plot, size_t plot_words)
+uint32_t decode_card(const uint8_t *card, size_t bytes, struct plotask_header *header, uint32_t *plot,
+                     size_t plot_words)
 {
     struct plotask_header read = {0};
     uint32_t blanks = 0, highest = PLOTASK_CONSTANTS;
 
-    if (!read_head(card, bytes, &read))
+    if (!decode_head(card, bytes, &read))
         return 0;
     const uint8_t *rows = card + 1 + read.relations;
     const uint8_t *first = rows + 2, *p = first, *end = card + bytes;
@@ -86,14 +88,15 @@ uint32_t read_card(const uint8_t *card, size_t bytes, struct plotask_header *hea
     p = first;
     for (uint32_t i = 0; i < count; i++) {
         uint32_t columns = read.arities[p[0]];
-        p = read_record(p, columns, plot, &highest);
+        p = decode_record(p, columns, plot, &highest);
         plot += 1 + columns;
     }
     *header = read;
     return read.used;
 }
 
-uint32_t write_card(const struct plotask_header *header, const uint32_t *plot, size_t plot_words, uint8_t *card, size_t bytes)
+uint32_t encode_card(const struct plotask_header *header, const uint32_t *plot, size_t plot_words, uint8_t *card,
+                     size_t bytes)
 {
     uint32_t rows = 0;
 

@@ -11,9 +11,9 @@ static uint32_t higher(uint32_t a, uint32_t b)
     return a > b ? a : b;
 }
 
-static uint32_t not(uint32_t verdict)
+static uint32_t not(uint32_t truth)
 {
-    return PLOTASK_TRUE - verdict;
+    return PLOTASK_TRUE - truth;
 }
 
 static uint32_t equal(uint32_t a, uint32_t b)
@@ -39,25 +39,25 @@ uint32_t row_by_hand(const uint32_t *values, size_t count)
 
 uint32_t absent_by_hand(const uint32_t *values, size_t count)
 {
-    uint32_t verdict = PLOTASK_TRUE;
+    uint32_t result = PLOTASK_TRUE;
 
-    for (size_t i = 0; i < count && verdict != PLOTASK_FALSE; i++) {
+    for (size_t i = 0; i < count && result != PLOTASK_FALSE; i++) {
         uint32_t v = values[i], row[PLOTASK_COLUMNS] = {v, v, v, v, v, v};
-        verdict = lower(verdict, not(row_stands(&now.header, now.plot, 0, row)));
+        result = lower(result, not(row_stands(&now.header, now.plot, 0, row)));
     }
-    return verdict;
+    return result;
 }
 
 uint32_t pairs_by_hand(const uint32_t *values, size_t count)
 {
-    uint32_t verdict = PLOTASK_TRUE;
+    uint32_t result = PLOTASK_TRUE;
 
-    for (size_t i = 0; i < count && verdict != PLOTASK_FALSE; i++)
-        for (size_t j = 0; j < count && verdict != PLOTASK_FALSE; j++) {
+    for (size_t i = 0; i < count && result != PLOTASK_FALSE; i++)
+        for (size_t j = 0; j < count && result != PLOTASK_FALSE; j++) {
             uint32_t either = equal(values[i], values[j]);
             if (either != PLOTASK_TRUE)
                 either = higher(either, not(equal(values[i], values[j])));
-            verdict = lower(verdict, either);
+            result = lower(result, either);
         }
-    return verdict;
+    return result;
 }

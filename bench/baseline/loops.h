@@ -1,4 +1,4 @@
-/* The questions that are timed, as loops in C over the listed values: what sample.h asks as nodes. */
+/* The queries that are timed, as loops in C over the listed values: what sample.h asks as nodes. */
 #ifndef LOOPS_H
 #define LOOPS_H
 

@@ -1,4 +1,4 @@
-/* A plot's soundness, fills, census and entering. */
+/* The test of soundness, and substitute, null counts and insert. */
 #include "baseline.h"
 
 #include <string.h>
@@ -24,21 +24,23 @@ int is_sound(const struct plotask_header *header, const uint32_t *plot, size_t p
     return 1;
 }
 
-uint32_t fill_mark(const struct plotask_header *header, uint32_t *plot, size_t plot_words, uint32_t mark, uint32_t cell)
+uint32_t replace_null(const struct plotask_header *header, uint32_t *plot, size_t plot_words, uint32_t null,
+                      uint32_t cell)
 {
-    uint32_t null = PLOTASK_MARK(mark), count = 0;
+    uint32_t old = PLOTASK_MARK(null), count = 0;
 
-    if (!is_sound(header, plot, plot_words) || mark - 1 >= PLOTASK_MARKS || !is_cell_number(cell))
+    if (!is_sound(header, plot, plot_words) || null - 1 >= PLOTASK_MARKS || !is_cell_number(cell))
         return 0;
     for (uint32_t i = 0; i < header->used; i++) {
-        uint32_t held = plot[i] == null;
+        uint32_t held = plot[i] == old;
         plot[i] = held ? cell : plot[i];
         count += held;
     }
     return count;
 }
 
-uint32_t count_marks(const struct plotask_header *header, const uint32_t *plot, size_t plot_words, uint32_t counts[PLOTASK_MARKS])
+uint32_t count_nulls(const struct plotask_header *header, const uint32_t *plot, size_t plot_words,
+                     uint32_t counts[PLOTASK_MARKS])
 {
     if (!is_sound(header, plot, plot_words))
         return 0;
@@ -49,16 +51,17 @@ uint32_t count_marks(const struct plotask_header *header, const uint32_t *plot, 
     return PLOTASK_MARKS;
 }
 
-uint32_t enter_row(struct plotask_header *header, uint32_t *plot, size_t plot_words, uint32_t sheet, const uint32_t *cells, size_t count)
+uint32_t insert_row(struct plotask_header *header, uint32_t *plot, size_t plot_words, uint32_t relation,
+                    const uint32_t *cells, size_t count)
 {
-    if (!is_sound(header, plot, plot_words) || sheet >= header->relations || count != header->arities[sheet])
+    if (!is_sound(header, plot, plot_words) || relation >= header->relations || count != header->arities[relation])
         return 0;
     for (size_t i = 0; i < count; i++)
         if (!is_cell_number(cells[i]))
             return 0;
     if (header->used + 1 + count > PLOTASK_WORDS || header->used + 1 + count > plot_words)
         return 0;
-    plot[header->used] = sheet;
+    plot[header->used] = relation;
     memcpy(plot + header->used + 1, cells, count * sizeof *cells);
     header->used += 1 + (uint32_t)count;
     return header->used;

@@ -16,7 +16,7 @@ static void start(void)
     job();
 }
 
-/* The bytes from the deepest one written up to the stack's start. */
+/* The number of bytes from the deepest one written to the stack's start. */
 static size_t written_by(work *piece)
 {
     size_t free = 0;

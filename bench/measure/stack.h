@@ -1,10 +1,10 @@
-/* How much stack a piece of work needs: it runs on a painted stack of its own, and the deepest byte that lost its paint is looked up. */
+/* The stack of a piece of work: it runs on a stack filled with one byte, and the deepest changed byte is found. */
 #ifndef STACK_H
 #define STACK_H
 
 #include "timing.h"
 
-/* In bytes, without those that work that does nothing needs. Work should have run once before, so that the linker's own work is done. */
+/* In bytes, without those that an empty function needs. Run the work once before, so that dynamic linking is done. */
 size_t stack_of(work *piece);
 
 #endif

@@ -4,11 +4,11 @@
 
 enum { MOST_WORKS = 8, LEAST_ROUNDS = 100 };
 
-/* A round repeats its work until it takes this long; rounds, at least 100, go on for so long for each piece. */
+/* A round repeats its work until it takes ROUND_NS. There are at least 100 rounds, for SPAN_NS for each piece. */
 static const double ROUND_NS = 3e5;
 static const double SPAN_NS = 1e8;
 
-/* Processor time, which does not run while other programs do. */
+/* Processor time, which stops while other programs run. */
 static double clock_ns(void)
 {
     struct timespec t;

@@ -2,22 +2,31 @@
 
 #include <string.h>
 
-void make_plot(struct sample *sample, uint32_t columns, uint32_t rows, uint32_t values)
+/* Enters a row without its cells, and returns where those are to be written. */
+static uint32_t *add_row(struct sample *sample, uint32_t relation)
 {
-    uint32_t at = 0, cell = 0;
+    uint32_t *row = sample->plot + sample->header.used;
 
-    memset(sample, 0, sizeof *sample);
-    for (uint32_t row = 0; row < rows; row++) {
-        sample->plot[at++] = 0;
-        for (uint32_t column = 0; column < columns; column++)
-            sample->plot[at++] = cell++ % values;
-    }
-    sample->header.relations = 1;
-    sample->header.arities[0] = columns;
-    sample->header.used = at;
+    row[0] = relation;
+    sample->header.used += 1 + sample->header.arities[relation];
+    return row + 1;
 }
 
-void mark_every_row(struct sample *sample)
+void make_plot(struct sample *sample, uint32_t columns, uint32_t rows, uint32_t values)
+{
+    uint32_t cell = 0;
+
+    memset(sample, 0, sizeof *sample);
+    sample->header.relations = 1;
+    sample->header.arities[0] = columns;
+    for (uint32_t row = 0; row < rows; row++) {
+        uint32_t *cells = add_row(sample, 0);
+        for (uint32_t column = 0; column < columns; column++)
+            cells[column] = cell++ % values;
+    }
+}
+
+void null_every_row(struct sample *sample)
 {
     uint32_t columns = sample->header.arities[0], row = 0;
 
@@ -86,8 +95,7 @@ void add_last_row(struct sample *sample)
 {
     sample->header.relations = 2;
     sample->header.arities[1] = 1;
-    sample->plot[sample->header.used++] = 1;
-    sample->plot[sample->header.used++] = PLOTASK_CONSTANTS - 1;
+    *add_row(sample, 1) = PLOTASK_CONSTANTS - 1;
 }
 
 void ask_last_row(struct sample *sample)
@@ -98,7 +106,7 @@ void ask_last_row(struct sample *sample)
     add_node(sample, PLOTASK_STANDS, 1, PLOTASK_VARIABLE(0));
 }
 
-/* A chain's quantifiers bind variable 0; its row is of variable 1, the candidate's. */
+/* A chain's quantifiers bind variable 0; the terms of its row are variable 1, which is the candidate's. */
 static void start_chain(struct sample *sample)
 {
     sample->candidate_cells = 2;

@@ -1,4 +1,4 @@
-/* Plots and questions to measure with. */
+/* Plots and queries to measure with. */
 #ifndef SAMPLE_H
 #define SAMPLE_H
 
@@ -13,40 +13,40 @@ struct sample {
     size_t candidate_cells;
 };
 
-/* One sheet of so many columns and rows. Each cell gets its number, counted through from 0, modulo the number of different values. */
+/* A plot of one relation. Each cell gets its index among the cells, modulo `values`. */
 void make_plot(struct sample *sample, uint32_t columns, uint32_t rows, uint32_t values);
 
-/* Puts the marks 1 to 200, in turn, in the last column of every row, and the columns' own numbers before them. */
-void mark_every_row(struct sample *sample);
+/* Puts nulls 1 to 200, in turn, in the last column of every row, and the columns' own numbers before them. */
+void null_every_row(struct sample *sample);
 
-/* Appends a node to the question; what is not given is 0. */
+/* Appends a node to the query; the words that are not given are 0. */
 void add_node(struct sample *sample, uint32_t kind, uint32_t first, uint32_t second);
 
-/* Appends "the row stands in sheet 0", its terms the given variable, and in each further column one that is a step above. */
+/* Appends "the row stands in relation 0", whose terms are the given variable and those at each further step. */
 void add_row_node(struct sample *sample, uint32_t variable, uint32_t step);
 
 /* 0 = 0 */
 void ask_nothing(struct sample *sample);
 
-/* the candidate, first, first + 1 and so on, stands in sheet 0 */
+/* the candidate, which is first, first + 1 and so on, stands in relation 0 */
 void ask_row(struct sample *sample, uint32_t first);
 
-/* every v0: not (v0, .., v0) stands in sheet 0 */
+/* every v0: not (v0, .., v0) stands in relation 0 */
 void ask_absent(struct sample *sample);
 
 /* every v0: every v1: v0 = v1 or not v0 = v1 */
 void ask_pairs(struct sample *sample);
 
-/* Appends a row of one cell, which holds the highest inked value, in a sheet 1 of its own. */
+/* Appends a row of one cell, which holds the highest constant, in a relation 1 of its own. */
 void add_last_row(struct sample *sample);
 
-/* every v0: not (v0) stands in sheet 1 */
+/* every v0: not (v0) stands in relation 1 */
 void ask_last_row(struct sample *sample);
 
-/* A chain of so many nodes: one kind above "a row of one value, which is not the plot's, stands in sheet 0". */
+/* A chain of `nodes` nodes: one kind above "a row of one value, which the plot lacks, stands in relation 0". */
 void ask_chain(struct sample *sample, uint32_t kind, uint32_t nodes);
 
-/* A chain of so many "and", each with such a row on its left, and one at the end. */
+/* A chain of `levels` times "and", each with such a row on its left, and one at the end. */
 void ask_and_chain(struct sample *sample, uint32_t levels);
 
 #endif

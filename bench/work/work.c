@@ -20,8 +20,8 @@ static const uint32_t row[PLOTASK_COLUMNS] = {1, 2, 3, 4, 5, 6};
 
 void ask(void)
 {
-    refusal = plotask_ask(PLOTASK_HEADER(&now.header), now.plot, PLOTASK_WORDS, now.query, now.query_words, now.candidate, now.candidate_cells,
-                          list, PLOTASK_CELLS, UINT32_MAX, &truth, &count);
+    refusal = plotask_ask(PLOTASK_HEADER(&now.header), now.plot, PLOTASK_WORDS, now.query, now.query_words,
+                          now.candidate, now.candidate_cells, list, PLOTASK_CELLS, UINT32_MAX, &truth, &count);
 }
 
 static void ask_by_hand(listing *list_values)
@@ -42,8 +42,8 @@ void ask_hashing(void)
 
 void ask_reference(void)
 {
-    refusal = ref_ask(PLOTASK_HEADER(&now.header), now.plot, PLOTASK_WORDS, now.query, now.query_words, now.candidate, now.candidate_cells, list,
-                      PLOTASK_CELLS, UINT32_MAX, &truth, &count);
+    refusal = ref_ask(PLOTASK_HEADER(&now.header), now.plot, PLOTASK_WORDS, now.query, now.query_words, now.candidate,
+                      now.candidate_cells, list, PLOTASK_CELLS, UINT32_MAX, &truth, &count);
 }
 
 void decode(void)
@@ -53,12 +53,12 @@ void decode(void)
 
 void decode_by_hand(void)
 {
-    refusal = !read_card(card, card_bytes, &read_header, read_plot, PLOTASK_WORDS);
+    refusal = !decode_card(card, card_bytes, &read_header, read_plot, PLOTASK_WORDS);
 }
 
 void decode_reference(void)
 {
-    refusal = ref_read_card(card, card_bytes, PLOTASK_HEADER(&read_header), read_plot, PLOTASK_WORDS);
+    refusal = ref_decode(card, card_bytes, PLOTASK_HEADER(&read_header), read_plot, PLOTASK_WORDS);
 }
 
 void encode(void)
@@ -68,76 +68,78 @@ void encode(void)
 
 void encode_by_hand(void)
 {
-    refusal = !write_card(&now.header, now.plot, PLOTASK_WORDS, written, sizeof written);
+    refusal = !encode_card(&now.header, now.plot, PLOTASK_WORDS, written, sizeof written);
 }
 
 void encode_reference(void)
 {
-    refusal = ref_write_card(PLOTASK_HEADER(&now.header), now.plot, PLOTASK_WORDS, written, sizeof written, &count);
+    refusal = ref_encode(PLOTASK_HEADER(&now.header), now.plot, PLOTASK_WORDS, written, sizeof written, &count);
 }
 
-/* Fills go to and fro between marks 1 and 2, so that each has as much to do as the last. */
-static uint32_t mark_to_fill;
+/* Nulls 1 and 2 replace each other in turn, so that each call has as much to do as the last. */
+static uint32_t null_to_replace;
 
-static uint32_t next_mark(void)
+static uint32_t next_null(void)
 {
-    mark_to_fill = 3 - mark_to_fill;
-    return mark_to_fill;
+    null_to_replace = 3 - null_to_replace;
+    return null_to_replace;
 }
 
-void fill(void)
+void substitute(void)
 {
-    uint32_t mark = next_mark();
-    refusal = plotask_substitute(PLOTASK_HEADER(&now.header), now.plot, PLOTASK_WORDS, mark, PLOTASK_MARK(3 - mark), &count);
+    uint32_t null = next_null();
+    refusal =
+        plotask_substitute(PLOTASK_HEADER(&now.header), now.plot, PLOTASK_WORDS, null, PLOTASK_MARK(3 - null), &count);
 }
 
-void fill_by_hand(void)
+void substitute_by_hand(void)
 {
-    uint32_t mark = next_mark();
-    refusal = !fill_mark(&now.header, now.plot, PLOTASK_WORDS, mark, PLOTASK_MARK(3 - mark));
+    uint32_t null = next_null();
+    refusal = !replace_null(&now.header, now.plot, PLOTASK_WORDS, null, PLOTASK_MARK(3 - null));
 }
 
-void fill_reference(void)
+void substitute_reference(void)
 {
-    uint32_t mark = next_mark();
-    refusal = ref_fill(PLOTASK_HEADER(&now.header), now.plot, PLOTASK_WORDS, mark, PLOTASK_MARK(3 - mark), &count);
+    uint32_t null = next_null();
+    refusal =
+        ref_substitute(PLOTASK_HEADER(&now.header), now.plot, PLOTASK_WORDS, null, PLOTASK_MARK(3 - null), &count);
 }
 
-void census(void)
+void null_counts(void)
 {
     refusal = plotask_null_counts(PLOTASK_HEADER(&now.header), now.plot, PLOTASK_WORDS, counts, PLOTASK_MARKS, &count);
 }
 
-void census_by_hand(void)
+void null_counts_by_hand(void)
 {
-    refusal = !count_marks(&now.header, now.plot, PLOTASK_WORDS, counts);
+    refusal = !count_nulls(&now.header, now.plot, PLOTASK_WORDS, counts);
 }
 
-void census_reference(void)
+void null_counts_reference(void)
 {
-    refusal = ref_census(PLOTASK_HEADER(&now.header), now.plot, PLOTASK_WORDS, counts, PLOTASK_MARKS, &count);
+    refusal = ref_null_counts(PLOTASK_HEADER(&now.header), now.plot, PLOTASK_WORDS, counts, PLOTASK_MARKS, &count);
 }
 
-/* A row that is entered is taken back by the words in use. */
-void enter(void)
+/* Each row inserted is taken back by the header. */
+void insert(void)
 {
-    uint32_t used = now.header.used;
+    const struct plotask_header before = now.header;
     refusal = plotask_insert(PLOTASK_HEADER(&now.header), now.plot, PLOTASK_WORDS, 0, row, PLOTASK_COLUMNS);
-    now.header.used = used;
+    now.header = before;
 }
 
-void enter_by_hand(void)
+void insert_by_hand(void)
 {
-    uint32_t used = now.header.used;
-    refusal = !enter_row(&now.header, now.plot, PLOTASK_WORDS, 0, row, PLOTASK_COLUMNS);
-    now.header.used = used;
+    const struct plotask_header before = now.header;
+    refusal = !insert_row(&now.header, now.plot, PLOTASK_WORDS, 0, row, PLOTASK_COLUMNS);
+    now.header = before;
 }
 
-void enter_reference(void)
+void insert_reference(void)
 {
-    uint32_t used = now.header.used;
-    refusal = ref_enter(PLOTASK_HEADER(&now.header), now.plot, PLOTASK_WORDS, 0, row, PLOTASK_COLUMNS);
-    now.header.used = used;
+    const struct plotask_header before = now.header;
+    refusal = ref_insert(PLOTASK_HEADER(&now.header), now.plot, PLOTASK_WORDS, 0, row, PLOTASK_COLUMNS);
+    now.header = before;
 }
 
 static void must(int holds, const char *what)
@@ -159,12 +161,12 @@ void prepare_calls(uint32_t rows)
     make_plot(&now, PLOTASK_COLUMNS, rows, PLOTASK_CELLS);
     for (uint32_t at = 1; at < now.header.used; at += 1 + PLOTASK_COLUMNS)
         now.plot[at] = PLOTASK_MARK(1);
-    mark_to_fill = 2;
+    null_to_replace = 2;
     must_do(encode);
     card_bytes = count;
     memcpy(card, written, card_bytes);
     must_do(decode_by_hand);
-    must(memcmp(read_plot, now.plot, now.header.used * sizeof *now.plot) == 0, "a card read by hand differs");
+    must(memcmp(read_plot, now.plot, now.header.used * sizeof *now.plot) == 0, "a card decoded by hand differs");
     must_do(encode_by_hand);
-    must(memcmp(card, written, card_bytes) == 0, "a card written by hand differs");
+    must(memcmp(card, written, card_bytes) == 0, "a card encoded by hand differs");
 }

@@ -1,5 +1,8 @@
 #include "calls.h"
 
+/* The highest cost that the reference is asked to find. */
+enum { MOST_FORESEEN = 200000 };
+
 static size_t any_list_length(struct random *random, size_t cells)
 {
     switch (below(random, 10)) {
@@ -19,72 +22,70 @@ static size_t any_list_length(struct random *random, size_t cells)
 
 struct asked {
     uint32_t number;
-    uint32_t looks;
-    uint32_t allowance;
-    size_t question_length;
+    uint32_t cost;
+    uint32_t budget;
+    size_t query_length;
     size_t candidate_length;
     size_t list_length;
 };
 
-static void note_asked(const struct any_plot *plot, const struct asked *asked, size_t cells,
-                       uint32_t foreseen)
+static void note_asked(const struct any_plot *plot, const struct asked *asked, size_t cells, uint32_t foreseen)
 {
-    if (asked->number == 21 && asked->question_length == (MOST_NODES + 1) * NODE_WORDS)
-        note(QUESTION_808_WORDS);
+    if (asked->number == 21 && asked->query_length == (MOST_NODES + 1) * NODE_WORDS)
+        note(QUERY_OF_808_WORDS);
     if (asked->number == 45 && asked->list_length + 1 == cells)
         note(LIST_SHORT_BY_ONE);
-    if (asked->number == 46 && foreseen - 1 == asked->allowance)
-        note(LOOKS_OVER_BY_ONE);
+    if (asked->number == 46 && foreseen - 1 == asked->budget)
+        note(COST_OVER_BY_ONE);
     if (asked->number != 0)
         return;
-    if (plot->head[9] == 0)
+    if (plot->header[HEADER_USED] == 0)
         note(NO_ROWS_ASKED);
-    if (plot->head[9] == MOST_WORDS)
+    if (plot->header[HEADER_USED] == MOST_WORDS)
         note(FULL_PLOT_ASKED);
-    if (has_many_values(plot))
+    if (count_values(plot) >= 2000)
         note(MANY_VALUES_LISTED);
-    if (asked->question_length == MOST_NODES * NODE_WORDS)
+    if (asked->query_length == MOST_NODES * NODE_WORDS)
         note(HUNDRED_NODES);
     if (asked->candidate_length == MOST_COLUMNS)
         note(CANDIDATE_OF_SIX);
     if (asked->list_length == cells)
         note(LIST_FITS);
-    if (asked->looks == asked->allowance)
-        note(LOOKS_ARE_ALLOWANCE);
-    if (asked->allowance == 0xffffffff)
-        note(ALLOWANCE_ALL_BITS);
+    if (asked->cost == asked->budget)
+        note(COST_IS_BUDGET);
+    if (asked->budget == UINT32_MAX)
+        note(LARGEST_BUDGET);
 }
 
 void try_ask(struct random *random, const struct palette *palette, struct any_plot *plot)
 {
-    static struct any_question question;
+    static struct any_query query;
     struct any_cells candidate;
     struct asked asked;
-    uint32_t verdict;
+    uint32_t truth;
     uint32_t foreseen = 0;
     size_t cells = count_cells(plot);
     size_t values = count_values(plot);
     bool endless = values >= 8 && one_in(random, 10);
     make_candidate(random, palette, &candidate);
     if (endless)
-        make_endless_question(random, &question);
+        make_endless_query(random, &query);
     else
-        make_question(random, palette, plot->head, values, candidate.length, &question);
+        make_query(random, palette, plot->header, values, candidate.length, &query);
     if (!endless && one_in(random, 3))
         for (size_t damages = 1 + one_in(random, 5); damages > 0; damages--)
-            damage_question(random, &question);
+            damage_query(random, &query);
     if (one_in(random, 15))
         damage_candidate(random, &candidate);
     struct any_plot *lent = plot_to_lend(random, plot);
-    asked.question_length = question.length;
+    asked.query_length = query.length;
     asked.candidate_length = candidate.length;
     asked.list_length = any_list_length(random, cells);
-    asked.allowance = any_allowance(random, lent, &question, &candidate, one_in(random, 300) ? 200000 : 3000);
-    asked.number =
-        both_ask(lent, &question, &candidate, asked.list_length, asked.allowance, &verdict, &asked.looks);
-    if (asked.number == 46 && asked.allowance < 200000)
-        foresee(lent, &question, &candidate, asked.allowance + 1, &foreseen);
+    asked.budget = any_budget(random, lent, &query, &candidate, one_in(random, 300) ? MOST_FORESEEN : 3000);
+    asked.number = both_ask(lent, &query, &candidate, asked.list_length, asked.budget, &truth, &asked.cost);
+    if (asked.number == 46 && asked.budget < MOST_FORESEEN)
+        foresee(lent, &query, &candidate, asked.budget + 1, &foreseen);
     if (asked.number == 46 && endless && lent == plot)
-        note(LOOKS_OVER_32_BITS);
+        note(COST_OVER_32_BITS);
     note_asked(lent, &asked, cells, foreseen);
 }

@@ -1,21 +1,23 @@
-/* One compared call of each kind on a plot, with other arguments that are sound, at a limit or damaged. Some
-   calls are made on a damaged copy of the plot; only the undamaged plot changes for the caller. */
+/*
+ * One compared call of each kind on a plot, with further arguments that are valid, at a limit or damaged. Some calls
+ * are made on a damaged copy of the plot; the caller sees only what an undamaged plot becomes.
+ */
 #ifndef CALLS_H
 #define CALLS_H
 
 #include "compare.h"
 
-void try_read_card(struct random *random, const struct palette *palette, struct any_plot *plot);
-void try_enter(struct random *random, const struct palette *palette, struct any_plot *plot);
-void try_fill(struct random *random, const struct palette *palette, struct any_plot *plot);
-void try_census(struct random *random, struct any_plot *plot);
-void try_write_card(struct random *random, struct any_plot *plot);
+void try_decode(struct random *random, const struct palette *palette, struct any_plot *plot);
+void try_insert(struct random *random, const struct palette *palette, struct any_plot *plot);
+void try_substitute(struct random *random, const struct palette *palette, struct any_plot *plot);
+void try_null_counts(struct random *random, struct any_plot *plot);
+void try_encode(struct random *random, struct any_plot *plot);
 void try_ask(struct random *random, const struct palette *palette, struct any_plot *plot);
 
-/* The plot itself, or a copy with a damage. */
+/* The plot itself, or a damaged copy. */
 struct any_plot *plot_to_lend(struct random *random, struct any_plot *plot);
 
-/* A mark for a fill: most often one that stands in the plot. */
-uint32_t mark_to_fill(struct random *random, const struct palette *palette, const struct any_plot *plot);
+/* The number of a null to replace: most often one that the plot holds. */
+uint32_t null_to_replace(struct random *random, const struct palette *palette, const struct any_plot *plot);
 
 #endif

@@ -1,24 +1,25 @@
 #include "compare.h"
 #include "lent.h"
 #include "plotask.h"
+#include "support/checks.h"
 
 #include <inttypes.h>
 #include <stdio.h>
 #include <stdlib.h>
 #include <string.h>
 
-enum { MOST_LENT = 8 };
+enum { MOST_LENT = 12, MOST_ARGUMENTS = 3 };
 
 static uint64_t seed_now;
 static uint64_t round_now;
 
-/* The call under way: what it lends and what both sides answered. */
+/* The call under way: what it lends, and what both sides returned. */
 static struct {
     bool under_way;
     enum call call;
     struct lent lent[MOST_LENT];
     size_t lent_count;
-    uint32_t arguments[2];
+    uint32_t arguments[MOST_ARGUMENTS];
     uint32_t library;
     uint32_t reference;
 } now;
@@ -33,25 +34,29 @@ _Noreturn void fail(const char *what)
 {
     printf("seed %" PRIu64 ", round %" PRIu64 ": %s\n", seed_now, round_now, what);
     if (now.under_way) {
-        printf("%s with %" PRIu32 " and %" PRIu32, call_name(now.call), now.arguments[0], now.arguments[1]);
+        printf("%s with", call_name(now.call));
+        for (size_t i = 0; i < MOST_ARGUMENTS; i++)
+            printf(" %" PRIu32, now.arguments[i]);
         printf(": library %" PRIu32 ", reference %" PRIu32 "\n", now.library, now.reference);
         for (size_t i = 0; i < now.lent_count; i++)
             print_lent(&now.lent[i]);
     }
-    printf("0 passed, 1 failed\n");
-    exit(1);
+    check(false);
+    exit(finish_checks());
 }
 
-/* An answer that must not be given under a refusal is lent like a slice of one word. */
-static const uint32_t unanswered = 0xdeadbeef;
+/* A result that a refused call must not write is lent like a slice of one word. */
+static const uint32_t unwritten = 0xdeadbeef;
 
-static void begin(enum call call, uint32_t argument, uint32_t other_argument)
+/* Begins a call; the numbers among its arguments that it does not have are 0. */
+static void begin(enum call call, uint32_t first, uint32_t second, uint32_t third)
 {
     now.under_way = true;
     now.call = call;
     now.lent_count = 0;
-    now.arguments[0] = argument;
-    now.arguments[1] = other_argument;
+    now.arguments[0] = first;
+    now.arguments[1] = second;
+    now.arguments[2] = third;
 }
 
 static struct lent *lend(struct lent lent)
@@ -60,9 +65,9 @@ static struct lent *lend(struct lent lent)
     return &now.lent[now.lent_count++];
 }
 
-static struct lent *lend_head(const struct any_plot *plot)
+static struct lent *lend_header(const struct any_plot *plot)
 {
-    return lend(lend_words("head", plot->head, plot->head_length));
+    return lend(lend_words("header", plot->header, plot->header_length));
 }
 
 static struct lent *lend_plot(const struct any_plot *plot)
@@ -70,9 +75,12 @@ static struct lent *lend_plot(const struct any_plot *plot)
     return lend(lend_words("plot", plot->words, plot->length));
 }
 
-static struct lent *lend_answer(const char *name) { return lend(lend_words(name, &unanswered, 1)); }
+static struct lent *lend_result(const char *name)
+{
+    return lend(lend_words(name, &unwritten, 1));
+}
 
-/* Compares what both sides left. Under 46 the working list may have changed. */
+/* Compares what both sides left. The working list may have changed under 46. */
 static uint32_t end(uint32_t library, uint32_t reference)
 {
     now.library = library;
@@ -106,106 +114,103 @@ static void take_all_back(void)
     now.under_way = false;
 }
 
-uint32_t both_read_card(struct any_plot *plot, const struct any_card *card)
+/* A slice as the two arguments of a call, pointer and length. */
+#define LIBRARY(lent)   (lent)->library, (lent)->count
+#define REFERENCE(lent) (lent)->reference, (lent)->count
+
+uint32_t both_decode(struct any_plot *plot, const struct any_card *card)
 {
-    begin(READ_CARD, 0, 0);
+    begin(DECODE, 0, 0, 0);
     struct lent *c = lend(lend_bytes("card", card->bytes, card->length));
-    struct lent *h = lend_head(plot);
+    struct lent *h = lend_header(plot);
     struct lent *p = lend_plot(plot);
     uint32_t number =
-        end(plotask_decode(c->library, c->count, h->library, h->count, p->library, p->count),
-            ref_read_card(c->reference, c->count, h->reference, h->count, p->reference, p->count));
-    copy_back(h, plot->head);
+        end(plotask_decode(LIBRARY(c), LIBRARY(h), LIBRARY(p)), ref_decode(REFERENCE(c), REFERENCE(h), REFERENCE(p)));
+    copy_back(h, plot->header);
     copy_back(p, plot->words);
     take_all_back();
     return number;
 }
 
-uint32_t both_enter(struct any_plot *plot, uint32_t sheet, const struct any_cells *cells)
+uint32_t both_insert(struct any_plot *plot, uint32_t relation, const struct any_cells *cells)
 {
-    begin(ENTER, sheet, 0);
-    struct lent *h = lend_head(plot);
+    begin(INSERT, relation, 0, 0);
+    struct lent *h = lend_header(plot);
     struct lent *p = lend_plot(plot);
     struct lent *c = lend(lend_words("cells", cells->cells, cells->length));
-    uint32_t number =
-        end(plotask_insert(h->library, h->count, p->library, p->count, sheet, c->library, c->count),
-            ref_enter(h->reference, h->count, p->reference, p->count, sheet, c->reference, c->count));
-    copy_back(h, plot->head);
+    uint32_t number = end(plotask_insert(LIBRARY(h), LIBRARY(p), relation, LIBRARY(c)),
+                          ref_insert(REFERENCE(h), REFERENCE(p), relation, REFERENCE(c)));
+    copy_back(h, plot->header);
     copy_back(p, plot->words);
     take_all_back();
     return number;
 }
 
-uint32_t both_fill(struct any_plot *plot, uint32_t mark, uint32_t cell, uint32_t *count)
+uint32_t both_substitute(struct any_plot *plot, uint32_t null, uint32_t cell, uint32_t *count)
 {
-    begin(FILL, mark, cell);
-    struct lent *h = lend_head(plot);
+    begin(SUBSTITUTE, null, cell, 0);
+    struct lent *h = lend_header(plot);
     struct lent *p = lend_plot(plot);
-    struct lent *n = lend_answer("count");
-    uint32_t number =
-        end(plotask_substitute(h->library, h->count, p->library, p->count, mark, cell, n->library),
-            ref_fill(h->reference, h->count, p->reference, p->count, mark, cell, n->reference));
+    struct lent *n = lend_result("count");
+    uint32_t number = end(plotask_substitute(LIBRARY(h), LIBRARY(p), null, cell, n->library),
+                          ref_substitute(REFERENCE(h), REFERENCE(p), null, cell, n->reference));
     copy_back(p, plot->words);
     copy_back(n, count);
     take_all_back();
     return number;
 }
 
-uint32_t both_census(struct any_plot *plot, const uint32_t *output, size_t output_length)
+uint32_t both_null_counts(struct any_plot *plot, const uint32_t *output, size_t output_length)
 {
-    begin(CENSUS, 0, 0);
-    struct lent *h = lend_head(plot);
+    begin(NULL_COUNTS, 0, 0, 0);
+    struct lent *h = lend_header(plot);
     struct lent *p = lend_plot(plot);
-    struct lent *o = lend(lend_words("census", output, output_length));
-    struct lent *n = lend_answer("count");
-    uint32_t number =
-        end(plotask_null_counts(h->library, h->count, p->library, p->count, o->library, o->count, n->library),
-            ref_census(h->reference, h->count, p->reference, p->count, o->reference, o->count, n->reference));
+    struct lent *o = lend(lend_words("counts", output, output_length));
+    struct lent *n = lend_result("count");
+    uint32_t number = end(plotask_null_counts(LIBRARY(h), LIBRARY(p), LIBRARY(o), n->library),
+                          ref_null_counts(REFERENCE(h), REFERENCE(p), REFERENCE(o), n->reference));
     take_all_back();
     return number;
 }
 
-uint32_t both_write_card(struct any_plot *plot, struct any_card *card, uint32_t *count)
+uint32_t both_encode(struct any_plot *plot, struct any_card *card, uint32_t *count)
 {
-    begin(WRITE_CARD, 0, 0);
-    struct lent *h = lend_head(plot);
+    begin(ENCODE, 0, 0, 0);
+    struct lent *h = lend_header(plot);
     struct lent *p = lend_plot(plot);
     struct lent *c = lend(lend_bytes("card", card->bytes, card->length));
-    struct lent *n = lend_answer("count");
-    uint32_t number = end(
-        plotask_encode(h->library, h->count, p->library, p->count, c->library, c->count, n->library),
-        ref_write_card(h->reference, h->count, p->reference, p->count, c->reference, c->count, n->reference));
+    struct lent *n = lend_result("count");
+    uint32_t number = end(plotask_encode(LIBRARY(h), LIBRARY(p), LIBRARY(c), n->library),
+                          ref_encode(REFERENCE(h), REFERENCE(p), REFERENCE(c), n->reference));
     copy_back(c, card->bytes);
     copy_back(n, count);
     take_all_back();
     return number;
 }
 
-uint32_t both_ask(struct any_plot *plot, const struct any_question *question,
-                  const struct any_cells *candidate, size_t list_length, uint32_t allowance,
-                  uint32_t *verdict, uint32_t *looks)
+uint32_t both_ask(struct any_plot *plot, const struct any_query *query, const struct any_cells *candidate,
+                  size_t list_length, uint32_t budget, uint32_t *truth, uint32_t *cost)
 {
-    static uint32_t anything[PLOT_ROOM];
+    static uint32_t arbitrary[PLOT_ROOM];
     struct random random = {list_length};
     for (size_t i = 0; i < list_length; i++)
-        anything[i] = odd_number(&random, (uint32_t)i);
-    begin(ASK, allowance, 0);
-    struct lent *h = lend_head(plot);
+        arbitrary[i] = odd_number(&random, (uint32_t)i);
+    begin(ASK, budget, 0, 0);
+    struct lent *h = lend_header(plot);
     struct lent *p = lend_plot(plot);
-    struct lent *q = lend(lend_words("question", question->words, question->length));
+    struct lent *q = lend(lend_words("query", query->words, query->length));
     struct lent *c = lend(lend_words("candidate", candidate->cells, candidate->length));
-    struct lent *l = lend(lend_words("list", anything, list_length));
-    struct lent *v = lend_answer("verdict");
-    struct lent *n = lend_answer("looks");
+    struct lent *l = lend(lend_words("list", arbitrary, list_length));
+    struct lent *t = lend_result("truth");
+    struct lent *n = lend_result("cost");
     uint32_t number =
-        end(plotask_ask(h->library, h->count, p->library, p->count, q->library, q->count, c->library,
-                        c->count, l->library, l->count, allowance, v->library, n->library),
-            ref_ask(h->reference, h->count, p->reference, p->count, q->reference, q->count, c->reference,
-                    c->count, l->reference, l->count, allowance, v->reference, n->reference));
-    copy_back(v, verdict);
-    copy_back(n, looks);
+        end(plotask_ask(LIBRARY(h), LIBRARY(p), LIBRARY(q), LIBRARY(c), LIBRARY(l), budget, t->library, n->library),
+            ref_ask(REFERENCE(h), REFERENCE(p), REFERENCE(q), REFERENCE(c), REFERENCE(l), budget, t->reference,
+                    n->reference));
+    copy_back(t, truth);
+    copy_back(n, cost);
     if (number == 0)
-        tally.verdicts[*verdict]++;
+        tally.truths[*truth]++;
     take_all_back();
     return number;
 }

@@ -6,7 +6,10 @@
 
 enum { GUARD = 64 };
 
-static uint8_t guard_byte(size_t place) { return (uint8_t)(0xa5 ^ place * 29); }
+static uint8_t guard_byte(size_t index)
+{
+    return (uint8_t)(0xa5 ^ index * 29);
+}
 
 static void *allocate(size_t size)
 {

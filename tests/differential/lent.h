@@ -1,5 +1,7 @@
-/* A slice that is lent to both sides. The library's copy stands between guard bytes; the reference's copy has
-   an allocation of its own size, so that a sanitizer sees every step outside it. */
+/*
+ * A slice that is lent to both sides. The library's copy is between guard bytes; the reference's copy has an allocation
+ * of its own size, so that a sanitizer sees every access outside it.
+ */
 #ifndef LENT_H
 #define LENT_H
 
@@ -18,11 +20,11 @@ struct lent {
 
 struct lent lend_words(const char *name, const uint32_t *words, size_t count);
 struct lent lend_bytes(const char *name, const uint8_t *bytes, size_t count);
-/* The guards stand as they were. */
+/* Whether the guards are as they were. */
 bool guards_stand(const struct lent *lent);
-/* Both sides left the same content. */
+/* Whether both sides left the same content. */
 bool contents_agree(const struct lent *lent);
-/* The library left what was there before. */
+/* Whether the library left what was there before. */
 bool is_untouched(const struct lent *lent);
 void print_lent(const struct lent *lent);
 void take_back(struct lent *lent);

@@ -1,72 +1,81 @@
-/* What a run has hit. A test that never met a refusal has not tried it, so each number that a call can give,
-   and each named case, has to be hit. */
+/*
+ * What a run has hit. A refusal that was never met has not been tested, so each number that a call can return, and each
+ * case named here, has to be hit.
+ */
 #ifndef TALLY_H
 #define TALLY_H
 
 #include <stddef.h>
 #include <stdint.h>
 
-enum call { READ_CARD, ENTER, FILL, CENSUS, WRITE_CARD, ASK, CALLS };
+enum call { DECODE, INSERT, SUBSTITUTE, NULL_COUNTS, ENCODE, ASK, CALLS };
 
-enum outcome_code { CODES = 50 };
+/* Room for every number that a call may return. */
+enum { CODES = 64 };
 
-enum happening {
-    NO_ROWS_ASKED,
-    FULL_PLOT_ASKED,
-    MANY_VALUES_LISTED,
-    ROW_ENDS_AT_4096,
-    ROW_OVER_BY_ONE,
-    ROW_FITS_SLICE,
-    ROW_OVER_SLICE_BY_ONE,
-    CARD_OF_4096_WORDS,
-    CARD_OVER_BY_ONE,
-    CARD_OF_65535_ROWS,
-    CARD_FITS_SLICE,
-    CARD_OVER_SLICE_BY_ONE,
-    BLANK_GETS_MARK_200,
-    BLANK_NEEDS_MARK_201,
-    MARK_200_FILLED,
-    FILLED_BY_ITSELF,
-    FILLED_BY_ANOTHER_MARK,
-    OUTPUT_FITS,
-    OUTPUT_SHORT_BY_ONE,
-    CENSUS_OUTPUT_199,
-    HUNDRED_NODES,
-    QUESTION_808_WORDS,
-    CANDIDATE_OF_SIX,
-    LIST_FITS,
-    LIST_SHORT_BY_ONE,
-    LOOKS_ARE_ALLOWANCE,
-    LOOKS_OVER_BY_ONE,
-    ALLOWANCE_ALL_BITS,
-    LOOKS_OVER_32_BITS,
-    CARD_READ_BACK,
-    KEPT_TRUE,
-    KEPT_FALSE,
-    SETTLED_TRUE,
-    SETTLED_FALSE,
-    STAYED_UNKNOWN,
-    FEWER_LOOKS,
-    REFUSED_FILL_IN_LIST,
-    CANDIDATE_FILLED,
-    CANDIDATE_MARK_STAYS,
-    TWO_VALUED_YES,
-    TWO_VALUED_NO,
-    HAPPENINGS
+/* Each case that has to be hit, with what the table prints for it. */
+#define EVERY_CASE(CASE)                                                              \
+    CASE(NO_ROWS_ASKED, "a plot without rows is asked")                               \
+    CASE(FULL_PLOT_ASKED, "a plot of 4,096 words is asked")                           \
+    CASE(MANY_VALUES_LISTED, "2,000 different values or more are listed")             \
+    CASE(ROW_ENDS_AT_4096, "an inserted row ends at word 4,096")                      \
+    CASE(ROW_OVER_BY_ONE, "an inserted row needs word 4,097")                         \
+    CASE(ROW_FITS_SLICE, "an inserted row ends with the slice")                       \
+    CASE(ROW_OVER_SLICE_BY_ONE, "an inserted row needs one word more than the slice") \
+    CASE(CARD_OF_4096_WORDS, "a card of 4,096 words is decoded")                      \
+    CASE(CARD_OVER_BY_ONE, "a card of 4,097 words is refused")                        \
+    CASE(CARD_OF_65535_ROWS, "a card of 65,535 rows is refused")                      \
+    CASE(CARD_FITS_SLICE, "a decoded card ends with the slice")                       \
+    CASE(CARD_OVER_SLICE_BY_ONE, "a card needs one word more than the slice")         \
+    CASE(BLANK_GETS_NULL_200, "a blank gets null 200")                                \
+    CASE(BLANK_NEEDS_NULL_201, "a blank would need null 201")                         \
+    CASE(NULL_200_REPLACED, "null 200 is replaced")                                   \
+    CASE(REPLACED_BY_ITSELF, "a null is replaced by itself")                          \
+    CASE(REPLACED_BY_ANOTHER_NULL, "a null is replaced by another")                   \
+    CASE(OUTPUT_FITS, "an encoded card fits its output exactly")                      \
+    CASE(OUTPUT_SHORT_BY_ONE, "an encoded card lacks one byte of output")             \
+    CASE(COUNTS_OF_199, "null counts lack one word of output")                        \
+    CASE(HUNDRED_NODES, "a query of 100 nodes is accepted")                           \
+    CASE(QUERY_OF_808_WORDS, "a query of 808 words is refused")                       \
+    CASE(CANDIDATE_OF_SIX, "a candidate of 6 cells is accepted")                      \
+    CASE(LIST_FITS, "the working list has just the plot's cells")                     \
+    CASE(LIST_SHORT_BY_ONE, "the working list lacks one word")                        \
+    CASE(COST_IS_BUDGET, "the cost is the budget")                                    \
+    CASE(COST_OVER_BY_ONE, "the cost is one more than the budget")                    \
+    CASE(LARGEST_BUDGET, "the budget is 4,294,967,295")                               \
+    CASE(COST_OVER_32_BITS, "the cost needs more than 32 bits")                       \
+    CASE(CARD_DECODED_AGAIN, "an encoded card decodes to the same plot")              \
+    CASE(KEPT_TRUE, "true is kept over substitutions")                                \
+    CASE(KEPT_FALSE, "false is kept over substitutions")                              \
+    CASE(SETTLED_TRUE, "unknown becomes true")                                        \
+    CASE(SETTLED_FALSE, "unknown becomes false")                                      \
+    CASE(STAYED_UNKNOWN, "unknown stays unknown over substitutions")                  \
+    CASE(LOWER_COST, "the cost is lower after substitutions")                         \
+    CASE(REFUSED_BETWEEN_RUNS, "a substitution between the runs is refused")          \
+    CASE(CANDIDATE_CHANGED, "a substitution changes the candidate")                   \
+    CASE(CANDIDATE_NULL_STAYS, "a null of the candidate alone stays")                 \
+    CASE(TWO_VALUED_YES, "no null is left, and two-valued logic says yes")            \
+    CASE(TWO_VALUED_NO, "no null is left, and two-valued logic says no")
+
+enum named_case {
+#define CASE(name, text) name,
+    EVERY_CASE(CASE)
+#undef CASE
+        NAMED_CASES
 };
 
 struct tally {
     uint64_t calls;
     uint64_t numbers[CALLS][CODES];
-    uint64_t verdicts[3];
-    uint64_t happenings[HAPPENINGS];
+    uint64_t truths[3];
+    uint64_t cases[NAMED_CASES];
 };
 
 extern struct tally tally;
 
 const char *call_name(enum call call);
-void note(enum happening happening);
-/* Prints the table and counts what was hit (passed) and what was not (failed). */
-void print_tally(size_t *passed, size_t *failed);
+void note(enum named_case named_case);
+/* Prints the table, and checks that everything was hit. */
+void check_tally(void);
 
 #endif

@@ -4,21 +4,21 @@
 #include <stdio.h>
 #include <string.h>
 
-/* Two-valued logic stops nowhere early, so it is asked only where it ends soon. */
+/* Two-valued logic does not stop early, so it is asked only if it ends soon. */
 enum { MOST_LEAVES = 4000 };
 
 struct run {
-    uint32_t allowance;
+    uint32_t budget;
     size_t list_length;
-    uint32_t verdict;
-    uint32_t looks;
+    uint32_t truth;
+    uint32_t cost;
 };
 
-/* A's plot, candidate and question, and the book of the fills since. */
+/* Run A's plot, candidate and query, and the model of the substitutions since. */
 static struct any_plot before;
 static struct any_cells candidate;
-static struct any_question question;
-static struct book book;
+static struct any_query query;
+static struct model model;
 
 static void print_words(const char *name, const uint32_t *words, size_t count)
 {
@@ -30,24 +30,24 @@ static void print_words(const char *name, const uint32_t *words, size_t count)
 
 static _Noreturn void fail_runs(const char *what)
 {
-    print_words("A's head", before.head, HEAD_WORDS);
+    print_words("A's header", before.header, HEADER_WORDS);
     print_words("A's plot", before.words, before.length);
     print_words("A's candidate", candidate.cells, candidate.length);
-    print_words("question", question.words, question.length);
-    print_words("the book's rows", book.words, book.head[9]);
-    print_words("the book's candidate", book.candidate, book.candidate_length);
+    print_words("query", query.words, query.length);
+    print_words("the model's rows", model.words, model.header[HEADER_USED]);
+    print_words("the model's candidate", model.candidate, model.candidate_length);
     fail(what);
 }
 
-/* Calls that write no word of the plot may stand between the fills. */
+/* Calls that write no word of the plot may come between the substitutions. */
 static void call_between(struct random *random, const struct palette *palette, struct any_plot *plot)
 {
     switch (below(random, 8)) {
     case 0:
-        try_census(random, plot);
+        try_null_counts(random, plot);
         break;
     case 1:
-        try_write_card(random, plot);
+        try_encode(random, plot);
         break;
     case 2:
         try_ask(random, palette, plot);
@@ -57,97 +57,97 @@ static void call_between(struct random *random, const struct palette *palette, s
     }
 }
 
-static bool candidate_has(uint32_t mark)
+static bool candidate_has(uint32_t null)
 {
-    for (size_t i = 0; i < book.candidate_length; i++)
-        if (book.candidate[i] == 1000000 + mark)
+    for (size_t i = 0; i < model.candidate_length; i++)
+        if (model.candidate[i] == CONSTANTS + null)
             return true;
     return false;
 }
 
-static void fill_both(struct random *random, const struct palette *palette, struct any_plot *plot,
-                      uint32_t mark, uint32_t cell)
+static void substitute_both(struct random *random, const struct palette *palette, struct any_plot *plot, uint32_t null,
+                            uint32_t cell)
 {
     uint32_t count = 0;
-    uint32_t book_count = 0;
-    bool in_candidate = candidate_has(mark);
+    uint32_t model_count = 0;
+    bool in_candidate = candidate_has(null);
     call_between(random, palette, plot);
-    uint32_t number = both_fill(plot, mark, cell, &count);
-    if (number != book_fill(&book, mark, cell, &book_count))
-        fail_runs("a fill and the book answer different numbers");
-    if (number == 0 && count != book_count)
-        fail_runs("a fill and the book count different cells");
+    uint32_t number = both_substitute(plot, null, cell, &count);
+    if (number != model_substitute(&model, null, cell, &model_count))
+        fail_runs("a substitution and the model return different numbers");
+    if (number == 0 && count != model_count)
+        fail_runs("a substitution and the model count different cells");
     if (number != 0)
-        note(REFUSED_FILL_IN_LIST);
-    if (number == 0 && in_candidate && cell != 1000000 + mark)
-        note(CANDIDATE_FILLED);
+        note(REFUSED_BETWEEN_RUNS);
+    if (number == 0 && in_candidate && cell != CONSTANTS + null)
+        note(CANDIDATE_CHANGED);
     if (number == 43 && in_candidate)
-        note(CANDIDATE_MARK_STAYS);
+        note(CANDIDATE_NULL_STAYS);
 }
 
-static void some_fills(struct random *random, const struct palette *palette, struct any_plot *plot)
+static void some_substitutions(struct random *random, const struct palette *palette, struct any_plot *plot)
 {
-    for (size_t fills = below(random, 8); fills > 0; fills--) {
-        uint32_t mark = mark_to_fill(random, palette, plot);
+    for (size_t left = below(random, 8); left > 0; left--) {
+        uint32_t null = null_to_replace(random, palette, plot);
         uint32_t cell = any_cell(random, palette);
-        if (book.candidate_length > 0 && one_in(random, 5) && book.candidate[0] > 1000000)
-            mark = book.candidate[0] - 1000000;
+        if (model.candidate_length > 0 && one_in(random, 5) && model.candidate[0] > CONSTANTS)
+            null = model.candidate[0] - CONSTANTS;
         if (one_in(random, 8))
-            cell = one_in(random, 2) ? odd_number(random, cell) : 1000000 + mark;
-        fill_both(random, palette, plot, mark, cell);
+            cell = one_in(random, 2) ? odd_number(random, cell) : CONSTANTS + null;
+        substitute_both(random, palette, plot, null, cell);
     }
 }
 
-/* Fills every mark of the plot by an inked value. */
-static void fill_all(struct random *random, const struct palette *palette, struct any_plot *plot)
+/* Replaces every null of the plot by a constant. */
+static void replace_all(struct random *random, const struct palette *palette, struct any_plot *plot)
 {
-    bool stands[MARKS + 1] = {false};
-    for (size_t i = 0; i < plot->head[9]; i++)
-        if (plot->words[i] > 1000000)
-            stands[plot->words[i] - 1000000] = true;
-    for (uint32_t i = 0, mark = 1 + below(random, MARKS); i < MARKS; i++, mark = mark % MARKS + 1)
-        if (stands[mark])
-            fill_both(random, palette, plot, mark, any_value(random, palette));
+    bool held[NULLS + 1] = {false};
+    for (size_t i = 0; i < plot->header[HEADER_USED]; i++)
+        if (plot->words[i] > CONSTANTS)
+            held[plot->words[i] - CONSTANTS] = true;
+    for (uint32_t i = 0, null = 1 + below(random, NULLS); i < NULLS; i++, null = null % NULLS + 1)
+        if (held[null])
+            substitute_both(random, palette, plot, null, any_constant(random, palette));
 }
 
-/* The words in use are the book's rows; all other words and the head are as A left them. */
+/* The words in use are the model's rows; all other words and the header are as A left them. */
 static void check_plot(const struct any_plot *after)
 {
-    size_t used = before.head[9];
-    if (memcmp(before.head, after->head, HEAD_WORDS * sizeof *after->head) != 0)
-        fail_runs("fills changed the head");
-    if (memcmp(book.words, after->words, used * sizeof *after->words) != 0)
-        fail_runs("the plot after the fills is not the book's");
+    size_t used = before.header[HEADER_USED];
+    if (memcmp(before.header, after->header, HEADER_WORDS * sizeof *after->header) != 0)
+        fail_runs("substitutions changed the header");
+    if (memcmp(model.words, after->words, used * sizeof *after->words) != 0)
+        fail_runs("the plot after the substitutions is not the model's");
     if (memcmp(before.words + used, after->words + used, (before.length - used) * sizeof *after->words) != 0)
-        fail_runs("fills changed words that are not in use");
+        fail_runs("substitutions changed words that are not in use");
 }
 
 static void check_runs(const struct run *a, const struct run *b)
 {
-    if (a->verdict != UNKNOWN_VERDICT && b->verdict != a->verdict)
-        fail_runs("fills unsettled a verdict");
-    if (b->looks > a->looks)
-        fail_runs("B looks more often than A");
-    if (b->looks < a->looks)
-        note(FEWER_LOOKS);
-    if (b->verdict == UNKNOWN_VERDICT)
+    if (a->truth != TRUTH_UNKNOWN && b->truth != a->truth)
+        fail_runs("substitutions unsettled a verdict");
+    if (b->cost > a->cost)
+        fail_runs("B's cost is higher than A's");
+    if (b->cost < a->cost)
+        note(LOWER_COST);
+    if (b->truth == TRUTH_UNKNOWN)
         note(STAYED_UNKNOWN);
-    else if (b->verdict == TRUE_VERDICT)
-        note(a->verdict == TRUE_VERDICT ? KEPT_TRUE : SETTLED_TRUE);
+    else if (b->truth == TRUTH_TRUE)
+        note(a->truth == TRUTH_TRUE ? KEPT_TRUE : SETTLED_TRUE);
     else
-        note(a->verdict == FALSE_VERDICT ? KEPT_FALSE : SETTLED_FALSE);
+        note(a->truth == TRUTH_FALSE ? KEPT_FALSE : SETTLED_FALSE);
 }
 
 static void check_two_valued(const struct run *b)
 {
-    if (book_holds_a_mark(&book))
+    if (model_holds_a_null(&model))
         return;
-    if (b->verdict == UNKNOWN_VERDICT)
-        fail_runs("no mark is left, and the verdict is unknown");
-    if (two_valued_leaves(&book, question.words, question.length) > MOST_LEAVES)
+    if (b->truth == TRUTH_UNKNOWN)
+        fail_runs("no null is left, and the verdict is unknown");
+    if (two_valued_leaves(&model, query.words, query.length) > MOST_LEAVES)
         return;
-    bool yes = two_valued_yes(&book, question.words, question.length);
-    if (yes != (b->verdict == TRUE_VERDICT))
+    bool yes = two_valued_yes(&model, query.words, query.length);
+    if (yes != (b->truth == TRUTH_TRUE))
         fail_runs("the verdict is not that of two-valued logic");
     note(yes ? TWO_VALUED_YES : TWO_VALUED_NO);
 }
@@ -157,23 +157,23 @@ void try_two_runs(struct random *random, const struct palette *palette, struct a
     struct any_cells candidate_left;
     struct run a;
     make_candidate(random, palette, &candidate);
-    make_question(random, palette, plot->head, count_values(plot), candidate.length, &question);
-    if (foresee(plot, &question, &candidate, 3000, &a.looks) != 0)
+    make_query(random, palette, plot->header, count_values(plot), candidate.length, &query);
+    if (foresee(plot, &query, &candidate, 3000, &a.cost) != 0)
         return;
-    a.allowance = a.looks + (one_in(random, 3) ? below(random, 1000) : 0);
+    a.budget = a.cost + (one_in(random, 3) ? below(random, 1000) : 0);
     a.list_length = count_cells(plot) + below(random, 3);
-    if (both_ask(plot, &question, &candidate, a.list_length, a.allowance, &a.verdict, &a.looks) != 0)
-        fail("a question is refused that the reference answered");
+    if (both_ask(plot, &query, &candidate, a.list_length, a.budget, &a.truth, &a.cost) != 0)
+        fail("a query is refused that the reference accepted");
     before = *plot;
-    book_open(&book, plot->head, plot->words, candidate.cells, candidate.length);
-    some_fills(random, palette, plot);
+    model_open(&model, plot->header, plot->words, candidate.cells, candidate.length);
+    some_substitutions(random, palette, plot);
     if (one_in(random, 2))
-        fill_all(random, palette, plot);
+        replace_all(random, palette, plot);
     check_plot(plot);
-    candidate_left.length = book.candidate_length;
-    memcpy(candidate_left.cells, book.candidate, sizeof book.candidate);
-    struct run b = {a.allowance + below(random, 2), a.list_length + below(random, 2), 0, 0};
-    if (both_ask(plot, &question, &candidate_left, b.list_length, b.allowance, &b.verdict, &b.looks) != 0)
+    candidate_left.length = model.candidate_length;
+    memcpy(candidate_left.cells, model.candidate, sizeof model.candidate);
+    struct run b = {a.budget + below(random, 2), a.list_length + below(random, 2), 0, 0};
+    if (both_ask(plot, &query, &candidate_left, b.list_length, b.budget, &b.truth, &b.cost) != 0)
         fail_runs("B is refused");
     check_runs(&a, &b);
     check_two_valued(&b);

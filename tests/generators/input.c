@@ -1,37 +1,15 @@
 /* Input bytes for the program. */
+#include "support/input.h"
 #include "generate.h"
 
-#include <string.h>
-
-static void put(struct any_input *input, uint32_t number, size_t bytes)
-{
-    while (bytes-- > 0)
-        input->bytes[input->length++] = (uint8_t)(number >> 8 * bytes);
-}
-
-static void put_card(struct any_input *input, const struct any_card *card)
-{
-    put(input, (uint32_t)card->length, 2);
-    memcpy(input->bytes + input->length, card->bytes, card->length);
-    input->length += card->length;
-}
-
-static void put_candidate(struct any_input *input, const struct any_cells *candidate)
-{
-    put(input, (uint32_t)candidate->length, 1);
-    for (size_t i = 0; i < candidate->length; i++)
-        put(input, candidate->cells[i], 3);
-}
-
-/* The last four bytes are the allowance wherever the fields fit. It is cut to two of them where the looks are
-   not foreseen, so that the question ends soon. */
-static void cut_allowance(struct any_input *input)
+/* Keeps two of the last four bytes, which are the budget if the fields fit, so that the query ends soon. */
+static void cut_budget(struct any_input *input)
 {
     if (input->length >= 4)
         input->bytes[input->length - 4] = input->bytes[input->length - 3] = 0;
 }
 
-/* Another card than the question was made for, or a damaged one; false where it was left. */
+/* Another card than the query was made for, or a damaged one; returns false if the card was left as it is. */
 static bool change_card(struct random *random, const struct palette *palette, struct any_card *card)
 {
     if (one_in(random, 15))
@@ -50,35 +28,33 @@ static bool change_card(struct random *random, const struct palette *palette, st
 static void make_fields(struct random *random, struct any_input *input)
 {
     static struct any_card card;
-    static struct any_question question;
-    static struct any_plot plot = {.head_length = HEAD_WORDS, .length = MOST_WORDS};
+    static struct any_query query;
+    static struct any_plot plot = {.header_length = HEADER_WORDS, .length = MOST_WORDS};
     struct any_cells candidate;
     struct palette palette = make_palette(random);
     do
         make_card(random, &palette, &card);
-    while (ref_read_card(card.bytes, card.length, plot.head, HEAD_WORDS, plot.words, MOST_WORDS) != 0);
+    while (ref_decode(card.bytes, card.length, plot.header, HEADER_WORDS, plot.words, MOST_WORDS) != 0);
     make_candidate(random, &palette, &candidate);
-    make_question(random, &palette, plot.head, count_values(&plot), candidate.length, &question);
+    make_query(random, &palette, plot.header, count_values(&plot), candidate.length, &query);
     if (one_in(random, 3))
-        damage_question(random, &question);
+        damage_query(random, &query);
     if (one_in(random, 12))
         damage_candidate(random, &candidate);
-    uint32_t allowance = any_allowance(random, &plot, &question, &candidate, 20000);
+    uint32_t budget = any_budget(random, &plot, &query, &candidate, 20000);
     bool changed = change_card(random, &palette, &card);
-    put_card(input, &card);
-    put(input, (uint32_t)question.length, 2);
-    for (size_t i = 0; i < question.length; i++)
-        put(input, question.words[i], 4);
-    put_candidate(input, &candidate);
-    put(input, allowance, 4);
+    const struct input fields = {card.bytes,      card.length,      query.words, query.length,
+                                 candidate.cells, candidate.length, budget};
+    input->length = write_input(&fields, input->bytes);
     if (changed)
-        cut_allowance(input);
+        cut_budget(input);
 }
 
-/* Fields that fit together in exactly 16,384 bytes; so many question words are refused 21. */
+/* Fields that fit together in exactly 16,384 bytes; a query of as many words is refused 21. */
 static void make_longest_fields(struct random *random, struct any_input *input)
 {
     static struct any_card card;
+    static uint32_t words[MOST_INPUT / 4];
     struct any_cells candidate;
     struct palette palette = make_palette(random);
     make_card(random, &palette, &card);
@@ -86,22 +62,20 @@ static void make_longest_fields(struct random *random, struct any_input *input)
     candidate.length = 0;
     while ((MOST_INPUT - (card.length + 3 * candidate.length + 9)) % 4 != 0)
         candidate.length++;
-    size_t words = (MOST_INPUT - (card.length + 3 * candidate.length + 9)) / 4;
-    put_card(input, &card);
-    put(input, (uint32_t)words, 2);
-    for (size_t i = 0; i < words; i++)
-        put(input, below(random, 8), 4);
-    put_candidate(input, &candidate);
-    put(input, 100, 4);
+    size_t word_count = (MOST_INPUT - (card.length + 3 * candidate.length + 9)) / 4;
+    for (size_t i = 0; i < word_count; i++)
+        words[i] = below(random, 8);
+    const struct input fields = {card.bytes, card.length, words, word_count, candidate.cells, candidate.length, 100};
+    input->length = write_input(&fields, input->bytes);
 }
 
 static void damage_input(struct random *random, struct any_input *input)
 {
-    size_t place = below(random, input->length);
+    size_t index = below(random, input->length);
     size_t length = input->length;
     switch (below(random, 8)) {
     case 0:
-        length = place;
+        length = index;
         break;
     case 1:
         length -= 1;
@@ -119,17 +93,16 @@ static void damage_input(struct random *random, struct any_input *input)
         length = MOST_INPUT + 1 + below(random, INPUT_ROOM - MOST_INPUT);
         break;
     default:
-        input->bytes[place] = (uint8_t)odd_number(random, input->bytes[place]);
+        input->bytes[index] = (uint8_t)odd_number(random, input->bytes[index]);
     }
     for (size_t i = input->length; i < length; i++)
         input->bytes[i] = (uint8_t)below(random, 256);
     input->length = length;
-    cut_allowance(input);
+    cut_budget(input);
 }
 
 void make_input(struct random *random, struct any_input *input)
 {
-    input->length = 0;
     if (one_in(random, 30))
         make_longest_fields(random, input);
     else

@@ -1,4 +1,4 @@
-/* Questions: a random tree, then numbers for its nodes in any order that puts a child after its parent. */
+/* Queries: a random tree, whose nodes are then numbered in an order that puts each child after its parent. */
 #include "generate.h"
 
 #include <string.h>
@@ -13,44 +13,44 @@ struct tree_node {
 struct tree {
     struct random *random;
     const struct palette *palette;
-    const uint32_t *head;
-    size_t chain; /* of 8 joins, about so many put a single node on one side */
+    const uint32_t *header;
+    size_t chain; /* of 8 joins, about this many put a single node on one side */
     struct tree_node nodes[MOST_NODES + 1];
     size_t node_count;
 };
 
-/* A term: an inked value, or a variable that is bound here. */
+/* A constant, or a variable that is bound here. */
 static uint32_t make_term(struct tree *tree, uint32_t bound)
 {
     if (bound != 0 && !one_in(tree->random, 4)) {
         uint32_t variable = below(tree->random, VARIABLES);
         while ((bound >> variable & 1) == 0)
             variable = (variable + 1) % VARIABLES;
-        return 2000000 + variable;
+        return FIRST_VARIABLE + variable;
     }
-    return any_value(tree->random, tree->palette);
+    return any_constant(tree->random, tree->palette);
 }
 
 static void make_leaf(struct tree *tree, struct tree_node *node, uint32_t bound)
 {
     size_t terms = 2;
     size_t first = 1;
-    node->words[0] = 2;
+    node->words[0] = EQUAL;
     if (!one_in(tree->random, 3)) {
-        node->words[0] = 1;
-        node->words[1] = below(tree->random, tree->head[0]);
-        terms = tree->head[1 + node->words[1]];
+        node->words[0] = ROW_STANDS;
+        node->words[1] = below(tree->random, tree->header[HEADER_RELATIONS]);
+        terms = arity_of(tree->header, node->words[1]);
         first = 2;
     }
     for (size_t i = 0; i < terms; i++)
         node->words[first + i] = make_term(tree, bound);
 }
 
-/* Grows a tree of exactly size nodes with at most depth quantifiers above one another. */
+/* Grows a tree of exactly `size` nodes with at most `depth` quantifiers above one another; returns its top's index. */
 static size_t grow(struct tree *tree, size_t size, size_t depth, uint32_t bound)
 {
-    size_t place = tree->node_count++;
-    struct tree_node *node = &tree->nodes[place];
+    size_t index = tree->node_count++;
+    struct tree_node *node = &tree->nodes[index];
     memset(node, 0, sizeof *node);
     if (size == 1) {
         make_leaf(tree, node, bound);
@@ -58,12 +58,12 @@ static size_t grow(struct tree *tree, size_t size, size_t depth, uint32_t bound)
         bool quantifier = depth > 0 && !one_in(tree->random, 3);
         node->child_count = 1;
         if (quantifier) {
-            node->words[0] = 6 + below(tree->random, 2);
+            node->words[0] = one_in(tree->random, 2) ? SOME : EVERY;
             node->words[1] = below(tree->random, one_in(tree->random, 3) ? VARIABLES : 4);
             node->first_child_word = 2;
             bound |= 1u << node->words[1];
         } else {
-            node->words[0] = 3;
+            node->words[0] = NOT;
             node->first_child_word = 1;
         }
         node->children[0] = grow(tree, size - 1, depth - quantifier, bound);
@@ -71,17 +71,17 @@ static size_t grow(struct tree *tree, size_t size, size_t depth, uint32_t bound)
         size_t left = 1 + below(tree->random, size - 2);
         if (below(tree->random, 8) < tree->chain)
             left = one_in(tree->random, 2) ? 1 : size - 2;
-        node->words[0] = 4 + below(tree->random, 2);
+        node->words[0] = one_in(tree->random, 2) ? AND : OR;
         node->first_child_word = 1;
         node->child_count = 2;
         node->children[0] = grow(tree, left, depth, bound);
         node->children[1] = grow(tree, size - 1 - left, depth, bound);
     }
-    return place;
+    return index;
 }
 
-/* Deals numbers: any node whose parent has a number may be next. */
-static void number_nodes(struct tree *tree, struct any_question *question)
+/* Numbers the nodes: any node whose parent has a number may be next. */
+static void number_nodes(struct tree *tree, struct any_query *query)
 {
     size_t ready[MOST_NODES + 1] = {0};
     size_t ready_count = 1;
@@ -89,28 +89,29 @@ static void number_nodes(struct tree *tree, struct any_question *question)
     size_t manner = below(tree->random, 3);
     for (uint32_t number = 0; number < tree->node_count; number++) {
         size_t pick = manner == 0 ? 0 : manner == 1 ? ready_count - 1 : below(tree->random, ready_count);
-        size_t place = ready[pick];
-        struct tree_node *node = &tree->nodes[place];
-        uint32_t *words = question->words + number * NODE_WORDS;
+        size_t index = ready[pick];
+        struct tree_node *node = &tree->nodes[index];
+        uint32_t *words = query->words + number * NODE_WORDS;
         ready[pick] = ready[--ready_count];
         memcpy(words, node->words, sizeof node->words);
-        if (parent_words[place] != NULL)
-            *parent_words[place] = number;
+        if (parent_words[index] != NULL)
+            *parent_words[index] = number;
         for (size_t i = 0; i < node->child_count; i++) {
             parent_words[node->children[i]] = words + node->first_child_word + i;
             ready[ready_count++] = node->children[i];
         }
     }
-    question->length = tree->node_count * NODE_WORDS;
+    query->length = tree->node_count * NODE_WORDS;
 }
 
-/* Nested quantifiers multiply the looks, so most questions have few of them above one another. */
+/* Nested quantifiers multiply the cost, so most queries have few of them above one another, but one at least. */
 static size_t any_depth(struct random *random, size_t value_count)
 {
     size_t depth = 0;
     if (one_in(random, 12) || value_count <= 1)
         return 99;
-    for (size_t looks = value_count; looks <= 2000 && depth < 6; looks *= value_count)
+    size_t factor = value_count < 50 ? value_count : 50;
+    for (size_t cost = factor; cost <= 2000 && depth < 6; cost *= factor)
         depth++;
     return depth;
 }
@@ -124,66 +125,68 @@ static size_t any_node_count(struct random *random)
     return 1 + below(random, one_in(random, 8) ? MOST_NODES : 12);
 }
 
-void make_question(struct random *random, const struct palette *palette, const uint32_t *head,
-                   size_t value_count, size_t k, struct any_question *question)
+void make_query(struct random *random, const struct palette *palette, const uint32_t *header, size_t value_count,
+                size_t k, struct any_query *query)
 {
     static struct tree tree;
     tree.random = random;
     tree.palette = palette;
-    tree.head = head;
+    tree.header = header;
     tree.chain = below(random, 9);
     tree.node_count = 0;
-    grow(&tree, any_node_count(random), any_depth(random, value_count), (1u << k) - 1);
-    number_nodes(&tree, question);
+    size_t depth = any_depth(random, value_count);
+    size_t size = any_node_count(random);
+    grow(&tree, size, depth, (1u << k) - 1);
+    number_nodes(&tree, query);
 }
 
-void make_endless_question(struct random *random, struct any_question *question)
+void make_endless_query(struct random *random, struct any_query *query)
 {
-    uint32_t *words = question->words;
-    question->length = 12 * NODE_WORDS;
-    memset(words, 0, question->length * sizeof *words);
+    uint32_t *words = query->words;
+    query->length = 12 * NODE_WORDS;
+    memset(words, 0, query->length * sizeof *words);
     for (uint32_t number = 0; number < 11; number++, words += NODE_WORDS) {
-        words[0] = 7;
+        words[0] = EVERY;
         words[1] = number;
         words[2] = number + 1;
     }
-    words[0] = 2;
-    words[1] = words[2] = 2000000 + below(random, 11);
+    words[0] = EQUAL;
+    words[1] = words[2] = FIRST_VARIABLE + below(random, 11);
 }
 
-void damage_question(struct random *random, struct any_question *question)
+void damage_query(struct random *random, struct any_query *query)
 {
-    if (question->length == 0)
+    if (query->length == 0)
         return;
-    size_t place = below(random, question->length);
-    size_t kind_word = place - place % NODE_WORDS;
+    size_t index = below(random, query->length);
+    size_t kind_word = index - index % NODE_WORDS;
     switch (below(random, 8)) {
     case 0:
-        question->length = one_in(random, 4) ? place : question->length - 1;
+        query->length = one_in(random, 4) ? index : query->length - 1;
         break;
-    case 1: /* words behind the last node: one too many, or a node that none names */
-        question->words[question->length] = 1 + below(random, 7);
+    case 1: /* words after the last node: one too many, or a node that none names */
+        query->words[query->length] = ROW_STANDS + below(random, EVERY);
         for (size_t i = 1; i < NODE_WORDS; i++)
-            question->words[question->length + i] = 0;
-        question->length += one_in(random, 2) ? 1 : NODE_WORDS;
+            query->words[query->length + i] = 0;
+        query->length += one_in(random, 2) ? 1 : NODE_WORDS;
         break;
-    case 2: /* a node less: a child is missing */
-        if (question->length > NODE_WORDS)
-            question->length -= NODE_WORDS;
+    case 2: /* one node less: a child is missing */
+        if (query->length > NODE_WORDS)
+            query->length -= NODE_WORDS;
         break;
     case 3:
-        question->words[kind_word] = odd_number(random, question->words[kind_word]);
+        query->words[kind_word] = odd_number(random, query->words[kind_word]);
         break;
-    case 4: /* the word where a child, a sheet or a variable stands */
-        question->words[kind_word + 1] = odd_number(random, question->words[kind_word + 1]);
+    case 4: /* the word of a child, a relation or a variable */
+        query->words[kind_word + 1] = odd_number(random, query->words[kind_word + 1]);
         break;
     case 5:
-        question->words[kind_word + 2] = odd_number(random, question->words[kind_word + 2]);
+        query->words[kind_word + 2] = odd_number(random, query->words[kind_word + 2]);
         break;
     case 6:
-        question->words[place] = question->words[below(random, question->length)];
+        query->words[index] = query->words[below(random, query->length)];
         break;
     default:
-        question->words[place] = odd_number(random, question->words[place]);
+        query->words[index] = odd_number(random, query->words[index]);
     }
 }

@@ -18,12 +18,23 @@ static inline uint64_t random_bits(struct random *random)
     return bits ^ bits >> 31;
 }
 
+/* The numbers of one round of a seed. */
+static inline struct random random_of_round(uint64_t seed, uint64_t round)
+{
+    struct random random = {seed};
+    random.state = random_bits(&random) + round;
+    return random;
+}
+
 /* A number from 0 to limit - 1. */
 static inline uint32_t below(struct random *random, size_t limit)
 {
     return (uint32_t)(random_bits(random) % limit);
 }
 
-static inline bool one_in(struct random *random, size_t limit) { return below(random, limit) == 0; }
+static inline bool one_in(struct random *random, size_t limit)
+{
+    return below(random, limit) == 0;
+}
 
 #endif

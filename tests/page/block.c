@@ -1,11 +1,13 @@
 #include "block.h"
 #include "plotask.h"
 #include "question.h"
+#include "support/bytes.h"
+#include "support/input.h"
 
 #include <stdlib.h>
 #include <string.h>
 
-enum { LINE_BYTES = 1024, ROWS_BYTES = 8192 };
+enum { LINE_BYTES = 1024, ROWS_BYTES = 8192, CARD_BYTES = 3 + PLOTASK_RELATIONS + ROWS_BYTES };
 
 /* What the lines read so far say. */
 struct parts {
@@ -20,13 +22,6 @@ struct parts {
     uint32_t allowance;
     int has_allowance;
 };
-
-/* Appends a number as so many bytes, high byte first. */
-static void put(uint8_t *bytes, size_t *n, uint32_t number, int width)
-{
-    while (width-- > 0)
-        bytes[(*n)++] = (uint8_t)(number >> (8 * width));
-}
 
 /* A cell as it is written, `201` or `m4`. */
 static int read_cell(const char *text, uint32_t *cell)
@@ -68,10 +63,10 @@ static const char *read_row(unsigned sheet, char *text, struct parts *p)
         return "a row that does not fit its sheet";
     if (p->rows_bytes + 2 + 3 * written > ROWS_BYTES)
         return "too many rows";
-    put(p->rows, &p->rows_bytes, sheet, 1);
-    put(p->rows, &p->rows_bytes, map, 1);
+    put_number(p->rows, &p->rows_bytes, sheet, 1);
+    put_number(p->rows, &p->rows_bytes, map, 1);
     for (size_t i = 0; i < written; i++)
-        put(p->rows, &p->rows_bytes, cells[i], 3);
+        put_number(p->rows, &p->rows_bytes, cells[i], 3);
     p->row_count++;
     return NULL;
 }
@@ -87,7 +82,7 @@ static const char *read_candidate(char *text, struct parts *p)
     return NULL;
 }
 
-/* What follows a name at the start of a line, and null where the line does not start so. */
+/* What follows a name at the start of a line; null if the line does not start with the name. */
 static char *after(char *line, const char *name)
 {
     size_t length = strlen(name);
@@ -128,27 +123,26 @@ static const char *read_line(char *line, struct parts *p, struct block *block)
     return "a line that has no name";
 }
 
-/* The program's input: card length, card, question, candidate, allowance. */
-static void write_input(const struct parts *p, struct block *block)
+/* Writes the card, and returns the number of its bytes. */
+static size_t write_card(const struct parts *p, uint8_t *card)
 {
-    uint8_t *to = block->input;
     size_t n = 0;
 
-    put(to, &n, (uint32_t)(3 + p->sheets + p->rows_bytes), 2);
-    put(to, &n, (uint32_t)p->sheets, 1);
+    put_number(card, &n, (uint32_t)p->sheets, 1);
     for (size_t i = 0; i < p->sheets; i++)
-        put(to, &n, p->columns[i], 1);
-    put(to, &n, (uint32_t)p->row_count, 2);
-    memcpy(to + n, p->rows, p->rows_bytes);
-    n += p->rows_bytes;
-    put(to, &n, (uint32_t)p->question_words, 2);
-    for (size_t i = 0; i < p->question_words; i++)
-        put(to, &n, p->question[i], 4);
-    put(to, &n, (uint32_t)p->candidate_cells, 1);
-    for (size_t i = 0; i < p->candidate_cells; i++)
-        put(to, &n, p->candidate[i], 3);
-    put(to, &n, p->allowance, 4);
-    block->input_bytes = n;
+        put_number(card, &n, p->columns[i], 1);
+    put_number(card, &n, (uint32_t)p->row_count, 2);
+    memcpy(card + n, p->rows, p->rows_bytes);
+    return n + p->rows_bytes;
+}
+
+static void make_input(const struct parts *p, struct block *block)
+{
+    uint8_t card[CARD_BYTES];
+    const struct input input = {card,         write_card(p, card), p->question, p->question_words,
+                                p->candidate, p->candidate_cells,  p->allowance};
+
+    block->input_bytes = write_input(&input, block->input);
 }
 
 const char *read_block(FILE *page, unsigned *line, struct block *block)
@@ -167,7 +161,7 @@ const char *read_block(FILE *page, unsigned *line, struct block *block)
                 return fault;
             if (!p.sheets || !p.question_words || !p.has_allowance || !block->plotask[0])
                 return "sheets, question, allowance or plotask is missing";
-            write_input(&p, block);
+            make_input(&p, block);
             return NULL;
         }
         if (!fault)

@@ -2,7 +2,8 @@
  * A block of docs/VERDICTS.md: a plot, a question and the line that plotask prints, in lines between two fences.
  *
  *   sheets: 1 1                                 the column count of each sheet
- *   0: 201                                      a row of sheet 0, a cell for each column: an inked value, a mark (m4) or a blank (-)
+ *   0: 201                                      a row of sheet 0, with a value (201), a mark (m4) or a blank (-) for
+ *                                               each column
  *   1: -
  *   question: and(in(0, v0), not(in(1, v0)))    in, equal, not, and, or, some, every; v0 to v15 are variables
  *   candidate: 201                              the cells of the candidate row; may be left empty
@@ -22,11 +23,11 @@ enum { INPUT_BYTES = 16384 };
 struct block {
     uint8_t input[INPUT_BYTES]; /* the program's input */
     size_t input_bytes;
-    char student[32]; /* empty where the line is left out */
+    char student[32]; /* empty if the line is left out */
     char plotask[32];
 };
 
-/* Reads a block's lines up to its closing fence, and adds their number to `line`. Answers null, or what is wrong with them. */
+/* Reads a block's lines up to its closing fence, and adds their number to `line`. Returns null, or what is wrong. */
 const char *read_block(FILE *page, unsigned *line, struct block *block);
 
 #endif

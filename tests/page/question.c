@@ -1,11 +1,10 @@
 #include "question.h"
-#include "plotask.h"
 
 #include <ctype.h>
 #include <stdlib.h>
 #include <string.h>
 
-/* The text still to be read, and the nodes made so far. Nodes are numbered as they are met, so a child's number is above its parent's. */
+/* The text still to be read, and the nodes made so far, numbered as they are met: a child after its parent. */
 struct reading {
     const char *at;
     uint32_t *words;
@@ -72,7 +71,7 @@ static uint32_t kind_of(const char *name, size_t length)
 
 static uint32_t node(struct reading *r);
 
-/* `in(sheet, term, ..)`, at most as many terms as a node has room for. */
+/* `in(sheet, term, ..)`, with at most as many terms as a node has room for. */
 static void read_atom(struct reading *r, uint32_t *words)
 {
     size_t j = 1;
@@ -100,13 +99,9 @@ static void read_rest(struct reading *r, uint32_t *words)
         break;
     case PLOTASK_AND:
     case PLOTASK_OR:
-        words[1] = node(r);
-        expect(r, ',');
-        words[2] = node(r);
-        break;
     case PLOTASK_SOME:
     case PLOTASK_EVERY:
-        words[1] = variable(r);
+        words[1] = words[0] == PLOTASK_AND || words[0] == PLOTASK_OR ? node(r) : variable(r);
         expect(r, ',');
         words[2] = node(r);
         break;
@@ -115,7 +110,7 @@ static void read_rest(struct reading *r, uint32_t *words)
     }
 }
 
-/* Reads one node with all that is below it, and answers its number. */
+/* Reads one node with all that is below it, and returns its number. */
 static uint32_t node(struct reading *r)
 {
     if (r->failed || r->nodes == PLOTASK_NODES) {
@@ -137,7 +132,7 @@ static uint32_t node(struct reading *r)
     return number;
 }
 
-size_t question_words(const char *text, uint32_t words[800])
+size_t question_words(const char *text, uint32_t words[PLOTASK_QUERY_WORDS])
 {
     struct reading r = {text, words, 0, 0};
 

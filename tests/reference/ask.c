@@ -1,33 +1,37 @@
-/* The three-valued rules and their looks. */
+/* The three-valued rules and their cost. */
 #include "query.h"
 
 #include <string.h>
 
 static struct plot plot;
-static struct question question;
+static struct query query;
 
-/* One asking: what it ranges over and what it has cost so far. */
+/* One query being asked: what it ranges over, and its cost so far. */
 struct asking {
     const uint32_t *candidate;
     const uint32_t *values;
     size_t value_count;
-    uint64_t looks;
-    uint64_t allowance;
+    uint64_t cost;
+    uint64_t budget;
 };
 
-/* Looks only grow, so nothing more needs asking once they exceed the allowance. */
-static bool is_spent(const struct asking *asking) { return asking->looks > asking->allowance; }
-
-static size_t class_of(const size_t *parent, size_t place)
+/* The cost only grows, so nothing more needs asking once it exceeds the budget. */
+static bool is_spent(const struct asking *asking)
 {
-    while (parent[place] != place)
-        place = parent[place];
-    return place;
+    return asking->cost > asking->budget;
 }
 
-/* Places 0 to n - 1 are the cells of a, n to 2n - 1 those of b. Places that have to hold the same value are
-   put in one class: equal cells, and the two cells of a column. The lists unify unless a class holds two
-   different inked values. */
+static size_t class_of(const size_t *parent, size_t index)
+{
+    while (parent[index] != index)
+        index = parent[index];
+    return index;
+}
+
+/*
+ * Indices 0 to n - 1 are the cells of a, n to 2n - 1 those of b. Those that have to hold the same value are put in one
+ * class: equal cells, and the two cells of a column. The lists unify unless a class holds two different constants.
+ */
 static bool unify(const uint32_t *a, const uint32_t *b, size_t n)
 {
     uint32_t cells[2 * MOST_COLUMNS];
@@ -44,108 +48,129 @@ static bool unify(const uint32_t *a, const uint32_t *b, size_t n)
                 parent[class_of(parent, i)] = class_of(parent, j);
     for (size_t i = 0; i < 2 * n; i++)
         for (size_t j = 0; j < i; j++)
-            if (is_inked(cells[i]) && is_inked(cells[j]) && cells[i] != cells[j] &&
+            if (is_constant(cells[i]) && is_constant(cells[j]) && cells[i] != cells[j] &&
                 class_of(parent, i) == class_of(parent, j))
                 return false;
     return true;
 }
 
-static enum verdict row_stands(struct asking *asking, uint32_t sheet, const uint32_t *cells)
+static enum truth row_stands(struct asking *asking, uint32_t relation, const uint32_t *cells)
 {
-    size_t columns = plot.columns[sheet];
-    enum verdict verdict = FALSE_VERDICT;
-    asking->looks += 1;
+    size_t arity = plot.arities[relation];
+    enum truth truth = TRUTH_FALSE;
+    asking->cost += 1;
     for (size_t i = 0; i < plot.row_count; i++) {
         const struct row *row = &plot.rows[i];
-        if (row->sheet != sheet)
+        if (row->relation != relation)
             continue;
-        asking->looks += 1;
-        if (memcmp(row->cells, cells, columns * sizeof *cells) == 0)
-            verdict = TRUE_VERDICT;
-        else if (verdict == FALSE_VERDICT && unify(row->cells, cells, columns))
-            verdict = UNKNOWN_VERDICT;
+        asking->cost += 1;
+        if (memcmp(row->cells, cells, arity * sizeof *cells) == 0)
+            truth = TRUTH_TRUE;
+        else if (truth == TRUTH_FALSE && unify(row->cells, cells, arity))
+            truth = TRUTH_UNKNOWN;
     }
-    return verdict;
+    return truth;
 }
 
-static enum verdict equal(struct asking *asking, uint32_t a, uint32_t b)
+static enum truth equal(struct asking *asking, uint32_t a, uint32_t b)
 {
-    asking->looks += 1;
+    asking->cost += 1;
     if (a == b)
-        return TRUE_VERDICT;
-    return is_inked(a) && is_inked(b) ? FALSE_VERDICT : UNKNOWN_VERDICT;
+        return TRUTH_TRUE;
+    return is_constant(a) && is_constant(b) ? TRUTH_FALSE : TRUTH_UNKNOWN;
 }
 
-static enum verdict lower(enum verdict a, enum verdict b) { return a < b ? a : b; }
+static enum truth swapped(enum truth truth)
+{
+    if (truth == TRUTH_UNKNOWN)
+        return TRUTH_UNKNOWN;
+    return truth == TRUTH_TRUE ? TRUTH_FALSE : TRUTH_TRUE;
+}
 
-static enum verdict higher(enum verdict a, enum verdict b) { return a > b ? a : b; }
+static enum truth lower(enum truth a, enum truth b)
+{
+    return a < b ? a : b;
+}
 
-/* The verdict has no meaning once the asking is spent. */
-static enum verdict verdict_of(struct asking *asking, const struct node *node, const struct binding *bindings)
+static enum truth higher(enum truth a, enum truth b)
+{
+    return a > b ? a : b;
+}
+
+/* How truths are joined: "and" and "every" by ALL, "or" and "some" by ANY. */
+struct junction {
+    enum truth start; /* over no values */
+    enum truth stop;  /* nothing more is asked after it */
+    enum truth (*join)(enum truth, enum truth);
+};
+
+static const struct junction ALL = {TRUTH_TRUE, TRUTH_FALSE, lower};
+static const struct junction ANY = {TRUTH_FALSE, TRUTH_TRUE, higher};
+
+static enum truth truth_of(struct asking *asking, const struct node *node, const struct binding *bindings);
+
+static enum truth over_children(struct asking *asking, const struct junction *junction, const struct node *node,
+                                const struct binding *bindings)
+{
+    enum truth truth = truth_of(asking, node->left, bindings);
+    return truth == junction->stop ? truth : junction->join(truth, truth_of(asking, node->right, bindings));
+}
+
+static enum truth over_values(struct asking *asking, const struct junction *junction, const struct node *node,
+                              const struct binding *bindings)
+{
+    struct binding binding = {node->variable, 0, bindings};
+    enum truth truth = junction->start;
+    for (size_t i = 0; i < asking->value_count && truth != junction->stop && !is_spent(asking); i++) {
+        binding.cell = asking->values[i];
+        truth = junction->join(truth, truth_of(asking, node->left, &binding));
+    }
+    return truth;
+}
+
+/* The truth has no meaning if the budget is spent. */
+static enum truth truth_of(struct asking *asking, const struct node *node, const struct binding *bindings)
 {
     uint32_t cells[MOST_COLUMNS];
-    struct binding binding = {node->variable, 0, bindings};
-    enum verdict verdict = FALSE_VERDICT;
     if (is_spent(asking))
-        return verdict;
+        return TRUTH_UNKNOWN;
     for (size_t i = 0; i < node->term_count; i++)
         cells[i] = term_cell(node->terms[i], bindings, asking->candidate);
     switch (node->kind) {
     case ROW_STANDS:
-        return row_stands(asking, node->sheet, cells);
+        return row_stands(asking, node->relation, cells);
     case EQUAL:
         return equal(asking, cells[0], cells[1]);
     case NOT:
-        verdict = verdict_of(asking, node->left, bindings);
-        if (verdict == UNKNOWN_VERDICT)
-            return UNKNOWN_VERDICT;
-        return verdict == TRUE_VERDICT ? FALSE_VERDICT : TRUE_VERDICT;
+        return swapped(truth_of(asking, node->left, bindings));
     case AND:
-        verdict = verdict_of(asking, node->left, bindings);
-        if (verdict != FALSE_VERDICT)
-            verdict = lower(verdict, verdict_of(asking, node->right, bindings));
-        return verdict;
+        return over_children(asking, &ALL, node, bindings);
     case OR:
-        verdict = verdict_of(asking, node->left, bindings);
-        if (verdict != TRUE_VERDICT)
-            verdict = higher(verdict, verdict_of(asking, node->right, bindings));
-        return verdict;
+        return over_children(asking, &ANY, node, bindings);
     case SOME:
-        verdict = FALSE_VERDICT;
-        for (size_t i = 0; i < asking->value_count && verdict != TRUE_VERDICT && !is_spent(asking); i++) {
-            binding.cell = asking->values[i];
-            verdict = higher(verdict, verdict_of(asking, node->left, &binding));
-        }
-        return verdict;
+        return over_values(asking, &ANY, node, bindings);
     case EVERY:
-        verdict = TRUE_VERDICT;
-        for (size_t i = 0; i < asking->value_count && verdict != FALSE_VERDICT && !is_spent(asking); i++) {
-            binding.cell = asking->values[i];
-            verdict = lower(verdict, verdict_of(asking, node->left, &binding));
-        }
-        return verdict;
+        return over_values(asking, &ALL, node, bindings);
     }
-    return verdict;
+    return TRUTH_UNKNOWN;
 }
 
-uint32_t ref_ask(const uint32_t *head, size_t head_length, const uint32_t *words, size_t length,
-                 const uint32_t *question_words, size_t question_length, const uint32_t *candidate,
-                 size_t candidate_length, uint32_t *list, size_t list_length, uint32_t allowance,
-                 uint32_t *verdict, uint32_t *looks)
+uint32_t ref_ask(const uint32_t *header, size_t header_length, const uint32_t *words, size_t length,
+                 const uint32_t *query_words, size_t query_length, const uint32_t *candidate, size_t candidate_length,
+                 uint32_t *list, size_t list_length, uint32_t budget, uint32_t *truth, uint32_t *cost)
 {
-    if (plot_take_apart(&plot, head, head_length, words, length) != 0)
+    if (plot_take_apart(&plot, header, header_length, words, length) != 0)
         return 41;
-    uint32_t refusal =
-        question_take_apart(&question, &plot, question_words, question_length, candidate, candidate_length);
+    uint32_t refusal = query_take_apart(&query, &plot, query_words, query_length, candidate, candidate_length);
     if (refusal != 0)
         return refusal;
     if (list_length < plot_cells(&plot))
         return 45;
-    struct asking asking = {candidate, list, plot_values(&plot, list), 0, allowance};
-    enum verdict answer = verdict_of(&asking, &question.nodes[0], NULL);
+    struct asking asking = {candidate, list, plot_values(&plot, list), 0, budget};
+    enum truth answer = truth_of(&asking, &query.nodes[0], NULL);
     if (is_spent(&asking))
         return 46;
-    *verdict = answer;
-    *looks = (uint32_t)asking.looks;
+    *truth = answer;
+    *cost = (uint32_t)asking.cost;
     return 0;
 }

@@ -1,24 +1,24 @@
-/* The card: reading and writing. */
-#include "support/bytes.h"
+/* Decode and encode. */
 #include "plot.h"
+#include "support/bytes.h"
 
 static struct plot plot;
 
-/* A blank column until its mark is known; no cell. */
+/* Stands for a blank until its null is known; no cell. */
 #define BLANK UINT32_MAX
 
 static uint32_t read_row(struct bytes *card, struct row *row)
 {
     uint32_t map;
-    if (!take_number(card, 1, &row->sheet))
+    if (!take_number(card, 1, &row->relation))
         return 11;
-    if (row->sheet >= plot.sheets)
+    if (row->relation >= plot.relations)
         return 14;
     if (!take_number(card, 1, &map))
         return 11;
-    if (map >= 1u << plot.columns[row->sheet])
+    if (map >= 1u << plot.arities[row->relation])
         return 15;
-    for (uint32_t column = 0; column < plot.columns[row->sheet]; column++) {
+    for (uint32_t column = 0; column < plot.arities[row->relation]; column++) {
         row->cells[column] = BLANK;
         if ((map >> column & 1) == 0)
             continue;
@@ -30,19 +30,19 @@ static uint32_t read_row(struct bytes *card, struct row *row)
     return 0;
 }
 
-/* The rules of the bytes, one after the other, and 18. */
+/* Tests the rules byte by byte, then 18. */
 static uint32_t read_rows(struct bytes *card)
 {
-    if (!take_number(card, 1, &plot.sheets))
+    if (!take_number(card, 1, &plot.relations))
         return 11;
-    if (plot.sheets < 1 || plot.sheets > MOST_SHEETS)
+    if (plot.relations < 1 || plot.relations > MOST_RELATIONS)
         return 12;
-    for (uint32_t sheet = 0; sheet < MOST_SHEETS; sheet++)
-        plot.columns[sheet] = 0;
-    for (uint32_t sheet = 0; sheet < plot.sheets; sheet++) {
-        if (!take_number(card, 1, &plot.columns[sheet]))
+    for (uint32_t relation = 0; relation < MOST_RELATIONS; relation++)
+        plot.arities[relation] = 0;
+    for (uint32_t relation = 0; relation < plot.relations; relation++) {
+        if (!take_number(card, 1, &plot.arities[relation]))
             return 11;
-        if (plot.columns[sheet] < 1 || plot.columns[sheet] > MOST_COLUMNS)
+        if (plot.arities[relation] < 1 || plot.arities[relation] > MOST_COLUMNS)
             return 13;
     }
     uint32_t row_count;
@@ -58,70 +58,61 @@ static uint32_t read_rows(struct bytes *card)
 }
 
 /* "Blanks get M + 1, M + 2 and so on in card order." */
-static uint32_t mark_blanks(void)
+static uint32_t number_blanks(void)
 {
-    uint32_t mark = 0;
+    uint32_t null = 0;
     for (size_t i = 0; i < plot.row_count; i++) {
         const struct row *row = &plot.rows[i];
-        for (uint32_t column = 0; column < plot.columns[row->sheet]; column++)
-            if (row->cells[column] != BLANK && mark_of(row->cells[column]) > mark)
-                mark = mark_of(row->cells[column]);
+        for (uint32_t column = 0; column < plot.arities[row->relation]; column++)
+            if (row->cells[column] != BLANK && null_of(row->cells[column]) > null)
+                null = null_of(row->cells[column]);
     }
     for (size_t i = 0; i < plot.row_count; i++) {
         struct row *row = &plot.rows[i];
-        for (uint32_t column = 0; column < plot.columns[row->sheet]; column++) {
+        for (uint32_t column = 0; column < plot.arities[row->relation]; column++) {
             if (row->cells[column] != BLANK)
                 continue;
-            if (++mark > MARKS)
+            if (++null > NULLS)
                 return 17;
-            row->cells[column] = 1000000 + mark;
+            row->cells[column] = CONSTANTS + null;
         }
     }
     return 0;
 }
 
-uint32_t ref_read_card(const uint8_t *card, size_t card_length, uint32_t *head, size_t head_length,
-                       uint32_t *words, size_t length)
+uint32_t ref_decode(const uint8_t *card, size_t card_length, uint32_t *header, size_t header_length, uint32_t *words,
+                    size_t length)
 {
     struct bytes bytes = {card, card_length, 0};
-    if (head_length != HEAD_WORDS)
+    if (header_length != HEADER_WORDS)
         return 41;
     uint32_t refusal = read_rows(&bytes);
     if (refusal == 0)
-        refusal = mark_blanks();
-    if (refusal != 0)
-        return refusal;
-    if (plot_words(&plot) > MOST_WORDS || plot_words(&plot) > length)
-        return 42;
-    plot_write_rows(&plot, words);
-    plot_write_head(&plot, head);
-    return 0;
+        refusal = number_blanks();
+    return refusal != 0 ? refusal : plot_store(&plot, header, words, length);
 }
 
-uint32_t ref_write_card(const uint32_t *head, size_t head_length, const uint32_t *words, size_t length,
-                        uint8_t *card, size_t card_length, uint32_t *count)
+uint32_t ref_encode(const uint32_t *header, size_t header_length, const uint32_t *words, size_t length, uint8_t *card,
+                    size_t card_length, uint32_t *count)
 {
-    if (plot_take_apart(&plot, head, head_length, words, length) != 0)
+    if (plot_take_apart(&plot, header, header_length, words, length) != 0)
         return 41;
-    size_t needed = 1 + plot.sheets + 2 + 2 * plot.row_count + 3 * plot_cells(&plot);
+    size_t needed = 1 + plot.relations + 2 + 2 * plot.row_count + 3 * plot_cells(&plot);
+    size_t at = 0;
     if (card_length < needed)
         return 44;
-    *card++ = (uint8_t)plot.sheets;
-    for (uint32_t sheet = 0; sheet < plot.sheets; sheet++)
-        *card++ = (uint8_t)plot.columns[sheet];
-    *card++ = (uint8_t)(plot.row_count / 256);
-    *card++ = (uint8_t)(plot.row_count % 256);
+    put_number(card, &at, plot.relations, 1);
+    for (uint32_t relation = 0; relation < plot.relations; relation++)
+        put_number(card, &at, plot.arities[relation], 1);
+    put_number(card, &at, (uint32_t)plot.row_count, 2);
     for (size_t i = 0; i < plot.row_count; i++) {
         const struct row *row = &plot.rows[i];
-        uint32_t columns = plot.columns[row->sheet];
-        *card++ = (uint8_t)row->sheet;
-        *card++ = (uint8_t)((1u << columns) - 1);
-        for (uint32_t column = 0; column < columns; column++) {
-            *card++ = (uint8_t)(row->cells[column] / 65536);
-            *card++ = (uint8_t)(row->cells[column] / 256 % 256);
-            *card++ = (uint8_t)(row->cells[column] % 256);
-        }
+        uint32_t arity = plot.arities[row->relation];
+        put_number(card, &at, row->relation, 1);
+        put_number(card, &at, (1u << arity) - 1, 1);
+        for (uint32_t column = 0; column < arity; column++)
+            put_number(card, &at, row->cells[column], 3);
     }
-    *count = (uint32_t)needed;
+    *count = (uint32_t)at;
     return 0;
 }

@@ -7,11 +7,11 @@
 struct fields {
     uint32_t card_length;
     const uint8_t *card;
-    uint32_t question_length;
-    uint32_t question[MOST_INPUT / 4];
+    uint32_t query_length;
+    uint32_t query[MOST_INPUT / 4];
     uint32_t candidate_length;
     uint32_t candidate[255];
-    uint32_t allowance;
+    uint32_t budget;
 };
 
 static uint32_t take_fields(struct fields *fields, const uint8_t *input, size_t length)
@@ -23,17 +23,17 @@ static uint32_t take_fields(struct fields *fields, const uint8_t *input, size_t 
         return 11;
     fields->card = input + bytes.at;
     bytes.at += fields->card_length;
-    if (!take_number(&bytes, 2, &fields->question_length))
+    if (!take_number(&bytes, 2, &fields->query_length))
         return 11;
-    for (uint32_t i = 0; i < fields->question_length; i++)
-        if (!take_number(&bytes, 4, &fields->question[i]))
+    for (uint32_t i = 0; i < fields->query_length; i++)
+        if (!take_number(&bytes, 4, &fields->query[i]))
             return 11;
     if (!take_number(&bytes, 1, &fields->candidate_length))
         return 11;
     for (uint32_t i = 0; i < fields->candidate_length; i++)
         if (!take_number(&bytes, 3, &fields->candidate[i]))
             return 11;
-    if (!take_number(&bytes, 4, &fields->allowance))
+    if (!take_number(&bytes, 4, &fields->budget))
         return 11;
     return bytes.at < bytes.length ? 18 : 0;
 }
@@ -44,18 +44,17 @@ void ref_line(const uint8_t *input, size_t length, char line[LINE_BYTES])
     static struct fields fields;
     static uint32_t words[MOST_WORDS];
     static uint32_t list[MOST_WORDS];
-    uint32_t head[HEAD_WORDS];
-    uint32_t verdict = 0;
-    uint32_t looks = 0;
+    uint32_t header[HEADER_WORDS];
+    uint32_t truth = 0;
+    uint32_t cost = 0;
     uint32_t refusal = take_fields(&fields, input, length);
     if (refusal == 0)
-        refusal = ref_read_card(fields.card, fields.card_length, head, HEAD_WORDS, words, MOST_WORDS);
+        refusal = ref_decode(fields.card, fields.card_length, header, HEADER_WORDS, words, MOST_WORDS);
     if (refusal == 0)
-        refusal = ref_ask(head, HEAD_WORDS, words, MOST_WORDS, fields.question, fields.question_length,
-                          fields.candidate, fields.candidate_length, list, MOST_WORDS, fields.allowance,
-                          &verdict, &looks);
+        refusal = ref_ask(header, HEADER_WORDS, words, MOST_WORDS, fields.query, fields.query_length, fields.candidate,
+                          fields.candidate_length, list, MOST_WORDS, fields.budget, &truth, &cost);
     if (refusal != 0)
         snprintf(line, LINE_BYTES, "refused %u\n", (unsigned)refusal);
     else
-        snprintf(line, LINE_BYTES, "%s %u\n", names[verdict], (unsigned)looks);
+        snprintf(line, LINE_BYTES, "%s %u\n", names[truth], (unsigned)cost);
 }

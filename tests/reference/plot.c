@@ -1,42 +1,52 @@
 #include "plot.h"
 
-bool is_inked(uint32_t cell) { return cell <= 999999; }
-
-bool is_cell(uint32_t number) { return is_inked(number) || (number >= 1000001 && number <= 1000200); }
-
-uint32_t mark_of(uint32_t cell) { return is_inked(cell) ? 0 : cell - 1000000; }
-
-static bool head_is_sound(const uint32_t *head)
+bool is_constant(uint32_t cell)
 {
-    if (head[0] < 1 || head[0] > MOST_SHEETS)
-        return false;
-    for (uint32_t sheet = 0; sheet < MOST_SHEETS; sheet++) {
-        uint32_t columns = head[1 + sheet];
-        if (sheet < head[0] && (columns < 1 || columns > MOST_COLUMNS))
-            return false;
-        if (sheet >= head[0] && columns != 0)
-            return false;
-    }
-    return head[9] <= MOST_WORDS;
+    return cell < CONSTANTS;
 }
 
-uint32_t plot_take_apart(struct plot *plot, const uint32_t *head, size_t head_length, const uint32_t *words,
+bool is_cell(uint32_t number)
+{
+    return is_constant(number) || (number > CONSTANTS && number <= CONSTANTS + NULLS);
+}
+
+uint32_t null_of(uint32_t cell)
+{
+    return is_constant(cell) ? 0 : cell - CONSTANTS;
+}
+
+static bool header_is_sound(const uint32_t *header)
+{
+    uint32_t relations = header[HEADER_RELATIONS];
+    if (relations < 1 || relations > MOST_RELATIONS)
+        return false;
+    for (uint32_t relation = 0; relation < MOST_RELATIONS; relation++) {
+        uint32_t arity = arity_of(header, relation);
+        if (relation < relations && (arity < 1 || arity > MOST_COLUMNS))
+            return false;
+        if (relation >= relations && arity != 0)
+            return false;
+    }
+    return header[HEADER_USED] <= MOST_WORDS;
+}
+
+uint32_t plot_take_apart(struct plot *plot, const uint32_t *header, size_t header_length, const uint32_t *words,
                          size_t length)
 {
-    if (head_length != HEAD_WORDS || !head_is_sound(head) || length < head[9])
+    if (header_length != HEADER_WORDS || !header_is_sound(header) || length < header[HEADER_USED])
         return 41;
-    plot->sheets = head[0];
-    for (uint32_t sheet = 0; sheet < MOST_SHEETS; sheet++)
-        plot->columns[sheet] = head[1 + sheet];
+    plot->relations = header[HEADER_RELATIONS];
+    for (uint32_t relation = 0; relation < MOST_RELATIONS; relation++)
+        plot->arities[relation] = arity_of(header, relation);
     plot->row_count = 0;
     size_t at = 0;
-    while (at < head[9]) {
+    while (at < header[HEADER_USED]) {
         struct row *row = &plot->rows[plot->row_count++];
-        row->sheet = words[at++];
-        if (row->sheet >= plot->sheets)
+        row->relation = words[at++];
+        if (row->relation >= plot->relations)
             return 41;
-        for (uint32_t column = 0; column < plot->columns[row->sheet]; column++) {
-            if (at == head[9] || !is_cell(words[at]))
+        for (uint32_t column = 0; column < plot->arities[row->relation]; column++) {
+            if (at == header[HEADER_USED] || !is_cell(words[at]))
                 return 41;
             row->cells[column] = words[at++];
         }
@@ -48,18 +58,21 @@ size_t plot_cells(const struct plot *plot)
 {
     size_t cells = 0;
     for (size_t i = 0; i < plot->row_count; i++)
-        cells += plot->columns[plot->rows[i].sheet];
+        cells += plot->arities[plot->rows[i].relation];
     return cells;
 }
 
-size_t plot_words(const struct plot *plot) { return plot->row_count + plot_cells(plot); }
+size_t plot_words(const struct plot *plot)
+{
+    return plot->row_count + plot_cells(plot);
+}
 
 size_t plot_values(const struct plot *plot, uint32_t *list)
 {
     size_t count = 0;
     for (size_t i = 0; i < plot->row_count; i++) {
         const struct row *row = &plot->rows[i];
-        for (uint32_t column = 0; column < plot->columns[row->sheet]; column++) {
+        for (uint32_t column = 0; column < plot->arities[row->relation]; column++) {
             size_t at = 0;
             while (at < count && list[at] != row->cells[column])
                 at++;
@@ -74,16 +87,19 @@ void plot_write_rows(const struct plot *plot, uint32_t *words)
 {
     for (size_t i = 0; i < plot->row_count; i++) {
         const struct row *row = &plot->rows[i];
-        *words++ = row->sheet;
-        for (uint32_t column = 0; column < plot->columns[row->sheet]; column++)
+        *words++ = row->relation;
+        for (uint32_t column = 0; column < plot->arities[row->relation]; column++)
             *words++ = row->cells[column];
     }
 }
 
-void plot_write_head(const struct plot *plot, uint32_t *head)
+uint32_t plot_store(const struct plot *plot, uint32_t *header, uint32_t *words, size_t length)
 {
-    head[0] = plot->sheets;
-    for (uint32_t sheet = 0; sheet < MOST_SHEETS; sheet++)
-        head[1 + sheet] = plot->columns[sheet];
-    head[9] = (uint32_t)plot_words(plot);
+    if (plot_words(plot) > MOST_WORDS || plot_words(plot) > length)
+        return 42;
+    plot_write_rows(plot, words);
+    header_start(header, plot->relations, plot->arities);
+    for (size_t i = 0; i < plot->row_count; i++)
+        header_add_row(header, plot->rows[i].relation);
+    return 0;
 }

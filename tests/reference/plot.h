@@ -1,34 +1,35 @@
 /* A plot taken apart into rows. */
-#ifndef REFERENCE_PLOT_H
-#define REFERENCE_PLOT_H
+#ifndef PLOT_H
+#define PLOT_H
 
 #include "reference.h"
 
 struct row {
-    uint32_t sheet;
+    uint32_t relation;
     uint32_t cells[MOST_COLUMNS];
 };
 
 struct plot {
-    uint32_t sheets;
-    uint32_t columns[MOST_SHEETS];
+    uint32_t relations;
+    uint32_t arities[MOST_RELATIONS];
     size_t row_count;
     struct row rows[65535]; /* a card counts its rows in two bytes */
 };
 
-bool is_inked(uint32_t cell);
+bool is_constant(uint32_t cell);
 bool is_cell(uint32_t number);
-/* The mark that a cell holds, 0 for an inked value. */
-uint32_t mark_of(uint32_t cell);
+/* The number of the null that a cell holds; 0 if it holds a constant. */
+uint32_t null_of(uint32_t cell);
 
-/* Takes a lent plot apart: 0, or 41. */
-uint32_t plot_take_apart(struct plot *plot, const uint32_t *head, size_t head_length, const uint32_t *words,
+/* Takes a lent plot apart: returns 0, or 41. */
+uint32_t plot_take_apart(struct plot *plot, const uint32_t *header, size_t header_length, const uint32_t *words,
                          size_t length);
 size_t plot_words(const struct plot *plot);
 size_t plot_cells(const struct plot *plot);
-/* Puts the plot's values into the list and answers how many they are. */
+/* Writes the plot's values to the list, and returns their number. */
 size_t plot_values(const struct plot *plot, uint32_t *list);
 void plot_write_rows(const struct plot *plot, uint32_t *words);
-void plot_write_head(const struct plot *plot, uint32_t *head);
+/* Writes rows and header: returns 0, or 42 if the rows have no room, and then writes nothing. */
+uint32_t plot_store(const struct plot *plot, uint32_t *header, uint32_t *words, size_t length);
 
 #endif

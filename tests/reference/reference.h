@@ -1,62 +1,59 @@
-/* A second implementation of document 01, in that document's words. The tests compare the library with it;
-   the two share no code. Refusals are the numbers of document 01's two tables, 0 is acceptance. Slices are
-   a pointer and a length, as in the library's own calls. */
+/*
+ * A second implementation of document 01, written from that document alone. The tests compare the library with it; the
+ * two share no code. Each call is named after the library's, returns 0 or the number of a refusal, and takes a slice as
+ * a pointer and a length.
+ *
+ * Names are the field's. Document 01 says head, sheet and column count for header, relation and arity; inked value and
+ * mark for constant and null; question, verdict, looks and allowance for query, truth, cost and budget; reading,
+ * writing, entering, fill and census for decode, encode, insert, substitute and null counts; the book for the model.
+ */
 #ifndef REFERENCE_H
 #define REFERENCE_H
 
+#include "header.h"
+
 #include <stdbool.h>
-#include <stddef.h>
-#include <stdint.h>
 
-enum {
-    HEAD_WORDS = 10, /* number of sheets, eight column counts, words in use */
-    MOST_SHEETS = 8,
-    MOST_COLUMNS = 6,
-    MOST_WORDS = 4096,
-    MARKS = 200,
-    NODE_WORDS = 8,
-    MOST_NODES = 100,
-    VARIABLES = 16,
-    MOST_INPUT = 16384,
-    LINE_BYTES = 32
-};
+/* The kinds of a query's nodes. */
+enum kind { ROW_STANDS = 1, EQUAL = 2, NOT = 3, AND = 4, OR = 5, SOME = 6, EVERY = 7 };
 
-enum verdict { FALSE_VERDICT = 0, UNKNOWN_VERDICT = 1, TRUE_VERDICT = 2 };
+enum truth { TRUTH_FALSE = 0, TRUTH_UNKNOWN = 1, TRUTH_TRUE = 2 };
 
-uint32_t ref_read_card(const uint8_t *card, size_t card_length, uint32_t *head, size_t head_length,
-                       uint32_t *words, size_t length);
-uint32_t ref_write_card(const uint32_t *head, size_t head_length, const uint32_t *words, size_t length,
-                        uint8_t *card, size_t card_length, uint32_t *count);
-uint32_t ref_enter(uint32_t *head, size_t head_length, uint32_t *words, size_t length, uint32_t sheet,
-                   const uint32_t *cells, size_t cell_count);
-uint32_t ref_fill(const uint32_t *head, size_t head_length, uint32_t *words, size_t length, uint32_t mark,
-                  uint32_t cell, uint32_t *count);
-uint32_t ref_census(const uint32_t *head, size_t head_length, const uint32_t *words, size_t length,
-                    uint32_t *census, size_t census_length, uint32_t *count);
-uint32_t ref_ask(const uint32_t *head, size_t head_length, const uint32_t *words, size_t length,
-                 const uint32_t *question, size_t question_length, const uint32_t *candidate,
-                 size_t candidate_length, uint32_t *list, size_t list_length, uint32_t allowance,
-                 uint32_t *verdict, uint32_t *looks);
+uint32_t ref_decode(const uint8_t *card, size_t card_length, uint32_t *header, size_t header_length, uint32_t *words,
+                    size_t length);
+uint32_t ref_encode(const uint32_t *header, size_t header_length, const uint32_t *words, size_t length, uint8_t *card,
+                    size_t card_length, uint32_t *count);
+uint32_t ref_insert(uint32_t *header, size_t header_length, uint32_t *words, size_t length, uint32_t relation,
+                    const uint32_t *cells, size_t cell_count);
+uint32_t ref_substitute(const uint32_t *header, size_t header_length, uint32_t *words, size_t length, uint32_t null,
+                        uint32_t cell, uint32_t *count);
+uint32_t ref_null_counts(const uint32_t *header, size_t header_length, const uint32_t *words, size_t length,
+                         uint32_t *counts, size_t counts_length, uint32_t *count);
+uint32_t ref_ask(const uint32_t *header, size_t header_length, const uint32_t *words, size_t length,
+                 const uint32_t *query, size_t query_length, const uint32_t *candidate, size_t candidate_length,
+                 uint32_t *list, size_t list_length, uint32_t budget, uint32_t *truth, uint32_t *cost);
 
-/* The program plotask: the line, its line feed and an ending 0 for these input bytes. */
+/* The program plotask: the line that it prints for these input bytes, with its line feed. */
 void ref_line(const uint8_t *input, size_t length, char line[LINE_BYTES]);
 
-/* The book of "Run A and run B": A's rows and candidate, and the fills made in both. */
-struct book {
-    uint32_t head[HEAD_WORDS];
+/* The model of "Run A and run B": A's rows and candidate, and the substitutions made in both. */
+struct model {
+    uint32_t header[HEADER_WORDS];
     uint32_t words[MOST_WORDS];
     uint32_t candidate[MOST_COLUMNS];
     size_t candidate_length;
 };
 
-void book_open(struct book *book, const uint32_t head[HEAD_WORDS], const uint32_t *words,
-               const uint32_t *candidate, size_t candidate_length);
-uint32_t book_fill(struct book *book, uint32_t mark, uint32_t cell, uint32_t *count);
-bool book_holds_a_mark(const struct book *book);
+void model_open(struct model *model, const uint32_t header[HEADER_WORDS], const uint32_t *words,
+                const uint32_t *candidate, size_t candidate_length);
+uint32_t model_substitute(struct model *model, uint32_t null, uint32_t cell, uint32_t *count);
+bool model_holds_a_null(const struct model *model);
 
-/* Two-valued logic on the book, for a question that was accepted there. Nothing stops early, so the caller
-   asks first how many leaves it would visit (UINT64_MAX where that is too many to count). */
-uint64_t two_valued_leaves(const struct book *book, const uint32_t *question, size_t question_length);
-bool two_valued_yes(const struct book *book, const uint32_t *question, size_t question_length);
+/*
+ * Two-valued logic on the model, for a query that was accepted there. Nothing stops early, so the caller first asks how
+ * many leaves it would visit (UINT64_MAX if they are too many to count).
+ */
+uint64_t two_valued_leaves(const struct model *model, const uint32_t *query, size_t query_length);
+bool two_valued_yes(const struct model *model, const uint32_t *query, size_t query_length);
 
 #endif
