@@ -17,3 +17,21 @@ bench-page: $(ALIGNED)/bench
 $(ALIGNED)/bench: target/c-aligned/bench/bench.o $(MEASURED) $(LIBRARY)
 	@mkdir -p $(@D)
 	$(CC) $^ -o $@
+
+# this build's questions against those of an earlier one, beside the control, which is this build against itself:
+# make builds OTHER=path/libplotask.a
+builds: target/c-aligned/bench/builds.o $(MEASURED) $(LIBRARY)
+	$(if $(OTHER),,$(error the earlier build is missing: make builds OTHER=path/libplotask.a))
+	@mkdir -p $(ALIGNED)
+	@$(call renamed,this,,$(LIBRARY))
+	@$(call renamed,control,control_,$(LIBRARY))
+	@$(call renamed,other,other_,$(OTHER))
+	$(CC) $(filter %.o,$^) $(ALIGNED)/this.a $(ALIGNED)/control.a $(ALIGNED)/other.a -o $(ALIGNED)/builds
+	@$(ALIGNED)/builds
+
+# copies an archive, with a prefix before every symbol that it defines, and with every function at the start of a page, so
+# that the same code has the same time in each copy: $(call renamed,copy,prefix,archive)
+define renamed
+nm --extern-only --defined-only --format=posix $(3) | awk 'NF > 1 { print $$1, "$(2)" $$1 }' > $(ALIGNED)/$(1).symbols && \
+	objcopy --redefine-syms=$(ALIGNED)/$(1).symbols --set-section-alignment '.text*=4096' $(3) $(ALIGNED)/$(1).a
+endef
