@@ -38,7 +38,6 @@ $(PROGRAM): $(CRATES)
 	rt check plotask
 	@touch $@
 
-CC ?= cc
 CFLAGS := -std=c11 -O2 -Wall -Wextra -Werror
 CXXFLAGS := -std=c++11 -O2 -Wall -Wextra -Wpedantic -Wold-style-cast -Wconversion -Werror
 CPPFLAGS := -D_XOPEN_SOURCE=700 -Iinclude -Itests -Ibench

@@ -6,7 +6,7 @@
 #include <stdio.h>
 #include <stdlib.h>
 
-enum { FULL_ROWS = 585, FEW_VALUES = 16, PASSES = 8 };
+enum { PASSES = 8 };
 
 static void query_row(const char *name, answering *loop, uint32_t expected)
 {

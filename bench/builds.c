@@ -7,8 +7,6 @@
 
 #include <stdio.h>
 
-enum { FULL_ROWS = 585, FEW_VALUES = 16 };
-
 typedef uint32_t asking(const uint32_t *header, size_t header_words, const uint32_t *plot, size_t plot_words,
                         const uint32_t *query, size_t query_words, const uint32_t *candidate, size_t candidate_cells,
                         uint32_t *list, size_t list_words, uint32_t budget, uint32_t *truth, uint32_t *cost);

@@ -58,7 +58,7 @@ size_t list_by_table(const struct plotask_header *header, const uint32_t *plot, 
     return count;
 }
 
-/* Whether two rows unify. `from` and `to` hold what has been put for nulls, in the order in which it was put. */
+/* Whether two rows unify. `from` and `to` hold the nulls replaced so far and what replaced them, in that order. */
 static int unifies(const uint32_t *a, const uint32_t *b, uint32_t columns)
 {
     uint32_t from[PLOTASK_COLUMNS], to[PLOTASK_COLUMNS];

@@ -1,4 +1,4 @@
-/* Decode and encode. Bytes are written one by one, since their time is measured. */
+/* Decode and encode. Bytes are written one by one, for speed. */
 #include "baseline.h"
 
 static uint32_t field_at(const uint8_t *p)

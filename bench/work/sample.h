@@ -4,6 +4,9 @@
 
 #include "plotask.h"
 
+/* The most rows of six columns, and a small number of different values. */
+enum { FULL_ROWS = 585, FEW_VALUES = 16 };
+
 struct sample {
     struct plotask_header header;
     uint32_t plot[PLOTASK_WORDS];

@@ -120,26 +120,25 @@ void null_counts_reference(void)
     refusal = ref_null_counts(PLOTASK_HEADER(&now.header), now.plot, PLOTASK_WORDS, counts, PLOTASK_MARKS, &count);
 }
 
-/* Each row inserted is taken back by the header. */
+/* The prepared header takes the inserted row back. */
+static struct plotask_header prepared;
+
 void insert(void)
 {
-    const struct plotask_header before = now.header;
     refusal = plotask_insert(PLOTASK_HEADER(&now.header), now.plot, PLOTASK_WORDS, 0, row, PLOTASK_COLUMNS);
-    now.header = before;
+    now.header = prepared;
 }
 
 void insert_by_hand(void)
 {
-    const struct plotask_header before = now.header;
     refusal = !insert_row(&now.header, now.plot, PLOTASK_WORDS, 0, row, PLOTASK_COLUMNS);
-    now.header = before;
+    now.header = prepared;
 }
 
 void insert_reference(void)
 {
-    const struct plotask_header before = now.header;
     refusal = ref_insert(PLOTASK_HEADER(&now.header), now.plot, PLOTASK_WORDS, 0, row, PLOTASK_COLUMNS);
-    now.header = before;
+    now.header = prepared;
 }
 
 static void must(int holds, const char *what)
@@ -161,6 +160,7 @@ void prepare_calls(uint32_t rows)
     make_plot(&now, PLOTASK_COLUMNS, rows, PLOTASK_CELLS);
     for (uint32_t at = 1; at < now.header.used; at += 1 + PLOTASK_COLUMNS)
         now.plot[at] = PLOTASK_MARK(1);
+    prepared = now.header;
     null_to_replace = 2;
     must_do(encode);
     card_bytes = count;
