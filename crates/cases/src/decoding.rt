@@ -1,16 +1,15 @@
 // Cards that decode, and cards that are refused.
-use super::show;
 use decode::decode;
+use worked::show;
 
-// Decodes into eight words, and shows what is answered and what the words hold afterwards.
+// Decodes into eight words, and shows the answer, and the header and the words afterwards.
 fn show_decode(name: &[u8], bytes: &[u8]) {
     let mut plot = [7u32; 8];
     let stored = decode(bytes, &mut plot);
     let answer = stored.answer;
     let header = stored.header;
     show::answer(name, answer);
-    show::header(header);
-    show::words(&plot);
+    show::plot(header, &plot);
 }
 
 pub fn accepted() {

@@ -1,9 +1,9 @@
 // Cards that are written and read back.
-use super::show;
 use calculus::answer::Answer;
 use decode::decode;
 use encode::encode;
-use instance::header::Header;
+use worked::plots::one_sheet;
+use worked::show;
 
 // Decodes the first bytes, as many as a card took.
 fn decode_first(bytes: &[u8], size: usize) {
@@ -38,15 +38,10 @@ pub fn round_trip() {
     there_and_back(b"a card with blanks, written whole", &blanks);
 }
 
-// Writes a card of one row, with so many words in use, and shows the bytes afterwards.
-fn write_card(name: &[u8], used: u32, out: &mut [u8]) {
+// Writes a card of one row, with n words in use, and shows the bytes afterwards.
+fn write_card(name: &[u8], n: u32, out: &mut [u8]) {
     let plot = [0u32, 5];
-    let header = Header {
-        relations: 1,
-        arities: [1, 0, 0, 0, 0, 0, 0, 0],
-        used,
-    };
-    let answer = encode(header, &plot, out);
+    let answer = encode(one_sheet(1, n), &plot, out);
     show::answer(name, answer);
     show::bytes(out);
 }

@@ -1,18 +1,12 @@
 // Rows that are entered, and rows and plots that are refused.
-use super::show;
 use instance::header::Header;
 use instance::insert::insert;
+use worked::plots::one_sheet;
+use worked::plots::sheets;
+use worked::plots::two_sheets;
+use worked::show;
 
-// Two sheets, of one column and of two.
-fn two_sheets(used: u32) -> Header {
-    Header {
-        relations: 2,
-        arities: [1, 2, 0, 0, 0, 0, 0, 0],
-        used,
-    }
-}
-
-// Enters a row, shows what is answered, and hands back the header.
+// Enters a row, shows the answer, and returns the header.
 fn enter(name: &[u8], header: Header, plot: &mut [u32], relation: u32, cells: &[u32]) -> Header {
     let stored = insert(header, plot, relation, cells);
     let answer = stored.answer;
@@ -24,10 +18,15 @@ pub fn rows() {
     let mut plot = [7u32; 7];
     let one = [999_999u32];
     let pair = [1_000_200u32, 1_000_001];
-    let first = enter(b"a row of one cell", two_sheets(0), &mut plot, 0, &one);
+    let first = enter(
+        b"a row of one cell",
+        two_sheets(1, 2, 0),
+        &mut plot,
+        0,
+        &one,
+    );
     let second = enter(b"a row of two marks", first, &mut plot, 1, &pair);
-    show::header(second);
-    show::words(&plot);
+    show::plot(second, &plot);
     let third = enter(
         b"two words more, which fill the slice",
         second,
@@ -36,14 +35,13 @@ pub fn rows() {
         &one,
     );
     let last = enter(b"no room for another", third, &mut plot, 0, &one);
-    show::header(last);
-    show::words(&plot);
+    show::plot(last, &plot);
 }
 
 // Enters a row into two empty sheets that refuse it, and shows the words afterwards.
 fn turned_away(name: &[u8], relation: u32, cells: &[u32]) {
     let mut plot = [7u32; 4];
-    enter(name, two_sheets(0), &mut plot, relation, cells);
+    enter(name, two_sheets(1, 2, 0), &mut plot, relation, cells);
     show::words(&plot);
 }
 
@@ -59,16 +57,11 @@ pub fn refused() {
     turned_away(b"1,000,201 entered", 0, &high);
 }
 
-// Enters nothing that a rule forbids, into a plot with the given header and words.
+// Enters a row that fits, into a plot with the given header and words.
 fn unsound(name: &[u8], relations: u32, arities: [u32; 8], used: u32, words: [u32; 4]) {
     let mut plot = words;
     let one = [5u32];
-    let header = Header {
-        relations,
-        arities,
-        used,
-    };
-    enter(name, header, &mut plot, 0, &one);
+    enter(name, sheets(relations, arities, used), &mut plot, 0, &one);
 }
 
 pub fn unsound_headers() {
@@ -125,11 +118,11 @@ pub fn unsound_words() {
     unsound(b"the same row, whole", 2, arities, 3, [1, 5, 5, 0]);
 }
 
-// Enters the same row so many times.
-fn repeat(header: Header, plot: &mut [u32], cells: &[u32], times: u32) -> Header {
+// Enters the same row n times.
+fn repeat(header: Header, plot: &mut [u32], cells: &[u32], n: u32) -> Header {
     let mut now = header;
     let mut i = 0;
-    while i < times {
+    while i < n {
         let stored = insert(now, plot, 0, cells);
         now = stored.header;
         i += 1;
@@ -141,12 +134,7 @@ fn repeat(header: Header, plot: &mut [u32], cells: &[u32], times: u32) -> Header
 pub fn until_full() {
     let mut plot = [0u32; 4098];
     let one = [5u32];
-    let empty = Header {
-        relations: 1,
-        arities: [1, 0, 0, 0, 0, 0, 0, 0],
-        used: 0,
-    };
-    let nearly = repeat(empty, &mut plot, &one, 2047);
+    let nearly = repeat(one_sheet(1, 0), &mut plot, &one, 2047);
     let full = enter(
         b"the row that makes 4,096 words",
         nearly,

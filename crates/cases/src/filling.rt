@@ -1,30 +1,25 @@
 // Fills, and what the census says of them.
-use super::show;
 use calculus::answer::Answer;
 use instance::header::Header;
 use instance::null_counts::null_counts;
 use instance::substitute::substitute;
+use worked::plots::one_sheet;
+use worked::plots::sheets;
+use worked::show;
 
-// A sheet of two columns with the rows (m200, m1) and (m1, 5).
-fn header() -> Header {
-    Header {
-        relations: 1,
-        arities: [2, 0, 0, 0, 0, 0, 0, 0],
-        used: 6,
-    }
-}
-
+// The rows (m200, m1) and (m1, 5), and two words after them.
 const ROWS: [u32; 8] = [0, 1_000_200, 1_000_001, 0, 1_000_001, 5, 1_000_001, 7];
 
 // Fills in a fresh copy of the rows, and shows the words and the counts of marks 1, 2 and 200 afterwards.
 fn fill(name: &[u8], mark: u32, cell: u32) {
     let mut plot = ROWS;
-    let answer = substitute(header(), &mut plot, mark, cell);
+    let header = one_sheet(2, 6);
+    let answer = substitute(header, &mut plot, mark, cell);
     show::answer(name, answer);
     if let Answer::Done(_) = answer {
         show::words(&plot);
         let mut counts = [9u32; 201];
-        null_counts(header(), &plot, &mut counts);
+        null_counts(header, &plot, &mut counts);
         let some = [counts[0], counts[1], counts[199], counts[200]];
         show::words(&some);
     }
@@ -47,29 +42,27 @@ pub fn refused() {
     unsound();
 }
 
-// A fill where the last row lacks a cell.
+// A fill of a plot whose last row lacks a cell.
 fn unsound() {
     let mut plot = ROWS;
-    let mut broken = header();
-    broken.used = 5;
-    let answer = substitute(broken, &mut plot, 1, 201);
+    let answer = substitute(one_sheet(2, 5), &mut plot, 1, 201);
     show::answer(b"a fill of an unsound plot", answer);
     show::words(&plot);
 }
 
-// A census of the rows, with so many sheets.
-fn count(name: &[u8], relations: u32, counts: &mut [u32]) {
+// A census of the rows.
+fn count(name: &[u8], header: Header, counts: &mut [u32]) {
     let plot = ROWS;
-    let mut told = header();
-    told.relations = relations;
-    let answer = null_counts(told, &plot, counts);
+    let answer = null_counts(header, &plot, counts);
     show::answer(name, answer);
 }
 
 pub fn census() {
     let mut short = [9u32; 199];
     let mut counts = [9u32; 200];
-    count(b"a census into 199 words", 1, &mut short);
-    count(b"a census of an unsound plot", 0, &mut counts);
-    count(b"a census into 200 words", 1, &mut counts);
+    let sheet = one_sheet(2, 6);
+    let none = sheets(0, [2, 0, 0, 0, 0, 0, 0, 0], 6);
+    count(b"a census into 199 words", sheet, &mut short);
+    count(b"a census of an unsound plot", none, &mut counts);
+    count(b"a census into 200 words", sheet, &mut counts);
 }

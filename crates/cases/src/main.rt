@@ -1,13 +1,8 @@
-// Worked inputs through the calls; what they answer is compared with the file stdout.
-mod asking;
+// Worked inputs for the calls that read, change and write plots; the file stdout has what this prints.
 mod decoding;
 mod encoding;
 mod entering;
 mod filling;
-mod limits;
-mod question;
-mod rerunning;
-mod show;
 
 fn main() {
     decoding::accepted();
@@ -24,18 +19,4 @@ fn main() {
     filling::census();
     encoding::round_trip();
     encoding::refused();
-    asking::in_one_sheet_only();
-    asking::without_twice();
-    asking::excluded_middle();
-    asking::no_rows();
-    asking::every_is_seven();
-    asking::whole_rows();
-    asking::bound_again();
-    asking::refused();
-    asking::refused_nodes();
-    limits::deepest();
-    limits::full();
-    rerunning::settled();
-    rerunning::lists_of_fills();
-    rerunning::refused();
 }

@@ -7,10 +7,10 @@ use Rattle.cases.proofs.entering.repeat.Statement.{statement}
 use Rattle.cases.proofs.entering.repeat.Tie as tie
 
 abbrev Inv-loop : tie.InvT-loop
-Inv-loop plot₀ cells times now₀ i₀ plot now i = (length plot ≡ length plot₀) × (i ≤ times)
+Inv-loop plot₀ cells n now₀ i₀ plot now i = (length plot ≡ length plot₀) × (i ≤ n)
 
 abbrev μ-loop : tie.MeasureT-loop
-μ-loop plot₀ cells times now₀ i₀ plot now i = times - i
+μ-loop plot₀ cells n now₀ i₀ plot now i = n - i
 
 loop-holds : tie.Need-loop-holds Inv-loop μ-loop
 loop-holds c = (refl, search needs)

@@ -1,16 +1,16 @@
--- `cases::limits::chain` is safe and ends: each node's words are within the question, and the links that are left fall. Assumes nothing.
+-- `questions::limits::chain` meets its contract: each node's words are within the question, and the links that are left fall. Assumes nothing.
 use Prim.Native.Nat.{_≤_, _-_}
 use mathlib.Core.Path.{_≡_}
 use borrow.Author.Needs.{needs}
 use lib.ListN.{length}
-use Rattle.cases.proofs.limits.chain.Statement.{statement}
-use Rattle.cases.proofs.limits.chain.Tie as tie
+use Rattle.questions.proofs.limits.chain.Statement.{statement}
+use Rattle.questions.proofs.limits.chain.Tie as tie
 
 abbrev Inv-loop : tie.InvT-loop
-Inv-loop query₀ links kind left right i₀ query i = (length query ≡ 808) × (i ≤ links) × (links ≤ 100)
+Inv-loop n last query₀ i₀ query i = (length query ≡ 808) × (i ≤ n) × (n ≤ 100)
 
 abbrev μ-loop : tie.MeasureT-loop
-μ-loop query₀ links kind left right i₀ query i = links - i
+μ-loop n last query₀ i₀ query i = n - i
 
 loop-holds : tie.Need-loop-holds Inv-loop μ-loop
 loop-holds c = search needs
@@ -21,8 +21,8 @@ mul-query c = search needs
 mul-query-2 : tie.Need-mul-query-2 Inv-loop μ-loop
 mul-query-2 c = search needs
 
-element-write-query : tie.Need-element-write-query Inv-loop μ-loop
-element-write-query c = search needs
+array-write-query : tie.Need-array-write-query Inv-loop μ-loop
+array-write-query c = search needs
 
 add-query : tie.Need-add-query Inv-loop μ-loop
 add-query c = search needs
@@ -39,8 +39,8 @@ add-query-2 c = search needs
 mul-query-4 : tie.Need-mul-query-4 Inv-loop μ-loop
 mul-query-4 c = search needs
 
-element-write-query-2 : tie.Need-element-write-query-2 Inv-loop μ-loop
-element-write-query-2 c = search needs
+array-write-query-2 : tie.Need-array-write-query-2 Inv-loop μ-loop
+array-write-query-2 c = search needs
 
 add-i : tie.Need-add-i Inv-loop μ-loop
 add-i c = search needs
@@ -51,14 +51,20 @@ loop-less c = search needs
 loop-again : tie.Need-loop-again Inv-loop μ-loop
 loop-again c = search needs
 
+array-read-query : tie.Need-array-read-query Inv-loop μ-loop
+array-read-query c = search needs
+
 mul-query-5 : tie.Need-mul-query-5 Inv-loop μ-loop
 mul-query-5 c = search needs
 
 mul-query-6 : tie.Need-mul-query-6 Inv-loop μ-loop
 mul-query-6 c = search needs
 
-element-write-query-3 : tie.Need-element-write-query-3 Inv-loop μ-loop
-element-write-query-3 c = search needs
+array-write-query-3 : tie.Need-array-write-query-3 Inv-loop μ-loop
+array-write-query-3 c = search needs
+
+array-read-query-2 : tie.Need-array-read-query-2 Inv-loop μ-loop
+array-read-query-2 c = search needs
 
 mul-query-7 : tie.Need-mul-query-7 Inv-loop μ-loop
 mul-query-7 c = search needs
@@ -69,8 +75,11 @@ add-query-3 c = search needs
 mul-query-8 : tie.Need-mul-query-8 Inv-loop μ-loop
 mul-query-8 c = search needs
 
-element-write-query-4 : tie.Need-element-write-query-4 Inv-loop μ-loop
-element-write-query-4 c = search needs
+array-write-query-4 : tie.Need-array-write-query-4 Inv-loop μ-loop
+array-write-query-4 c = search needs
+
+array-read-query-3 : tie.Need-array-read-query-3 Inv-loop μ-loop
+array-read-query-3 c = search needs
 
 mul-query-9 : tie.Need-mul-query-9 Inv-loop μ-loop
 mul-query-9 c = search needs
@@ -81,8 +90,8 @@ add-query-4 c = search needs
 mul-query-10 : tie.Need-mul-query-10 Inv-loop μ-loop
 mul-query-10 c = search needs
 
-element-write-query-5 : tie.Need-element-write-query-5 Inv-loop μ-loop
-element-write-query-5 c = search needs
+array-write-query-5 : tie.Need-array-write-query-5 Inv-loop μ-loop
+array-write-query-5 c = search needs
 
 returns : tie.Need-returns Inv-loop μ-loop
 returns c = search needs
@@ -96,25 +105,28 @@ chain-spec =
     loop-holds
     mul-query
     mul-query-2
-    element-write-query
+    array-write-query
     add-query
     cast-query
     mul-query-3
     add-query-2
     mul-query-4
-    element-write-query-2
+    array-write-query-2
     add-i
     loop-less
     loop-again
+    array-read-query
     mul-query-5
     mul-query-6
-    element-write-query-3
+    array-write-query-3
+    array-read-query-2
     mul-query-7
     add-query-3
     mul-query-8
-    element-write-query-4
+    array-write-query-4
+    array-read-query-3
     mul-query-9
     add-query-4
     mul-query-10
-    element-write-query-5
+    array-write-query-5
     returns)

@@ -2,28 +2,16 @@
 ghost use Prim.Native.Nat.{_≤_};
 use super::question::NONE;
 use super::question::flat;
-use super::show;
 use answer::ask::ask;
 use instance::header::Header;
 use instance::substitute::substitute;
+use worked::plots::one_sheet;
+use worked::plots::two_sheets;
+use worked::show;
 
-// One sheet of one column.
-fn one_sheet(used: u32) -> Header {
-    Header {
-        relations: 1,
-        arities: [1, 0, 0, 0, 0, 0, 0, 0],
-        used,
-    }
-}
+const SOME: u32 = 6;
 
-// Two sheets of one column.
-fn two_sheets(used: u32) -> Header {
-    Header {
-        relations: 2,
-        arities: [1, 1, 0, 0, 0, 0, 0, 0],
-        used,
-    }
-}
+const EVERY: u32 = 7;
 
 // Asks, and shows the answer and the working list that is left.
 fn asked(name: &[u8], header: Header, plot: &[u32], query: &[u32], candidate: &[u32], budget: u32) {
@@ -33,27 +21,45 @@ fn asked(name: &[u8], header: Header, plot: &[u32], query: &[u32], candidate: &[
     show::words(&list);
 }
 
-// A question of so many nodes.
+// A question of n nodes.
 fn one(
     name: &[u8],
     header: Header,
     plot: &[u32],
     nodes: [[u32; 8]; 7],
-    count: usize,
+    n: usize,
     candidate: &[u32],
     budget: u32,
 )
-    requires { ⌜ count ≤ 7 ⌝ }
+    requires { ⌜ n ≤ 7 ⌝ }
 {
     let words = flat(nodes);
-    asked(name, header, plot, &words[..count * 8], candidate, budget);
+    asked(name, header, plot, &words[..n * 8], candidate, budget);
+}
+
+// Some or every x is the term: a question of two nodes.
+fn quantified(
+    name: &[u8],
+    header: Header,
+    plot: &[u32],
+    kind: u32,
+    x: u32,
+    term: u32,
+    candidate: &[u32],
+    budget: u32,
+)
+    requires { ⌜ x ≤ 15 ⌝ }
+{
+    let equal = 2_000_000 + x;
+    let query = [kind, x, 1, 0, 0, 0, 0, 0, 2, equal, term, 0, 0, 0, 0, 0];
+    asked(name, header, plot, &query, candidate, budget);
 }
 
 // Sheet 0 has the row (201), sheet 1 the row (m1).
 const CHANNELS: [u32; 4] = [0, 201, 1, 1_000_001];
 
-fn channels(name: &[u8], query: &[u32], candidate: &[u32], budget: u32) {
-    asked(name, two_sheets(4), &CHANNELS, query, candidate, budget);
+fn channels(name: &[u8], query: &[u32], candidate: &[u32]) {
+    asked(name, two_sheets(1, 1, 4), &CHANNELS, query, candidate, 0);
 }
 
 // The candidate stands in sheet 0 and not in sheet 1.
@@ -68,23 +74,28 @@ const WITHOUT: [[u32; 8]; 7] = [
 ];
 
 fn without(name: &[u8], plot: &[u32], budget: u32) {
-    one(name, two_sheets(4), plot, WITHOUT, 4, &[201], budget);
+    one(name, two_sheets(1, 1, 4), plot, WITHOUT, 4, &[201], budget);
+}
+
+// The same within a budget.
+fn within(name: &[u8], budget: u32) {
+    without(name, &CHANNELS, budget);
 }
 
 // The same after a fill of mark 1.
 fn filled(name: &[u8], cell: u32) {
     let mut plot = CHANNELS;
-    substitute(two_sheets(4), &mut plot, 1, cell);
+    substitute(two_sheets(1, 1, 4), &mut plot, 1, cell);
     without(name, &plot, 100);
 }
 
 // Reading 6, before and after fills, and reading 11.
 pub fn in_one_sheet_only() {
-    without(b"201 in sheet 0 and not in 1", &CHANNELS, 100);
+    within(b"201 in sheet 0 and not in 1", 100);
     filled(b"after m1 by 201", 201);
     filled(b"after m1 by 202", 202);
-    without(b"with 3 looks", &CHANNELS, 3);
-    without(b"with 4 looks", &CHANNELS, 4);
+    within(b"with 3 looks", 3);
+    within(b"with 4 looks", 4);
 }
 
 // Reading 7: sheet 0 without (sheet 0 without sheet 1).
@@ -100,7 +111,7 @@ pub fn without_twice() {
     ];
     one(
         b"201 in sheet 0 and not (in sheet 0 and not in 1)",
-        two_sheets(4),
+        two_sheets(1, 1, 4),
         &CHANNELS,
         nodes,
         7,
@@ -122,7 +133,7 @@ pub fn excluded_middle() {
     ];
     one(
         b"some x in the sheet and (x = 0 or not x = 0)",
-        one_sheet(2),
+        one_sheet(1, 2),
         &[0, 1_000_001],
         nodes,
         7,
@@ -131,81 +142,35 @@ pub fn excluded_middle() {
     );
 }
 
-// Reading 9, and a question over no rows with no look to spend.
+// x3 = x3 of no rows, with no look to spend.
+fn of_no_rows(name: &[u8], kind: u32) {
+    quantified(name, one_sheet(1, 0), &[], kind, 3, 2_000_003, &[], 0);
+}
+
+// Reading 9.
 pub fn no_rows() {
-    let some = [
-        6u32,
-        3,
-        1,
-        0,
-        0,
-        0,
-        0,
-        0,
-        2,
-        2_000_003,
-        2_000_003,
-        0,
-        0,
-        0,
-        0,
-        0,
-    ];
-    let every = [
-        7u32,
-        3,
-        1,
-        0,
-        0,
-        0,
-        0,
-        0,
-        2,
-        2_000_003,
-        2_000_003,
-        0,
-        0,
-        0,
-        0,
-        0,
-    ];
-    asked(b"no rows: some x, x = x", one_sheet(0), &[], &some, &[], 0);
-    asked(
-        b"no rows: every x, x = x",
-        one_sheet(0),
-        &[],
-        &every,
-        &[],
-        0,
-    );
+    of_no_rows(b"no rows: some x, x = x", SOME);
+    of_no_rows(b"no rows: every x, x = x", EVERY);
+}
+
+// Every x is 7, of two rows of one cell.
+fn sevens(name: &[u8], plot: &[u32]) {
+    quantified(name, one_sheet(1, 4), plot, EVERY, 0, 7, &[], 100);
 }
 
 // Reading 10: the values stand in their order, each once.
 pub fn every_is_seven() {
-    let query = [7u32, 0, 1, 0, 0, 0, 0, 0, 2, 2_000_000, 7, 0, 0, 0, 0, 0];
     let mut plot = [0u32, 1_000_001, 0, 8];
-    asked(
-        b"rows (m1), (8): every x, x = 7",
-        one_sheet(4),
-        &plot,
-        &query,
-        &[],
-        100,
-    );
-    substitute(one_sheet(4), &mut plot, 1, 8);
-    asked(b"after m1 by 8", one_sheet(4), &plot, &query, &[], 100);
+    sevens(b"rows (m1), (8): every x, x = 7", &plot);
+    substitute(one_sheet(1, 4), &mut plot, 1, 8);
+    sevens(b"after m1 by 8", &plot);
 }
 
 // The candidate, asked of a sheet of two columns with one row.
 fn pair(name: &[u8], row: [u32; 2], candidate: [u32; 2]) {
-    let header = Header {
-        relations: 1,
-        arities: [2, 0, 0, 0, 0, 0, 0, 0],
-        used: 3,
-    };
     let plot = [0u32, row[0], row[1]];
     let query = [1u32, 0, 2_000_000, 2_000_001, 0, 0, 0, 0];
-    asked(name, header, &plot, &query, &candidate, 100);
+    asked(name, one_sheet(2, 3), &plot, &query, &candidate, 100);
 }
 
 // Rows are unified as a whole: (1, m1) and (m1, 2) are not one row.
@@ -230,13 +195,15 @@ pub fn whole_rows() {
 
 // The nearest quantifier binds, also before the candidate.
 pub fn bound_again() {
+    let header = one_sheet(1, 4);
     let plot = [0u32, 1, 0, 2];
-    let hides = [6u32, 0, 1, 0, 0, 0, 0, 0, 2, 2_000_000, 2, 0, 0, 0, 0, 0];
-    asked(
+    quantified(
         b"some x: x = 2, with x = 5 in the candidate",
-        one_sheet(4),
+        header,
         &plot,
-        &hides,
+        SOME,
+        0,
+        2,
         &[5],
         100,
     );
@@ -251,7 +218,7 @@ pub fn bound_again() {
     ];
     one(
         b"every x: (some x: x = 2) and not x = 2",
-        one_sheet(4),
+        header,
         &plot,
         again,
         6,
@@ -260,30 +227,37 @@ pub fn bound_again() {
     );
 }
 
+// A question of n words and a candidate of so many cells, the same in each: the nodes would be refused too.
+fn misfit(name: &[u8], n: usize, cells: usize, cell: u32)
+    requires { ⌜ (n ≤ 8) × (cells ≤ 7) ⌝ }
+{
+    let words = [1u32; 8];
+    let candidate = [cell; 7];
+    channels(name, &words[..n], &candidate[..cells]);
+}
+
 // Refusals that come before the nodes.
 pub fn refused() {
-    let nothing = [0u32; 8];
-    let seven = [1u32; 7];
     asked(
         b"an unsound plot and no question",
-        two_sheets(3),
+        two_sheets(1, 1, 3),
         &CHANNELS,
         &[],
         &[201],
         0,
     );
-    channels(b"no question", &[], &[1_000_000], 0);
-    channels(b"7 words", &seven, &[201], 0);
-    channels(b"a candidate of 7", &nothing, &seven, 0);
-    channels(b"a candidate that is no cell", &nothing, &[1_000_000], 0);
+    misfit(b"no question", 0, 1, 1_000_000);
+    misfit(b"7 words", 7, 1, 201);
+    misfit(b"a candidate of 7", 8, 7, 1);
+    misfit(b"a candidate that is no cell", 8, 1, 1_000_000);
 }
 
 // A question of one node.
 fn node(name: &[u8], words: [u32; 8]) {
-    channels(name, &words, &[201], 0);
+    channels(name, &words, &[201]);
 }
 
-// Refusals of a node, and a list that is too short.
+// Refusals of a node.
 pub fn refused_nodes() {
     node(b"kind 0", NONE);
     node(
@@ -301,9 +275,20 @@ pub fn refused_nodes() {
     node(b"no such term", [1, 1, 2_000_016, 0, 0, 0, 0, 0]);
     node(b"a node that is its own child", [3, 0, 0, 0, 0, 0, 0, 0]);
     node(b"variable 16 quantified", [6, 16, 0, 0, 0, 0, 0, 0]);
+}
+
+// A working list that is too short.
+pub fn short_list() {
     let mut short = [9u32];
     let query = [1u32, 0, 2_000_000, 0, 0, 0, 0, 0];
-    let answer = ask(two_sheets(4), &CHANNELS, &query, &[201], &mut short, 0);
+    let answer = ask(
+        two_sheets(1, 1, 4),
+        &CHANNELS,
+        &query,
+        &[201],
+        &mut short,
+        0,
+    );
     show::asked(b"a list of 1 word for 2 cells", answer);
     show::words(&short);
 }

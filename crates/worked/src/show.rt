@@ -39,79 +39,86 @@ fn hex_items(list: &[u8]) {
     }
 }
 
-pub fn answer(name: &[u8], a: Answer) {
-    text(name);
-    match a {
-        Answer::Done(n) => {
-            text(b": done");
-            item(n);
-        }
-        Answer::Refused(why) => {
-            text(b": refused");
-            item(why);
-        }
-    }
+fn end() {
     text(b"\n");
+}
+
+// The start of an answer's line.
+fn named(name: &[u8]) {
+    text(name);
+    text(b":");
+}
+
+fn told(word: &[u8], n: u32) {
+    text(word);
+    item(n);
+}
+
+fn refusal(why: u32) {
+    told(b" refused", why);
+}
+
+pub fn answer(name: &[u8], a: Answer) {
+    named(name);
+    match a {
+        Answer::Done(n) => told(b" done", n),
+        Answer::Refused(why) => refusal(why),
+    }
+    end();
 }
 
 pub fn words(list: &[u32]) {
     text(b"  words");
     items(list);
-    text(b"\n");
+    end();
 }
 
 pub fn bytes(list: &[u8]) {
     text(b"  bytes");
     hex_items(list);
-    text(b"\n");
+    end();
 }
 
 pub fn header(h: Header) {
     let arities = h.arities;
-    text(b"  relations");
-    item(h.relations);
+    told(b"  relations", h.relations);
     text(b" arities");
     items(&arities);
-    text(b" used");
-    item(h.used);
-    text(b"\n");
+    told(b" used", h.used);
+    end();
+}
+
+pub fn plot(h: Header, list: &[u32]) {
+    header(h);
+    words(list);
 }
 
 fn verdict(truth: Truth, looks: u32) {
     match truth {
-        Truth::False => text(b" false"),
-        Truth::Unknown => text(b" unknown"),
-        Truth::True => text(b" true"),
+        Truth::False => told(b" false", looks),
+        Truth::Unknown => told(b" unknown", looks),
+        Truth::True => told(b" true", looks),
     }
-    item(looks);
 }
 
 pub fn asked(name: &[u8], a: Asked) {
-    text(name);
-    text(b":");
+    named(name);
     match a {
         Asked::Verdict(truth, looks) => verdict(truth, looks),
-        Asked::Refused(why) => {
-            text(b" refused");
-            item(why);
-        }
+        Asked::Refused(why) => refusal(why),
     }
-    text(b"\n");
+    end();
 }
 
 pub fn reran(name: &[u8], r: Reran) {
-    text(name);
-    text(b":");
+    named(name);
     match r {
         Reran::Verdicts(truth_a, looks_a, truth_b, looks_b) => {
             verdict(truth_a, looks_a);
             text(b", then");
             verdict(truth_b, looks_b);
         }
-        Reran::Refused(why) => {
-            text(b" refused");
-            item(why);
-        }
+        Reran::Refused(why) => refusal(why),
     }
-    text(b"\n");
+    end();
 }

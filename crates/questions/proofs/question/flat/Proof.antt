@@ -1,11 +1,11 @@
--- `cases::question::flat` meets its contract: every place is within its array. Assumes nothing.
+-- `questions::question::flat` meets its contract: every place is within its array. Assumes nothing.
 use Prim.Native.Nat.{ℕ, _-_, _≤_}
 use mathlib.Core.Path.{_≡_, _∙_}
 use native.Mathlib.Omega.{arith}
 use borrow.Author.Needs.{needs}
 use lib.ListN.{length, length-set, length-replicate}
-use Rattle.cases.proofs.question.flat.Statement.{statement}
-use Rattle.cases.proofs.question.flat.Tie as tie
+use Rattle.questions.proofs.question.flat.Statement.{statement}
+use Rattle.questions.proofs.question.flat.Tie as tie
 
 abbrev Inv-loop : tie.InvT-loop
 Inv-loop nodes words₀ i₀ words i = (i ≤ 56) × (length words ≡ 56)

@@ -1,9 +1,9 @@
--- `cases::show::hex_items` is safe and ends: the place stays within the list, and what is left of it falls. Assumes nothing.
+-- `worked::show::items` is safe and ends: the place stays within the list, and what is left of it falls. Assumes nothing.
 use Prim.Native.Nat.{_≤_, _-_}
 use borrow.Author.Needs.{needs}
 use lib.ListN.{length}
-use Rattle.cases.proofs.show.hex_items.Statement.{statement}
-use Rattle.cases.proofs.show.hex_items.Tie as tie
+use Rattle.worked.proofs.show.items.Statement.{statement}
+use Rattle.worked.proofs.show.items.Tie as tie
 
 abbrev Inv-loop : tie.InvT-loop
 Inv-loop list i₀ i = i ≤ length list
@@ -14,11 +14,14 @@ abbrev μ-loop : tie.MeasureT-loop
 loop-holds : tie.Need-loop-holds Inv-loop μ-loop
 loop-holds c = search needs
 
-shared-slice-read-hex-item : tie.Need-shared-slice-read-hex-item Inv-loop μ-loop
-shared-slice-read-hex-item c = search needs
+mul-item : tie.Need-mul-item Inv-loop μ-loop
+mul-item c = search needs
 
-hex-item-requires : tie.Need-hex-item-requires Inv-loop μ-loop
-hex-item-requires c κs = search needs
+shared-slice-read-item : tie.Need-shared-slice-read-item Inv-loop μ-loop
+shared-slice-read-item c = search needs
+
+item-requires : tie.Need-item-requires Inv-loop μ-loop
+item-requires c κs = search needs
 
 add-i : tie.Need-add-i Inv-loop μ-loop
 add-i c = search needs
@@ -32,15 +35,16 @@ loop-again c = search needs
 returns : tie.Need-returns Inv-loop μ-loop
 returns c = search needs
 
-pub hex-items-spec : {M : Type 1} → statement M
-hex-items-spec =
+pub items-spec : {M : Type 1} → statement M
+items-spec =
     tie.close
     (tie.spec
     Inv-loop
     μ-loop
     loop-holds
-    shared-slice-read-hex-item
-    hex-item-requires
+    mul-item
+    shared-slice-read-item
+    item-requires
     add-i
     loop-less
     loop-again

@@ -1,10 +1,10 @@
--- `cases::asking::one` meets its contract: so many nodes are within seven. Assumes nothing.
+-- `questions::asking::one` meets its contract: so many nodes are within seven. Assumes nothing.
 use mathlib.Core.Path.{sym}
 use native.Mathlib.Omega.{arith}
 use lib.Seq.{length-take-le}
 use borrow.Author.Needs.{needs}
-use Rattle.cases.proofs.asking.one.Statement.{statement}
-use Rattle.cases.proofs.asking.one.Tie as tie
+use Rattle.questions.proofs.asking.one.Statement.{statement}
+use Rattle.questions.proofs.asking.one.Tie as tie
 
 flat-requires : tie.Need-flat-requires
 flat-requires c κs = search needs

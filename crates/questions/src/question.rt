@@ -2,10 +2,10 @@
 ghost use mathlib.Core.Path.{_≡_};
 ghost use lib.ListN.{length};
 
-// A node behind the last one.
+// Words after the last node.
 pub const NONE: [u32; 8] = [0u32; 8];
 
-// The words of at most seven nodes, one behind the other.
+// The words of at most seven nodes, in their order.
 pub fn flat(nodes: [[u32; 8]; 7]) -> [u32; 56]
     ensures { λ r. ⌜ length r ≡ 56 ⌝ }
 {

@@ -1,0 +1,92 @@
+// Questions at the limits.
+ghost use mathlib.Core.Path.{_≡_};
+ghost use Prim.Native.Nat.{_≤_};
+ghost use lib.ListN.{length};
+use answer::ask::ask;
+use worked::plots::one_sheet;
+use worked::show;
+
+// n nodes "every x0", each with the next node as its child, and then a node that starts with the given words.
+fn chain(n: usize, last: [u32; 3]) -> [u32; 808]
+    requires { ⌜ n ≤ 100 ⌝ }
+    ensures { λ r. ⌜ length r ≡ 808 ⌝ }
+{
+    let mut query = [0u32; 808];
+    let mut i = 0;
+    while i < n {
+        query[i * 8] = 7;
+        query[i * 8 + 2] = (i + 1) as u32;
+        i += 1;
+    }
+    query[n * 8] = last[0];
+    query[n * 8 + 1] = last[1];
+    query[n * 8 + 2] = last[2];
+    query
+}
+
+// Asks that question of a sheet of one column, and shows the answer.
+fn chained(
+    name: &[u8],
+    n: usize,
+    last: [u32; 3],
+    used: u32,
+    plot: &[u32],
+    list: &mut [u32],
+    budget: u32,
+)
+    requires { ⌜ n ≤ 100 ⌝ }
+{
+    let query = chain(n, last);
+    let answer = ask(
+        one_sheet(1, used),
+        plot,
+        &query[..n * 8 + 8],
+        &[],
+        list,
+        budget,
+    );
+    show::asked(name, answer);
+}
+
+// x0 = x0
+const EQUAL: [u32; 3] = [2, 2_000_000, 2_000_000];
+
+// 99 quantifiers over one value make the deepest question; with one more it is too long.
+pub fn deepest() {
+    let plot = [0u32, 5];
+    let mut list = [9u32; 1];
+    chained(b"100 nodes", 99, EQUAL, 2, &plot, &mut list, 1);
+    chained(b"808 words", 100, EQUAL, 2, &plot, &mut list, 1);
+}
+
+// The row (0) stands in sheet 0.
+const ATOM: [u32; 3] = [1, 0, 0];
+
+const MOST: u32 = 4_294_967_295;
+
+// A full plot with the values 0 and 1, each of the 2,048 rows a look.
+pub fn full() {
+    let mut plot = [0u32; 4096];
+    plot[4095] = 1;
+    let mut list = [9u32; 2048];
+    chained(
+        b"2 to the 20 atoms of 2,049 looks",
+        20,
+        ATOM,
+        4096,
+        &plot,
+        &mut list,
+        MOST,
+    );
+    chained(
+        b"looks beyond 32 bits",
+        21,
+        ATOM,
+        4096,
+        &plot,
+        &mut list,
+        MOST,
+    );
+    let some = [list[0], list[1], list[2], list[2047]];
+    show::words(&some);
+}

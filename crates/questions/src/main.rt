@@ -1,0 +1,23 @@
+// Worked questions, and worked reruns; the file stdout has what this prints.
+mod asking;
+mod limits;
+mod question;
+mod rerunning;
+
+fn main() {
+    asking::in_one_sheet_only();
+    asking::without_twice();
+    asking::excluded_middle();
+    asking::no_rows();
+    asking::every_is_seven();
+    asking::whole_rows();
+    asking::bound_again();
+    asking::refused();
+    asking::refused_nodes();
+    asking::short_list();
+    limits::deepest();
+    limits::full();
+    rerunning::settled();
+    rerunning::lists_of_fills();
+    rerunning::refused();
+}

@@ -1,0 +1,21 @@
+// The headers of the plots. Only this file builds one by its fields, so a new field of `Header` changes no worked input.
+use instance::header::Header;
+
+// Any header, also one that is unsound with every plot.
+pub fn sheets(relations: u32, arities: [u32; 8], used: u32) -> Header {
+    Header {
+        relations,
+        arities,
+        used,
+    }
+}
+
+// One sheet.
+pub fn one_sheet(columns: u32, used: u32) -> Header {
+    sheets(1, [columns, 0, 0, 0, 0, 0, 0, 0], used)
+}
+
+// Two sheets.
+pub fn two_sheets(first: u32, second: u32, used: u32) -> Header {
+    sheets(2, [first, second, 0, 0, 0, 0, 0, 0], used)
+}
