@@ -14,27 +14,29 @@ fn enter(name: &[u8], header: Header, plot: &mut [u32], relation: u32, cells: &[
     stored.header
 }
 
+// Enters a row of one cell into sheet 0.
+fn enter_cell(name: &[u8], header: Header, plot: &mut [u32], cell: u32) -> Header {
+    enter(name, header, plot, 0, &[cell])
+}
+
 pub fn rows() {
     let mut plot = [7u32; 7];
-    let one = [999_999u32];
     let pair = [1_000_200u32, 1_000_001];
-    let first = enter(
+    let first = enter_cell(
         b"a row of one cell",
         two_sheets(1, 2, 0),
         &mut plot,
-        0,
-        &one,
+        999_999,
     );
     let second = enter(b"a row of two marks", first, &mut plot, 1, &pair);
     show::plot(second, &plot);
-    let third = enter(
+    let third = enter_cell(
         b"two words more, which fill the slice",
         second,
         &mut plot,
-        0,
-        &one,
+        999_999,
     );
-    let last = enter(b"no room for another", third, &mut plot, 0, &one);
+    let last = enter_cell(b"no room for another", third, &mut plot, 999_999);
     show::plot(last, &plot);
 }
 
@@ -60,8 +62,7 @@ pub fn refused() {
 // Enters a row that fits, into a plot with the given header and words.
 fn unsound(name: &[u8], relations: u32, arities: [u32; 8], used: u32, words: [u32; 4]) {
     let mut plot = words;
-    let one = [5u32];
-    enter(name, sheets(relations, arities, used), &mut plot, 0, &one);
+    enter_cell(name, sheets(relations, arities, used), &mut plot, 5);
 }
 
 pub fn unsound_headers() {
@@ -133,15 +134,8 @@ fn repeat(header: Header, plot: &mut [u32], cells: &[u32], n: u32) -> Header {
 // Rows of two words until 4,096 are in use, and one more.
 pub fn until_full() {
     let mut plot = [0u32; 4098];
-    let one = [5u32];
-    let nearly = repeat(one_sheet(1, 0), &mut plot, &one, 2047);
-    let full = enter(
-        b"the row that makes 4,096 words",
-        nearly,
-        &mut plot,
-        0,
-        &one,
-    );
-    let last = enter(b"one row more", full, &mut plot, 0, &one);
+    let nearly = repeat(one_sheet(1, 0), &mut plot, &[5], 2047);
+    let full = enter_cell(b"the row that makes 4,096 words", nearly, &mut plot, 5);
+    let last = enter_cell(b"one row more", full, &mut plot, 5);
     show::header(last);
 }

@@ -14,11 +14,24 @@ const SOME: u32 = 6;
 const EVERY: u32 = 7;
 
 // Asks, and shows the answer and the working list that is left.
+fn listed(
+    name: &[u8],
+    header: Header,
+    plot: &[u32],
+    query: &[u32],
+    candidate: &[u32],
+    list: &mut [u32],
+    budget: u32,
+) {
+    let answer = ask(header, plot, query, candidate, list, budget);
+    show::asked(name, answer);
+    show::words(list);
+}
+
+// The same with a list that no question here fills.
 fn asked(name: &[u8], header: Header, plot: &[u32], query: &[u32], candidate: &[u32], budget: u32) {
     let mut list = [9u32; 4];
-    let answer = ask(header, plot, query, candidate, &mut list, budget);
-    show::asked(name, answer);
-    show::words(&list);
+    listed(name, header, plot, query, candidate, &mut list, budget);
 }
 
 // A question of n nodes.
@@ -227,7 +240,7 @@ pub fn bound_again() {
     );
 }
 
-// A question of n words and a candidate of so many cells, the same in each: the nodes would be refused too.
+// Asks n words that are no nodes, with a candidate whose cells are all the same.
 fn misfit(name: &[u8], n: usize, cells: usize, cell: u32)
     requires { ⌜ (n ≤ 8) × (cells ≤ 7) ⌝ }
 {
@@ -281,7 +294,8 @@ pub fn refused_nodes() {
 pub fn short_list() {
     let mut short = [9u32];
     let query = [1u32, 0, 2_000_000, 0, 0, 0, 0, 0];
-    let answer = ask(
+    listed(
+        b"a list of 1 word for 2 cells",
         two_sheets(1, 1, 4),
         &CHANNELS,
         &query,
@@ -289,6 +303,4 @@ pub fn short_list() {
         &mut short,
         0,
     );
-    show::asked(b"a list of 1 word for 2 cells", answer);
-    show::words(&short);
 }

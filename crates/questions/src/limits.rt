@@ -14,13 +14,15 @@ fn chain(n: usize, last: [u32; 3]) -> [u32; 808]
     let mut query = [0u32; 808];
     let mut i = 0;
     while i < n {
-        query[i * 8] = 7;
-        query[i * 8 + 2] = (i + 1) as u32;
+        let at = i * 8;
         i += 1;
+        query[at] = 7;
+        query[at + 2] = i as u32;
     }
-    query[n * 8] = last[0];
-    query[n * 8 + 1] = last[1];
-    query[n * 8 + 2] = last[2];
+    let end = n * 8;
+    query[end] = last[0];
+    query[end + 1] = last[1];
+    query[end + 2] = last[2];
     query
 }
 

@@ -1,4 +1,4 @@
-// Run A, fills, run B: what both runs answer, and what is left of the plot, the candidate, the list and the fills' answers.
+// Run A, fills, run B: both verdicts, and what is left of the plot, the candidate, the list and the answers to the fills.
 use rerun::rerun::rerun;
 use worked::plots::one_sheet;
 use worked::show;

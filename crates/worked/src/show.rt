@@ -1,4 +1,4 @@
-// What the calls answer, as lines of text.
+// What the calls return, as lines of text.
 use answer::asked::Asked;
 use calculus::answer::Answer;
 use calculus::truth::Truth;

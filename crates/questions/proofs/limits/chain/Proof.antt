@@ -1,6 +1,7 @@
 -- `questions::limits::chain` meets its contract: each node's words are within the question, and the links that are left fall. Assumes nothing.
 use Prim.Native.Nat.{_≤_, _-_}
 use mathlib.Core.Path.{_≡_}
+use native.Mathlib.Omega.{arith}
 use borrow.Author.Needs.{needs}
 use lib.ListN.{length}
 use Rattle.questions.proofs.limits.chain.Statement.{statement}
@@ -15,50 +16,44 @@ abbrev μ-loop : tie.MeasureT-loop
 loop-holds : tie.Need-loop-holds Inv-loop μ-loop
 loop-holds c = search needs
 
-mul-query : tie.Need-mul-query Inv-loop μ-loop
-mul-query c = search needs
+mul-at : tie.Need-mul-at Inv-loop μ-loop
+mul-at c = omega arith
 
-mul-query-2 : tie.Need-mul-query-2 Inv-loop μ-loop
-mul-query-2 c = search needs
+add-i : tie.Need-add-i Inv-loop μ-loop
+add-i c = omega arith
+
+mul-query : tie.Need-mul-query Inv-loop μ-loop
+mul-query c = omega arith
 
 array-write-query : tie.Need-array-write-query Inv-loop μ-loop
 array-write-query c = search needs
 
-add-query : tie.Need-add-query Inv-loop μ-loop
-add-query c = search needs
-
 cast-query : tie.Need-cast-query Inv-loop μ-loop
-cast-query c = search needs
+cast-query c = omega arith
 
-mul-query-3 : tie.Need-mul-query-3 Inv-loop μ-loop
-mul-query-3 c = search needs
+add-query : tie.Need-add-query Inv-loop μ-loop
+add-query c = omega arith
 
-add-query-2 : tie.Need-add-query-2 Inv-loop μ-loop
-add-query-2 c = search needs
-
-mul-query-4 : tie.Need-mul-query-4 Inv-loop μ-loop
-mul-query-4 c = search needs
+mul-query-2 : tie.Need-mul-query-2 Inv-loop μ-loop
+mul-query-2 c = omega arith
 
 array-write-query-2 : tie.Need-array-write-query-2 Inv-loop μ-loop
 array-write-query-2 c = search needs
 
-add-i : tie.Need-add-i Inv-loop μ-loop
-add-i c = search needs
-
 loop-less : tie.Need-loop-less Inv-loop μ-loop
-loop-less c = search needs
+loop-less c = omega arith
 
 loop-again : tie.Need-loop-again Inv-loop μ-loop
 loop-again c = search needs
 
+mul-end : tie.Need-mul-end Inv-loop μ-loop
+mul-end c = omega arith
+
 array-read-query : tie.Need-array-read-query Inv-loop μ-loop
 array-read-query c = search needs
 
-mul-query-5 : tie.Need-mul-query-5 Inv-loop μ-loop
-mul-query-5 c = search needs
-
-mul-query-6 : tie.Need-mul-query-6 Inv-loop μ-loop
-mul-query-6 c = search needs
+mul-query-3 : tie.Need-mul-query-3 Inv-loop μ-loop
+mul-query-3 c = omega arith
 
 array-write-query-3 : tie.Need-array-write-query-3 Inv-loop μ-loop
 array-write-query-3 c = search needs
@@ -66,14 +61,11 @@ array-write-query-3 c = search needs
 array-read-query-2 : tie.Need-array-read-query-2 Inv-loop μ-loop
 array-read-query-2 c = search needs
 
-mul-query-7 : tie.Need-mul-query-7 Inv-loop μ-loop
-mul-query-7 c = search needs
+add-query-2 : tie.Need-add-query-2 Inv-loop μ-loop
+add-query-2 c = omega arith
 
-add-query-3 : tie.Need-add-query-3 Inv-loop μ-loop
-add-query-3 c = search needs
-
-mul-query-8 : tie.Need-mul-query-8 Inv-loop μ-loop
-mul-query-8 c = search needs
+mul-query-4 : tie.Need-mul-query-4 Inv-loop μ-loop
+mul-query-4 c = omega arith
 
 array-write-query-4 : tie.Need-array-write-query-4 Inv-loop μ-loop
 array-write-query-4 c = search needs
@@ -81,14 +73,11 @@ array-write-query-4 c = search needs
 array-read-query-3 : tie.Need-array-read-query-3 Inv-loop μ-loop
 array-read-query-3 c = search needs
 
-mul-query-9 : tie.Need-mul-query-9 Inv-loop μ-loop
-mul-query-9 c = search needs
+add-query-3 : tie.Need-add-query-3 Inv-loop μ-loop
+add-query-3 c = omega arith
 
-add-query-4 : tie.Need-add-query-4 Inv-loop μ-loop
-add-query-4 c = search needs
-
-mul-query-10 : tie.Need-mul-query-10 Inv-loop μ-loop
-mul-query-10 c = search needs
+mul-query-5 : tie.Need-mul-query-5 Inv-loop μ-loop
+mul-query-5 c = omega arith
 
 array-write-query-5 : tie.Need-array-write-query-5 Inv-loop μ-loop
 array-write-query-5 c = search needs
@@ -103,30 +92,26 @@ chain-spec =
     Inv-loop
     μ-loop
     loop-holds
-    mul-query
-    mul-query-2
-    array-write-query
-    add-query
-    cast-query
-    mul-query-3
-    add-query-2
-    mul-query-4
-    array-write-query-2
+    mul-at
     add-i
+    mul-query
+    array-write-query
+    cast-query
+    add-query
+    mul-query-2
+    array-write-query-2
     loop-less
     loop-again
+    mul-end
     array-read-query
-    mul-query-5
-    mul-query-6
+    mul-query-3
     array-write-query-3
     array-read-query-2
-    mul-query-7
-    add-query-3
-    mul-query-8
+    add-query-2
+    mul-query-4
     array-write-query-4
     array-read-query-3
-    mul-query-9
-    add-query-4
-    mul-query-10
+    add-query-3
+    mul-query-5
     array-write-query-5
     returns)
