@@ -1,13 +1,10 @@
-// The headers of the plots. Only this file builds one by its fields, so a new field of `Header` changes no worked input.
+// The headers of the plots. No other file makes one, so a new field of `Header` changes no worked input.
 use instance::header::Header;
+use instance::header::header_with;
 
 // Any header, also one that is unsound with every plot.
 pub fn sheets(relations: u32, arities: [u32; 8], used: u32) -> Header {
-    Header {
-        relations,
-        arities,
-        used,
-    }
+    header_with(relations, arities, used)
 }
 
 // One sheet.
