@@ -1,4 +1,4 @@
--- `line::number::number` meets its contract. The loop's invariant: the bytes that are left, read behind the number so far, give the whole number.
+-- `parse::number::number` meets its contract. The loop's invariant: the bytes that are left, read behind the number so far, give the whole number.
 -- Assumes nothing.
 use Prim.Native.Nat.{suc, _+_, _*_, _-_, _^_, _≤_, _<_}
 use mathlib.Core.Path.{_≡_, _∙_}
@@ -7,10 +7,10 @@ use native.Mathlib.Omega.{arith}
 use borrow.Author.Needs.{needs}
 use lib.Dec.{lit<}
 use lib.ListN.{drop}
-use Rattle.line.specs.Number.{readDigits, readNumber}
-use Rattle.line.proofs.Reading.{digit-more}
-use Rattle.line.proofs.number.number.Statement.{statement}
-use Rattle.line.proofs.number.number.Tie as tie
+use Rattle.parse.specs.Number.{readDigits, readNumber}
+use Rattle.parse.proofs.Numbers.{digit-more}
+use Rattle.parse.proofs.number.number.Statement.{statement}
+use Rattle.parse.proofs.number.number.Tie as tie
 
 abbrev Inv-loop : tie.InvT-loop
 Inv-loop bytes at width number₀ left₀ number left =

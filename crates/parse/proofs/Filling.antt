@@ -1,32 +1,33 @@
--- Filling a list with the numbers that are read from a place on. Assumes nothing.
+-- Filling a list with the numbers that are read from index `at`. Assumes nothing.
 use Prim.Native.Nat.{ℕ, suc, _+_, _-_, _≤_, _<_}
 use mathlib.Core.Path.{_≡_, refl}
 use mathlib.Core.Bool.{true}
-use mathlib.Core.List.{List, _++_}
+use mathlib.Core.List.{List}
 use native.Mathlib.Nat.{sub-zero}
 use native.Mathlib.Omega.{arith}
 use lib.ListN.{length, drop, set, length-drop}
-use Rattle.card.specs.Parse.{read, isRead}
-use Rattle.card.proofs.Stores.{Written, begin, store, finish}
-use Rattle.line.specs.Number.{readNumber, readNumbers, numbersOf}
-use Rattle.line.proofs.Reading.{numbers-room, numbers-more, numbers-length}
+use Rattle.calculus.specs.Overwrite.{overwrite}
+use Rattle.calculus.specs.Reading.{read}
+use Rattle.calculus.proofs.Stores.{Written, begin, store, finish}
+use Rattle.parse.specs.Parse.{readEach, isRead}
+use Rattle.parse.specs.Number.{readNumber, readNumbers, numbersOf}
+use Rattle.parse.proofs.Each.{each-length}
+use Rattle.parse.proofs.Numbers.{numbers-room, numbers-more}
 
--- the first i numbers stand in `out`, which was `out₀`, and the next is read at place `next`
+-- the first i numbers stand in `out`, which was `out₀`, and the next is read at index `next`
 pub record Filling (width count at : ℕ) (bytes out₀ out : List ℕ) (next i : ℕ) : Type 0 where
   pub few : i ≤ count
   pub within : next ≤ length bytes
-  pub whole : length (numbersOf width count (drop at bytes)) ≡ count
   pub reads : isRead (readNumbers width (count - i) (drop next bytes)) ≡ true
   pub written : Written (numbersOf width count (drop at bytes)) (numbersOf width (count - i) (drop next bytes)) out₀ out i
 
 pub fill-start : (width count at : ℕ) (bytes out : List ℕ) → at ≤ length bytes → isRead (readNumbers width count (drop at bytes)) ≡ true → count ≤ length out
     → Filling width count at bytes out out at 0
 fill-start width count at bytes out within reads room =
-    let long : length (numbersOf width count (drop at bytes)) ≡ count = numbers-length width count (drop at bytes) reads in
+    let long : length (numbersOf width count (drop at bytes)) ≡ count = each-length (readNumber width) count (drop at bytes) reads in
     record {
       few = omega arith;
       within = within;
-      whole = long;
       reads = rw (sub-zero count) reads;
       written = rw (sub-zero count) (begin (numbersOf width count (drop at bytes)) out (omega arith));
     }
@@ -47,13 +48,12 @@ module _ {width count at : ℕ} {bytes out₀ out : List ℕ} {next i : ℕ} (f 
       record {
         few = omega arith;
         within = fill-room l;
-        whole = f .whole;
         reads = m .0;
         written = store (i + 1) refl (rw (left l, m .1) at (f .written));
       }
 
-  pub fill-end : count ≤ i → out ≡ numbersOf width count (drop at bytes) ++ drop count out₀
-  unfolding readNumbers
+  pub fill-end : count ≤ i → out ≡ overwrite (numbersOf width count (drop at bytes)) out₀
+  unfolding readEach
   fill-end l =
       let none : count - i ≡ 0 = omega arith in
-      rw (f .whole) at (finish (rw none at (f .written)))
+      finish (rw none at (f .written))

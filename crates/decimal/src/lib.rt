@@ -1,15 +1,15 @@
 // Numbers in decimal.
 ghost use mathlib.Core.Path.{_≡_};
-ghost use mathlib.Core.List.{_++_};
 ghost use Prim.Native.Nat.{_≤_};
-ghost use lib.ListN.{length, drop};
-ghost use Rattle.line.specs.Decimal.{digits};
+ghost use lib.ListN.{length};
+ghost use Rattle.calculus.specs.Overwrite.{overwrite};
+ghost use Rattle.decimal.specs.Decimal.{digits};
 
-// Writes a number's digits, without leading zeros, and answers how many they are.
+// Writes a number's digits, without leading zeros, and returns how many they are.
 pub fn decimal(out: &mut [u8], n: u32) -> usize
     requires { ⌜ length (digits n) ≤ length (now out) ⌝ }
     ensures count { λ r. ⌜ r ≡ length (digits n) ⌝ }
-    ensures bytes { λ r. ⌜ now (out .exit) ≡ digits n ++ drop (length (digits n)) (now (out .entry)) ⌝ }
+    ensures bytes { λ r. ⌜ now (out .exit) ≡ overwrite (digits n) (now (out .entry)) ⌝ }
 {
     if n < 10 {
         out[0] = (48 + n) as u8;

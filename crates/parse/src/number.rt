@@ -1,20 +1,21 @@
 // Numbers in bytes, high byte first.
 ghost use mathlib.Core.Path.{_≡_};
 ghost use mathlib.Core.Bool.{true};
-ghost use mathlib.Core.List.{_++_};
 ghost use Prim.Native.Nat.{_+_, _^_, _≤_, _<_};
 ghost use lib.ListN.{length, drop, getD};
-ghost use Rattle.card.specs.Parse.{read, isRead};
-ghost use Rattle.line.specs.Number.{readNumber, readNumbers, numbersOf};
+ghost use Rattle.calculus.specs.Overwrite.{overwrite};
+ghost use Rattle.calculus.specs.Reading.{read};
+ghost use Rattle.parse.specs.Parse.{isRead};
+ghost use Rattle.parse.specs.Number.{readNumber, readNumbers, numbersOf};
 
-fn byte(bytes: &[u8], at: usize) -> u32
+pub fn byte(bytes: &[u8], at: usize) -> u32
     requires { ⌜ at < length (now bytes) ⌝ }
     ensures { λ r. ⌜ (r ≡ getD (now (bytes .entry)) at 0) × (r < 256) ⌝ }
 {
     bytes[at] as u32
 }
 
-// The number in so many bytes from a place on.
+// The number in width bytes from index at.
 pub fn number(bytes: &[u8], at: usize, width: usize) -> u32
     requires narrow { ⌜ width ≤ 4 ⌝ }
     requires within { ⌜ at + width ≤ length (now bytes) ⌝ }
@@ -30,13 +31,13 @@ pub fn number(bytes: &[u8], at: usize, width: usize) -> u32
     number
 }
 
-// Writes so many numbers, read from a place on, to the front of a list.
+// Writes count numbers of width bytes each, which stand from index at, to the front of a list.
 pub fn numbers(out: &mut [u32], bytes: &[u8], at: usize, width: usize, count: usize)
     requires narrow { ⌜ width ≤ 4 ⌝ }
     requires within { ⌜ at ≤ length (now bytes) ⌝ }
     requires reads { ⌜ isRead (readNumbers width count (drop at (now bytes))) ≡ true ⌝ }
     requires room { ⌜ count ≤ length (now out) ⌝ }
-    ensures { λ _. ⌜ now (out .exit) ≡ numbersOf width count (drop at (now (bytes .entry))) ++ drop count (now (out .entry)) ⌝ }
+    ensures { λ _. ⌜ now (out .exit) ≡ overwrite (numbersOf width count (drop at (now (bytes .entry)))) (now (out .entry)) ⌝ }
 {
     let mut next = at;
     let mut i = 0;

@@ -8,7 +8,7 @@ use lib.Dec.{ltb}
 abbrev pub digit : ℕ → ℕ
 digit d = 48 + d
 
--- the digits of n, the last one behind those of n / 10; no number has more digits than it counts, so n steps suffice
+-- the digits of n, the last one after those of n / 10; no number has more digits than it counts, so n steps suffice
 unfoldable pub digitsIn : ℕ → ℕ → List ℕ
 digitsIn zero n = digit n ∷ []
 digitsIn (suc steps) n = cond (ltb n 10) (digit n ∷ []) (digitsIn steps (n / 10) ++ digit (n % 10) ∷ [])
@@ -16,3 +16,7 @@ digitsIn (suc steps) n = cond (ltb n 10) (digit n ∷ []) (digitsIn steps (n / 1
 -- without leading zeros; those of 0 are "0"
 abbrev pub digits : ℕ → List ℕ
 digits n = digitsIn n n
+
+-- no number of 32 bits has more
+abbrev pub maxDigits : ℕ
+maxDigits = 10

@@ -1,9 +1,9 @@
--- `line::number::numbers` meets its contract: the numbers so far stand in front, and those that are left are read behind them. Assumes nothing.
+-- `parse::number::numbers` meets its contract: the numbers so far stand in front, and those that are left are read behind them. Assumes nothing.
 use Prim.Native.Nat.{_-_}
 use native.Mathlib.Omega.{arith}
-use Rattle.line.proofs.Filling.{Filling, fill-start, fill-room, fill-more, fill-end}
-use Rattle.line.proofs.number.numbers.Statement.{statement}
-use Rattle.line.proofs.number.numbers.Tie as tie
+use Rattle.parse.proofs.Filling.{Filling, fill-start, fill-room, fill-more, fill-end}
+use Rattle.parse.proofs.number.numbers.Statement.{statement}
+use Rattle.parse.proofs.number.numbers.Tie as tie
 
 abbrev Inv-loop : tie.InvT-loop
 Inv-loop out₀ bytes at width count next₀ i₀ out next i = Filling width count at bytes out₀ out next i

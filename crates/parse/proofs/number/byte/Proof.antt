@@ -1,9 +1,9 @@
--- `line::number::byte` meets its contract: an element of the slice is a byte. Assumes nothing.
+-- `parse::number::byte` meets its contract: an element of the slice is a byte. Assumes nothing.
 use mathlib.Core.Path.{refl}
 use native.Mathlib.Omega.{arith}
 use borrow.Author.Needs.{needs}
-use Rattle.line.proofs.number.byte.Statement.{statement}
-use Rattle.line.proofs.number.byte.Tie as tie
+use Rattle.parse.proofs.number.byte.Statement.{statement}
+use Rattle.parse.proofs.number.byte.Tie as tie
 
 shared-slice-read-result : tie.Need-shared-slice-read-result
 shared-slice-read-result c = search needs

@@ -1,17 +1,17 @@
--- `line::decimal::decimal` meets its contract: the digits of a number's tenth stand in front of its last digit. The measure is the number.
+-- `decimal::decimal` meets its contract: the digits of a number's tenth stand in front of its last digit. The measure is the number.
 -- Assumes nothing.
 use mathlib.Core.Path.{sym, ap}
 use native.Mathlib.Omega.{arith}
 use lib.ListN.{length, length-set}
-use Rattle.line.proofs.Digits.{digits-one, length-more, write-one, write-more}
+use Rattle.decimal.proofs.Digits.{digits-one, length-more, write-one, write-more}
 use Prim.Native.Nat.{ℕ, _<_}
 use borrow.Fn.Kinds.{In}
 use borrow.Fn.PlainCycle.{Measures, is, falls, and}
-use Rattle.line.proofs.decimal.decimal.Reads as decimal
-use Rattle.line.proofs.decimal.decimal.Kinds as decimal-kinds
-use Rattle.line.proofs.decimal.+decimal.Lts-decimal as decimal-lts
-use Rattle.line.proofs.decimal.+decimal.{statement}
-use Rattle.line.proofs.decimal.+decimal.Tie.{close}
+use Rattle.decimal.proofs.decimal.Reads as decimal
+use Rattle.decimal.proofs.decimal.Kinds as decimal-kinds
+use Rattle.decimal.proofs.+decimal.Lts-decimal as decimal-lts
+use Rattle.decimal.proofs.+decimal.{statement}
+use Rattle.decimal.proofs.+decimal.Tie.{close}
 
 abbrev μ-decimal : Measures 1 decimal-kinds.ps ℕ
 μ-decimal κs a = a .1 .0

@@ -8,8 +8,9 @@ use native.Mathlib.Omega.{arith}
 use borrow.Author.Tests.{lt-ltb, le-ltb, ltb-true, ltb-false}
 use lib.ListN.{length, drop, set, length-append}
 use lib.Dec.{ltb}
-use Rattle.line.specs.Decimal.{digit, digitsIn, digits}
-use Rattle.line.proofs.Writing.{set-behind}
+use Rattle.calculus.specs.Overwrite.{overwrite}
+use Rattle.calculus.proofs.Stores.{overwrite-next}
+use Rattle.decimal.specs.Decimal.{digit, digitsIn, digits, maxDigits}
 
 -- any number of steps that suffices gives the same digits
 same-digits : (f g n : ℕ) → n ≤ f → n ≤ g → digitsIn f n ≡ digitsIn g n
@@ -29,7 +30,7 @@ unfolding digitsIn
 digits-more zero l = absurd (omega arith)
 digits-more (suc n) l = rw (le-ltb (suc n) 10 l, same-digits n (suc n / 10) (suc n / 10) (omega arith) (omega arith))
 
-digits-within : (k n : ℕ) → n < 10 ^ suc k → length (digits n) ≤ suc k
+pub digits-within : (k n : ℕ) → n < 10 ^ suc k → length (digits n) ≤ suc k
 digits-within zero n l = rw (digits-one n (omega arith)) (omega arith)
 digits-within (suc k) n l = go (ltb n 10) refl (digits-within k (n / 10))
   where
@@ -40,12 +41,11 @@ digits-within (suc k) n l = go (ltb n 10) refl (digits-within k (n / 10))
         let few : length (digits (n / 10)) ≤ suc k = tenth (omega arith) in
         rw (digits-more n (ltb-false n 10 t), length-append) (omega arith)
 
--- a number of 32 bits has at most ten digits
-pub digits-ten : (n : ℕ) → n < 2 ^ 32 → length (digits n) ≤ 10
-digits-ten n l = digits-within 9 n (omega arith)
+pub digits-few : (n : ℕ) → n < 2 ^ 32 → length (digits n) ≤ maxDigits
+digits-few n l = digits-within 9 n (omega arith)
 
--- the digits in front of a list, written from the last on
-pub write-one : (n : ℕ) (out : List ℕ) → n < 10 → length (digits n) ≤ length out → set out 0 (digit n) ≡ digits n ++ drop (length (digits n)) out
+-- the digits in front of a list, the last of them written last
+pub write-one : (n : ℕ) (out : List ℕ) → n < 10 → length (digits n) ≤ length out → set out 0 (digit n) ≡ overwrite (digits n) out
 write-one n out l room = go out (rw (digits-one n l) at room) ∙ rw (digits-one n l)
   where
     go : (out : List ℕ) → 1 ≤ length out → set out 0 (digit n) ≡ digit n ∷ drop 1 out
@@ -56,5 +56,5 @@ pub length-more : (n : ℕ) → 10 ≤ n → length (digits n) ≡ length (digit
 length-more n l = ap length (digits-more n l) ∙ length-append (digits (n / 10)) (digit (n % 10) ∷ [])
 
 pub write-more : (n : ℕ) (out : List ℕ) → 10 ≤ n → length (digits n) ≤ length out
-    → set (digits (n / 10) ++ drop (length (digits (n / 10))) out) (length (digits (n / 10))) (digit (n % 10)) ≡ digits n ++ drop (length (digits n)) out
-write-more n out l room = set-behind (digits (n / 10)) out (digit (n % 10)) (omega (arith, length-more n l)) ∙ rw (digits-more n l)
+    → set (overwrite (digits (n / 10)) out) (length (digits (n / 10))) (digit (n % 10)) ≡ overwrite (digits n) out
+write-more n out l room = overwrite-next (digits (n / 10)) out (digit (n % 10)) (omega (arith, length-more n l)) ∙ rw (digits-more n l)

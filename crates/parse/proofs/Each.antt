@@ -1,0 +1,74 @@
+-- Reading n items, one after the other. Assumes nothing.
+use Prim.Native.Nat.{ℕ, zero, suc, _≤_}
+use mathlib.Core.Path.{_≡_, refl, ap, _∙_}
+use mathlib.Core.Bool.{true}
+use mathlib.Core.List.{List, [], _∷_}
+use native.Mathlib.Omega.{arith}
+use lib.ListN.{length}
+use Rattle.calculus.specs.Reading.{read, refused, andThen}
+use Rattle.calculus.proofs.Bools.{never}
+use Rattle.calculus.proofs.Reading.{then-read}
+use Rattle.parse.specs.Parse.{Parsed, readEach, isRead, got}
+
+-- one item before others
+abbrev consed : {A : Type 0} → A → Parsed (List A) → Parsed (List A)
+consed x p = andThen p (λ xs bs. read (x ∷ xs) bs)
+
+consed-read : {A : Type 0} (x : A) (p : Parsed (List A)) → isRead (consed x p) ≡ true → (isRead p ≡ true) × (got [] (consed x p) ≡ x ∷ got [] p)
+consed-read x (read xs bs) e = (refl, refl)
+consed-read x (refused r) e = never e
+
+read-consed : {A : Type 0} (x : A) (p : Parsed (List A)) → isRead p ≡ true → isRead (consed x p) ≡ true
+read-consed x (read xs bs) e = refl
+read-consed x (refused r) e = e
+
+module _ {A : Type 0} (item : List ℕ → Parsed A) where
+  -- What holds of no items, and of an item before others of which it holds, holds of all that are read: P of their number, the bytes, the items and the
+  -- bytes after them.
+  pub each-read :
+      (P : ℕ → List ℕ → List A → List ℕ → Type 0) → ((bs : List ℕ) → P 0 bs [] bs) →
+      ((n : ℕ) (bs : List ℕ) (x : A) (between : List ℕ) (xs : List A) (rest : List ℕ) → item bs ≡ read x between → P n between xs rest → P (suc n) bs (x ∷ xs) rest) →
+      (n : ℕ) (bs : List ℕ) {xs : List A} {rest : List ℕ} → readEach item n bs ≡ read xs rest → P n bs xs rest
+  unfolding readEach
+  each-read P none more zero bs {xs} {rest} e =
+      let empty : xs ≡ [] = cc in
+      let all : rest ≡ bs = cc in
+      rw (empty, all) (none bs)
+  each-read P none more (suc n) bs {xs} {rest} e =
+      let a = then-read (item bs) _ e in
+      let b = then-read (readEach item n (a .state)) _ (a .second) in
+      let items : a .value ∷ b .value ≡ xs = cc (b .second) in
+      let end : b .state ≡ rest = cc (b .second) in
+      rw (items, end) at (more n bs _ _ _ _ (a .first) (each-read P none more n (a .state) (b .first)))
+
+  -- the first of the items that are read, and the others
+  pub record First (n : ℕ) (bs : List ℕ) : Type 0 where
+    pub one : A
+    pub between : List ℕ
+    pub was-read : item bs ≡ read one between
+    pub reads : isRead (readEach item n between) ≡ true
+    pub items : got [] (readEach item (suc n) bs) ≡ one ∷ got [] (readEach item n between)
+
+  pub first-read : (n : ℕ) (bs : List ℕ) → isRead (readEach item (suc n) bs) ≡ true → First n bs
+  unfolding readEach
+  first-read n bs = go (item bs) refl
+    where
+      go : (p : Parsed A) → item bs ≡ p → isRead (andThen p (λ x bs. consed x (readEach item n bs))) ≡ true → First n bs
+      go (read x between) e h =
+          let c = consed-read x (readEach item n between) h in
+          record { one = x; between = between; was-read = e; reads = c .0; items = rw e (c .1) }
+      go (refused r) e h = never h
+
+  pub each-length : (n : ℕ) (bs : List ℕ) → isRead (readEach item n bs) ≡ true → length (got [] (readEach item n bs)) ≡ n
+  unfolding readEach
+  each-length zero bs e = refl
+  each-length (suc n) bs e = let f = first-read n bs e in ap length (f .items) ∙ ap suc (each-length n (f .between) (f .reads))
+
+  -- if items are read, so are fewer
+  pub each-fewer : (few n : ℕ) (bs : List ℕ) → few ≤ n → isRead (readEach item n bs) ≡ true → isRead (readEach item few bs) ≡ true
+  unfolding readEach
+  each-fewer zero n bs l e = refl
+  each-fewer (suc few) zero bs l e = absurd (omega arith)
+  each-fewer (suc few) (suc n) bs l e =
+      let f = first-read n bs e in
+      rw (f .was-read) (read-consed (f .one) (readEach item few (f .between)) (each-fewer few n (f .between) (omega arith) (f .reads)))

@@ -1,0 +1,4 @@
+pub mod Bytes
+pub mod Each
+pub mod Numbers
+pub mod Filling
