@@ -1,6 +1,6 @@
 -- What the writer's answer says: the size of a card, and the card as its head and its records. Assumes nothing.
 use Prim.Native.Nat.{ℕ, _+_, _-_, _*_, _/_, _%_, _≤_, _<_}
-use mathlib.Core.Path.{_≡_, sym, _∙_}
+use mathlib.Core.Path.{_≡_, sym, _∙_, ap}
 use mathlib.Core.Bool.{true, false}
 use mathlib.Core.List.{List, [], _∷_, _++_, append-assoc}
 use native.Mathlib.Omega.{arith}
@@ -20,12 +20,14 @@ use Rattle.instance.specs.Sound.{sound, rows}
 use Rattle.instance.proofs.Rows.{headed}
 use Rattle.card.specs.Encode.{headBytes, recordsBytes, cardBytes, encoded, encodedBytes}
 use Rattle.instance.proofs.Parts.{part-to-end, put-to-end}
-use Rattle.encode.proofs.RecordSteps.{records-bytes, records-size}
+use Rattle.encode.proofs.RecordSteps.{records-size}
+use Rattle.instance.proofs.Sound.{sound-gives}
+use Rattle.calculus.specs.Overwrite.{overwrite}
 
--- a head, and then records in the part behind it, over the first elements of a list
+-- a head, and then records in the part after it, over the first elements of a list
 pub joined : (head records out : List ℕ) (start : ℕ) (lent back : List ℕ) → length head ≡ start → start + length records ≤ length out
-    → lent ≡ head ++ drop start out → back ≡ records ++ drop (length records) (take (length lent - start) (drop start lent))
-    → putMid start (length lent - start) lent back ≡ (head ++ records) ++ drop (length (head ++ records)) out
+    → lent ≡ head ++ drop start out → back ≡ overwrite records (take (length lent - start) (drop start lent))
+    → putMid start (length lent - start) lent back ≡ overwrite (head ++ records) out
 joined head records out start lent back e l p q =
     let behind : drop start lent ≡ drop start out = rw p (drop-at head (drop start out) start e) in
     let front : take start lent ≡ head = rw p (take-at head (drop start out) start e) in
@@ -37,29 +39,23 @@ joined head records out start lent back e l p q =
 module _ (h : Header) (ws : List ℕ) (s : sound h ws ≡ true) (eight : length (h .arities) ≡ maxRelations) where
   pub head-size : length (headBytes h (length (rows h ws))) ≡ h .relations + 3
   head-size =
-      let few = headed (h .relations) (h .arities) (parts h ws s .header) .few in
+      let few = sound-gives h ws s .headed .few in
       simp (length-append, length-take) (omega arith)
 
   -- three bytes for each word in use, and one less for each row
   pub record-size : length (recordsBytes (rows h ws)) + length (rows h ws) ≡ 3 * h .used
-  unfolding rows
-  record-size =
-      let p = parts h ws s in
-      let us = take (h .used) ws in
-      let long : length us ≡ h .used = length-take-le (h .used) ws (p .within) in
-      rw (← records-bytes (h .relations) (h .arities) us (p .words)) (rw long at (records-size (h .arities) 0 us))
+  record-size = let g = sound-gives h ws s in omega (arith, records-size (rows h ws), ap length (g .words), g .in-use)
 
   pub card-size : length (cardBytes h (rows h ws)) ≡ h .relations + 3 + (3 * h .used - length (rows h ws))
   unfolding cardBytes
   card-size = rw length-append (omega (arith, head-size, record-size))
 
-  -- the head, and then the records in the part behind it, are the card
+  -- the head, and then the records in the part after it, are the card
   pub all-written : (out lent back : List ℕ) (count : ℕ) → length (rows h ws) ≡ count → length (cardBytes h (rows h ws)) ≤ length out
       → lent ≡ h .relations ∷ take (h .relations) (h .arities) ++ count / 256 % 256 ∷ count % 256 ∷ drop (h .relations + 3) out
-      → back ≡ recordsBytes (rows h ws)
-      ++ drop (length (recordsBytes (rows h ws))) (take (length lent - (h .relations + 3)) (drop (h .relations + 3) lent))
+      → back ≡ overwrite (recordsBytes (rows h ws)) (take (length lent - (h .relations + 3)) (drop (h .relations + 3) lent))
       → putMid (h .relations + 3) (length lent - (h .relations + 3)) lent back
-      ≡ cardBytes h (rows h ws) ++ drop (length (cardBytes h (rows h ws))) out
+      ≡ overwrite (cardBytes h (rows h ws)) out
   unfolding cardBytes
   all-written out lent back count e room p q =
       let start = h .relations + 3 in
@@ -82,7 +78,7 @@ module _ (h : Header) (ws out : List ℕ) where
 
   pub done : sound h ws ≡ true → length (cardBytes h (rows h ws)) ≤ length out
       → (Done (length (cardBytes h (rows h ws))) ≡ encoded h ws out)
-      × (cardBytes h (rows h ws) ++ drop (length (cardBytes h (rows h ws))) out ≡ encodedBytes h ws out)
+      × (overwrite (cardBytes h (rows h ws)) out ≡ encodedBytes h ws out)
   unfolding encoded encodedBytes
   done e l = let t = le-leb (length (cardBytes h (rows h ws))) (length out) l in (simp (e, t), simp (e, t))
 

@@ -2,13 +2,14 @@
 ghost use mathlib.Core.Path.{_≡_};
 ghost use mathlib.Core.Bool.{true};
 ghost use mathlib.Core.List.{_∷_, _++_};
-ghost use Prim.Native.Nat.{ℕ, _+_, _/_, _%_, _≤_};
+ghost use Prim.Native.Nat.{ℕ, _+_, _/_, _%_, _≤_, _<_, _*_};
 ghost use lib.ListN.{length, take, drop};
 ghost use Rattle.instance.specs.Header.{headerStands, arityOf, maxRelations, maxColumns};
 ghost use Rattle.instance.specs.Rows.{wordsStand, rowsFrom};
 ghost use Rattle.calculus.specs.Answer.{Tells};
 ghost use Rattle.instance.specs.Sound.{rows};
-ghost use Rattle.card.specs.Encode.{cardBytes, encoded, encodedBytes, recordsBytes};
+ghost use Rattle.card.specs.Encode.{cardBytes, encoded, encodedBytes, recordsBytes, fullMap, fieldsBytes};
+ghost use Rattle.calculus.specs.Overwrite.{overwrite};
 use calculus::answer::Answer;
 use calculus::refusal::OUTPUT_TOO_SHORT;
 use calculus::refusal::UNSOUND;
@@ -16,7 +17,7 @@ use instance::header::Header;
 use instance::scan::Scanned;
 use instance::scan::scan;
 
-// the map of a record whose every column is written, by its number of columns
+// the map of a record with every column written, by its number of columns
 const FULL_MAPS: [u8; 7] = [0, 1, 3, 7, 15, 31, 63];
 
 // The bytes before the records.
@@ -35,35 +36,45 @@ fn write_head(out: &mut [u8], relations: u32, arities: &[u32; 8], count: u32)
     out[n + 2] = (count % 256) as u8;
 }
 
-// The records of the rows that the words stand for, in one pass.
-fn write_records(out: &mut [u8], arities: &[u32; 8], words: &[u32])
-    requires { ⌜ ((r : ℕ) → arityOf (now arities) r ≤ maxColumns) ⌝ }
-    requires { ⌜ wordsStand maxRelations (now arities) 0 (now words) ≡ true ⌝ }
-    requires { ⌜ length (recordsBytes (rowsFrom (now arities) 0 (now words))) ≤ length (now out) ⌝ }
-    ensures { λ _. ⌜ now (out .exit) ≡ recordsBytes (rowsFrom (now (arities .entry)) 0 (now (words .entry))) ++ drop (length (recordsBytes (rowsFrom (now (arities .entry)) 0 (now (words .entry))))) (now (out .entry)) ⌝ }
+// The record of one row.
+fn write_record(out: &mut [u8], relation: u32, cells: &[u32])
+    requires { ⌜ (relation < maxRelations) × (length (now cells) ≤ maxColumns) × (2 + 3 * length (now cells) ≤ length (now out)) ⌝ }
+    ensures { λ _. ⌜ now (out .exit) ≡ overwrite (relation ∷ fullMap (length (now (cells .entry))) ∷ fieldsBytes (now (cells .entry))) (now (out .entry)) ⌝ }
 {
-    let mut left: u32 = 0;
-    let mut at = 0;
+    out[0] = relation as u8;
+    out[1] = FULL_MAPS[cells.len()];
+    let mut at = 2;
     let mut i = 0;
-    while i < words.len() {
-        let w = words[i];
-        if left == 0 {
-            left = arities[w as usize];
-            out[at] = w as u8;
-            out[at + 1] = FULL_MAPS[left as usize];
-            at += 2;
-        } else {
-            out[at] = (w / 65536 % 256) as u8;
-            out[at + 1] = (w / 256 % 256) as u8;
-            out[at + 2] = (w % 256) as u8;
-            at += 3;
-            left -= 1;
-        }
+    while i < cells.len() {
+        let c = cells[i];
+        out[at] = (c / 65536 % 256) as u8;
+        out[at + 1] = (c / 256 % 256) as u8;
+        out[at + 2] = (c % 256) as u8;
+        at += 3;
         i += 1;
     }
 }
 
-// Writes the card of an instance from the first byte on, and answers its number of bytes.
+// The records of the rows that the words stand for, row by row.
+fn write_records(out: &mut [u8], arities: &[u32; 8], words: &[u32])
+    requires { ⌜ ((r : ℕ) → arityOf (now arities) r ≤ maxColumns) ⌝ }
+    requires { ⌜ wordsStand maxRelations (now arities) 0 (now words) ≡ true ⌝ }
+    requires { ⌜ length (recordsBytes (rowsFrom (now arities) 0 (now words))) ≤ length (now out) ⌝ }
+    ensures { λ _. ⌜ now (out .exit) ≡ overwrite (recordsBytes (rowsFrom (now (arities .entry)) 0 (now (words .entry)))) (now (out .entry)) ⌝ }
+{
+    let mut at = 0;
+    let mut i = 0;
+    while i < words.len() {
+        let relation = words[i];
+        let first = i + 1;
+        let next = first + arities[relation as usize] as usize;
+        write_record(&mut out[at..], relation, &words[first..next]);
+        at += 2 + 3 * (next - first);
+        i = next;
+    }
+}
+
+// Writes the card of an instance from the first byte, and returns its number of bytes.
 pub fn encode(header: Header, plot: &[u32], out: &mut [u8]) -> Answer
     ensures answer { λ r. ⌜ r ≡ encoded header (now (plot .entry)) (now (out .entry)) ⌝ }
     ensures bytes { λ r. ⌜ now (out .exit) ≡ encodedBytes header (now (plot .entry)) (now (out .entry)) ⌝ }

@@ -1,5 +1,5 @@
 -- `encode::encode` meets its contract: the scan tells whether the instance is sound and how many rows it has, which gives the card's
--- size; the head and the records are written one behind the other. Assumes nothing.
+-- size; the head and the records are written one after the other. Assumes nothing.
 use Prim.Native.Nat.{ℕ, _+_, _-_, _*_, _≤_}
 use mathlib.Core.Path.{_≡_, sym, _∙_}
 use mathlib.Core.Bool.{true}
@@ -12,7 +12,7 @@ use Rattle.instance.specs.declared.header.Header.{Header}
 use Rattle.instance.specs.Header.{maxRelations}
 use Rattle.instance.specs.Sound.{sound, rows}
 use Rattle.instance.proofs.Rows.{headed}
-use Rattle.instance.proofs.Sound.{scanned-sound, scanned-unsound, scanned-rows}
+use Rattle.instance.proofs.Sound.{scanned-sound, scanned-unsound, scanned-rows, Sound, sound-gives}
 use Rattle.card.specs.Encode.{cardBytes}
 use Rattle.encode.proofs.RecordSteps.{more-stand}
 use Rattle.encode.proofs.Encoding.{all-written, record-size, card-size, refused-unsound, refused-short, done, encode-told}
@@ -20,11 +20,17 @@ use Rattle.encode.proofs.encode.Statement.{statement}
 use Rattle.encode.proofs.encode.Tie as tie
 
 module _ (c : tie.After-struct-known) where
+  abbrev start : tie.Start
+  start = c .before .before .before .before .before .before .before .before
+
   abbrev h : Header
-  h = c .before .before .before .before .before .before .before .before .args .header
+  h = start .args .header
 
   abbrev ws : List ℕ
-  ws = c .before .before .before .before .before .before .before .before .args .plot .now
+  ws = start .args .plot .now
+
+  abbrev out : List ℕ
+  out = start .args .out .now
 
   abbrev count : ℕ
   count = c .before .before .before .count .given .0 .0
@@ -35,6 +41,9 @@ module _ (c : tie.After-struct-known) where
   is-count : length (rows h ws) ≡ count
   is-count = scanned-rows h ws count (sym (c .before .before .before .before .before .scan .ensures .0) ∙ c .before .before .before .count .given .1)
 
+  abbrev given : Sound h ws
+  given = sound-gives h ws stands
+
   eight : length (h .arities) ≡ maxRelations
   eight = search needs
 
@@ -43,6 +52,10 @@ module _ (c : tie.After-struct-known) where
 
   is-size : length (cardBytes h (rows h ws)) ≡ size
   is-size = rw is-count at (card-size h ws stands eight)
+
+-- after the head was written
+abbrev begun : tie.After-write-head → tie.After-struct-known
+begun w = w .before .before .before .before
 
 scan-requires : tie.Need-scan-requires
 scan-requires c κs = search needs
@@ -83,7 +96,7 @@ returns-2 c = encode-told _ _ _ (refused-short _ _ _ (stands (c .before)) (omega
 write-head-requires : tie.Need-write-head-requires
 write-head-requires c κs =
     let b = c .before .before .before in
-    (parts (h b) (ws b) (stands b) .header, eight b, omega arith)
+    (given b .standing .header, eight b, omega arith)
 
 sub-write-records : tie.Need-sub-write-records
 sub-write-records c = search needs
@@ -95,27 +108,26 @@ part-write-records-end : tie.Need-part-write-records-end
 part-write-records-end c = search needs
 
 slice-aggregate-write-records : tie.Need-slice-aggregate-write-records
-slice-aggregate-write-records c = let b = c .before .before .before .before .before .before .before .before .before in sym (length-take-le (h b .used) (ws b) (parts (h b) (ws b) (stands b) .within))
+slice-aggregate-write-records c = sym (given (begun (c .before .before .before .before .before)) .in-use)
 
 write-records-requires : tie.Need-write-records-requires
 unfolding rows
 write-records-requires c κs =
-    let b = c .before .before .before .before .before .before .before .before .before in
-    let p = parts (h b) (ws b) (stands b) in
-    let few = headed (h b .relations) (h b .arities) (p .header) .few in (
-      headed (h b .relations) (h b .arities) (p .header) .narrow,
+    let w = c .before .before .before .before .before in
+    let b = begun w in
+    let g = given b in (
+      g .headed .narrow,
       (
-        more-stand (h b .relations) maxRelations (h b .arities) few 0 _ (p .words),
+        more-stand (h b .relations) maxRelations (h b .arities) (g .headed .few) 0 _ (g .standing .words),
         simp (length-take, length-drop)
-            (omega (arith, record-size (h b) (ws b) (stands b) (eight b), is-count b, c .before .before .before .before .before .write-head .kept .0, c .before .before .before .before .before .before .before .before .if1 .left)),
+            (omega (arith, record-size (h b) (ws b) (stands b) (eight b), is-count b, w .write-head .kept .0, w .before .before .before .if1 .left)),
       ),
     )
 
 cast-t25 : tie.Need-cast-t25
 cast-t25 c =
-    let b = c .before .before .before .before .before .before .before .before .before .before .before .before in
-    let p = parts (h b) (ws b) (stands b) in
-    omega (arith, p .few, headed (h b .relations) (h b .arities) (p .header) .few)
+    let g = given (begun (c .before .before .before .before .before .before .before .before)) in
+    omega (arith, g .few, g .headed .few)
 
 same-length : tie.Need-same-length
 same-length c = search needs
@@ -123,15 +135,14 @@ same-length c = search needs
 returns-3 : tie.Need-returns-3
 unfolding rows
 returns-3 c =
-    let b = c .before .before .before .before .before .before .before .before .before .before .before .before in
-    let out = c .before .before .before .before .before .before .before .before .before .before .before .before .before .before .before .before .before .before .before .before .args .out .now in
-    let room : length (cardBytes (h b) (rows (h b) (ws b))) ≤ length out = rw (is-size b) (c .before .before .before .before .before .before .before .before .before .before .before .if1 .left) in
-    let d = done (h b) (ws b) out (stands b) room in
-    encode-told (h b) (ws b) out (
+    let w = c .before .before .before .before .before .before .before .before in
+    let b = begun w in
+    let room : length (cardBytes (h b) (rows (h b) (ws b))) ≤ length (out b) = rw (is-size b) (w .before .before .before .if1 .left) in
+    let d = done (h b) (ws b) (out b) (stands b) room in
+    let records = c .before .before .write-records in
+    encode-told (h b) (ws b) (out b) (
       rw (is-size b) at (d .0),
-      all-written (h b) (ws b) (stands b) (eight b) out (c .before .before .before .before .before .before .before .before .write-head .last .0) (c .before .before .write-records .last .0) (count b) (is-count b) room
-          (c .before .before .before .before .before .before .before .before .write-head .ensures) (c .before .before .write-records .ensures)
-          ∙ d .1,
+      all-written (h b) (ws b) (stands b) (eight b) (out b) (w .write-head .last .0) (records .last .0) (count b) (is-count b) room (w .write-head .ensures) (records .ensures) ∙ d .1,
     )
 
 pub encode-spec : {M : Type 1} → statement M

@@ -7,7 +7,7 @@ use lib.ListN.{length, take, drop, getD, set, length-set, length-take, length-ap
 use lib.Seq.{drop-set-lt, length-take-le, getD-take, drop-length}
 use Rattle.instance.proofs.Rows.{headed}
 use Rattle.calculus.proofs.Lists.{rest}
-use Rattle.card.proofs.Stores.{Written, begin, store, anew, finish}
+use Rattle.calculus.proofs.Stores.{Written, begin, store, anew, finish}
 use Rattle.encode.proofs.write_head.Statement.{statement}
 use Rattle.encode.proofs.write_head.Tie as tie
 

@@ -1,158 +1,167 @@
--- `encode::write_records` meets its contract: what is left to write are the records of the words from place i on. Assumes nothing.
-use Prim.Native.Nat.{ℕ, _+_, _-_, _≤_, _<_}
-use mathlib.Core.Path.{_≡_, refl}
-use mathlib.Core.Bool.{true}
+-- `encode::write_records` meets its contract: what is left to write are the records of the rows from index i. Assumes nothing.
+use Prim.Native.Nat.{ℕ, _+_, _-_, _*_, _≤_, _<_}
+use mathlib.Core.Path.{_≡_, ap, _∙_}
 use mathlib.Core.List.{List, _∷_, _++_}
-use mathlib.Core.Logic.{⊎-elim}
 use native.Mathlib.Omega.{arith}
-use lib.ListN.{length, drop, getD, length-set}
-use lib.Seq.{drop-length}
-use Rattle.instance.specs.Header.{arityOf, maxRelations}
-use Rattle.instance.specs.Rows.{wordsStand}
-use Rattle.card.specs.Encode.{fieldBytes, fullMap}
-use Rattle.encode.proofs.RecordSteps.{recordsFrom, records-bytes, next-row, next-cell, full-maps}
-use Rattle.card.proofs.Stores.{Written, begin, store, finish}
+use borrow.Author.Needs.{needs}
+use lib.ListN.{length, take, drop, getD, length-append, length-drop}
+use Rattle.calculus.specs.Row.{Row}
+use Rattle.calculus.proofs.Stores.{Written, begin, store-part, finish}
+use Rattle.instance.specs.Header.{arityOf, maxRelations, maxColumns}
+use Rattle.instance.specs.Rows.{rowsFrom}
+use Rattle.instance.proofs.Walk.{Walk, walk-starts, AtRow, row-here, rows-end}
+use Rattle.card.specs.Encode.{recordBytes, recordsBytes}
+use Rattle.encode.proofs.RecordSteps.{fields-size}
 use Rattle.encode.proofs.write_records.Statement.{statement}
 use Rattle.encode.proofs.write_records.Tie as tie
+use Rattle.instance.proofs.Parts.{part-to-end, put-to-end}
 
 abbrev Inv-loop : tie.InvT-loop
-Inv-loop out₀ arities words left₀ at₀ i₀ out left at i =
-    (i ≤ length words) × (wordsStand maxRelations arities left (drop i words) ≡ true)
-    × Written (recordsFrom arities 0 words) (recordsFrom arities left (drop i words)) out₀ out at
+Inv-loop out₀ arities words at₀ i₀ out at i =
+    Walk maxRelations arities words i
+    × Written (recordsBytes (rowsFrom arities 0 words)) (recordsBytes (rowsFrom arities 0 (drop i words))) out₀ out at
 
 abbrev μ-loop : tie.MeasureT-loop
-μ-loop out₀ arities words left₀ at₀ i₀ out left at i = length words - i
-
--- the word at place i, and what is written for it
-module _ (c : tie.In-loop Inv-loop μ-loop) where
-  abbrev ars : List ℕ
-  ars = c .before .before .args .arities .now
-
-  abbrev ws : List ℕ
-  ws = c .before .before .args .words .now
-
-  abbrev w : ℕ
-  w = getD ws (c .before .loop .i) 0
-
-  abbrev behind : List ℕ
-  behind = drop (c .before .loop .i + 1) ws
-
-  abbrev left : ℕ
-  left = c .before .loop .left
-
-  abbrev Writing : List ℕ → Type 0
-  Writing more = Written (recordsFrom ars 0 ws) more (c .before .before .args .out .now) (c .before .loop .out) (c .before .loop .at)
-
-  at-row : left ≡ 0 → (w < maxRelations) × (wordsStand maxRelations ars (arityOf ars w) behind ≡ true)
-      × Writing (w ∷ fullMap (arityOf ars w) ∷ recordsFrom ars (arityOf ars w) behind)
-  at-row z =
-      let n = next-row maxRelations ars ws (c .before .loop .i) (omega arith) left z (c .before .loop .inv .1) in
-      (n .0, n .1, rw (n .2) at (c .before .loop .inv .2))
-
-  at-cell : (left ≡ 0 → ⊥) → (wordsStand maxRelations ars (left - 1) behind ≡ true)
-      × Writing (fieldBytes w ++ recordsFrom ars (left - 1) behind)
-  at-cell z =
-      let n = next-cell maxRelations ars ws (c .before .loop .i) (omega arith) left z (c .before .loop .inv .1) in
-      (n .0, rw (n .1) at (c .before .loop .inv .2))
+μ-loop out₀ arities words at₀ i₀ out at i = length words - i
 
 loop-holds : tie.Need-loop-holds Inv-loop μ-loop
-loop-holds c = (omega arith, c .pre .1 .0, begin _ _ (rw (records-bytes _ _ _ (c .pre .1 .0)) (c .pre .1 .1)))
+loop-holds c = (walk-starts _ _ _ (c .before .before .pre .1 .0), begin _ _ (c .before .before .pre .1 .1))
 
-mul-w : tie.Need-mul-w Inv-loop μ-loop
-mul-w c = omega arith
+-- the row at index i
+module _ (c : tie.In-loop Inv-loop μ-loop) where
+  abbrev start : tie.Start Inv-loop μ-loop
+  start = c .before .before .before .before
 
-shared-slice-read-w : tie.Need-shared-slice-read-w Inv-loop μ-loop
-shared-slice-read-w c = omega arith
+  abbrev ars : List ℕ
+  ars = start .args .arities .now
 
-cast-left : tie.Need-cast-left Inv-loop μ-loop
-cast-left c = omega (arith, at-row (c .before .before) (c .if1 .taken) .0)
+  abbrev ws : List ℕ
+  ws = start .args .words .now
 
-mul-left : tie.Need-mul-left Inv-loop μ-loop
-mul-left c = omega (arith, at-row (c .before .before) (c .if1 .taken) .0)
+  abbrev i : ℕ
+  i = c .before .loop .i
 
-element-copy-out-left : tie.Need-element-copy-out-left Inv-loop μ-loop
-element-copy-out-left c = omega (arith, at-row (c .before .before) (c .if1 .taken) .0)
+  abbrev a : ℕ
+  a = arityOf ars (getD ws i 0)
 
-cast-out : tie.Need-cast-out Inv-loop μ-loop
-cast-out c = omega (arith, at-row (c .before .before .before) (c .before .if1 .taken) .0)
+  abbrev row : Row
+  row = record { relation = getD ws i 0; cells = take a (drop (i + 1) ws) }
 
-slice-write-out : tie.Need-slice-write-out Inv-loop μ-loop
-slice-write-out c = omega (arith, at-row (c .before .before .before) (c .before .if1 .taken) .2)
+  here : AtRow maxRelations ars ws i
+  here = row-here maxRelations ars ws i (omega arith) (c .before .loop .inv .0)
 
-cast-out-2 : tie.Need-cast-out-2 Inv-loop μ-loop
-cast-out-2 c = omega (arith, c .before .before .before .before .before .pre .0 (w (c .before .before .before)))
+  -- its cells, as they are lent
+  lent : take (i + 1 + a - (i + 1)) (drop (i + 1) ws) ≡ row .cells
+  lent = let e : i + 1 + a - (i + 1) ≡ a = omega arith in ap (λ (k : ℕ). take k (drop (i + 1) ws)) e
 
-array-read-out : tie.Need-array-read-out Inv-loop μ-loop
-array-read-out c = omega (arith, c .before .before .before .before .before .pre .0 (w (c .before .before .before)))
+  size : length (recordBytes row) ≡ 2 + 3 * a
+  size = omega (arith, fields-size (row .cells), here .size)
 
-add-out : tie.Need-add-out Inv-loop μ-loop
-add-out c = omega (arith, at-row (c .before .before .before) (c .before .if1 .taken) .2)
+  to-come :
+      Written (recordsBytes (rowsFrom ars 0 ws)) (recordBytes row ++ recordsBytes (rowsFrom ars 0 (drop (i + (1 + a)) ws)))
+      (start .args .out .now) (c .before .loop .out) (c .before .loop .at)
+  unfolding recordsBytes
+  to-come = rw (here .rows) at (c .before .loop .inv .1)
 
-slice-write-out-2 : tie.Need-slice-write-out-2 Inv-loop μ-loop
-slice-write-out-2 c = simp length-set (omega (arith, at-row (c .before .before .before) (c .before .if1 .taken) .2))
+  -- the record fits
+  width : a ≤ maxColumns
+  width = start .pre .0 (getD ws i 0)
+
+  fits : c .before .loop .at + (2 + 3 * a) ≤ length (c .before .loop .out)
+  fits = omega (arith, size, to-come .room, to-come .same, length-append (recordBytes row) (recordsBytes (rowsFrom ars 0 (drop (i + (1 + a)) ws))))
+
+mul-relation : tie.Need-mul-relation Inv-loop μ-loop
+mul-relation c = omega arith
+
+shared-slice-read-relation : tie.Need-shared-slice-read-relation Inv-loop μ-loop
+shared-slice-read-relation c = omega arith
+
+add-first : tie.Need-add-first Inv-loop μ-loop
+add-first c = omega arith
+
+cast-next : tie.Need-cast-next Inv-loop μ-loop
+cast-next c = omega (arith, here (c .before) .relation)
+
+mul-next : tie.Need-mul-next Inv-loop μ-loop
+mul-next c = omega (arith, here (c .before) .relation)
+
+element-copy-out-next : tie.Need-element-copy-out-next Inv-loop μ-loop
+element-copy-out-next c = here (c .before) .relation
+
+cast-next-2 : tie.Need-cast-next-2 Inv-loop μ-loop
+cast-next-2 c = omega (arith, here (c .before .before) .next .within)
+
+add-next : tie.Need-add-next Inv-loop μ-loop
+add-next c = omega (arith, here (c .before .before) .next .within)
+
+sub-write-record : tie.Need-sub-write-record Inv-loop μ-loop
+sub-write-record c = omega (arith, to-come (c .before .before))
+
+part-write-record-start : tie.Need-part-write-record-start Inv-loop μ-loop
+part-write-record-start c = omega (arith, to-come (c .before .before))
+
+part-write-record-end : tie.Need-part-write-record-end Inv-loop μ-loop
+part-write-record-end c = search needs
+
+mul-write-record : tie.Need-mul-write-record Inv-loop μ-loop
+mul-write-record c = omega arith
+
+sub-write-record-2 : tie.Need-sub-write-record-2 Inv-loop μ-loop
+sub-write-record-2 c = omega arith
+
+part-write-record-start-2 : tie.Need-part-write-record-start-2 Inv-loop μ-loop
+part-write-record-start-2 c = omega arith
+
+part-write-record-end-2 : tie.Need-part-write-record-end-2 Inv-loop μ-loop
+part-write-record-end-2 c = omega (arith, here (c .before .before .before) .next .within)
+
+write-record-requires : tie.Need-write-record-requires Inv-loop μ-loop
+write-record-requires c κs =
+    let b = c .before .before .before .before in
+    let h = here b in
+    let out = b .before .loop .out in
+    let at = b .before .loop .at in
+    rw (lent b, part-to-end out at) (
+      h .relation,
+      omega (arith, h .size, width b),
+      omega (arith, h .size, fits b, length-drop at out),
+    )
+
+sub-at : tie.Need-sub-at Inv-loop μ-loop
+sub-at c = omega arith
+
+mul-at : tie.Need-mul-at Inv-loop μ-loop
+mul-at c = omega (arith, width (c .before .before .before .before .before .before .before))
 
 add-at : tie.Need-add-at Inv-loop μ-loop
-add-at c = omega (arith, at-row (c .before .before .before) (c .before .if1 .taken) .2)
-
-cast-out-3 : tie.Need-cast-out-3 Inv-loop μ-loop
-cast-out-3 c = omega arith
-
-slice-write-out-3 : tie.Need-slice-write-out-3 Inv-loop μ-loop
-slice-write-out-3 c = omega (arith, at-cell (c .before .before) (c .if1 .left) .1)
-
-cast-out-4 : tie.Need-cast-out-4 Inv-loop μ-loop
-cast-out-4 c = omega arith
-
-add-out-2 : tie.Need-add-out-2 Inv-loop μ-loop
-add-out-2 c = omega (arith, at-cell (c .before .before) (c .if1 .left) .1)
-
-slice-write-out-4 : tie.Need-slice-write-out-4 Inv-loop μ-loop
-slice-write-out-4 c = simp length-set (omega (arith, at-cell (c .before .before) (c .if1 .left) .1))
-
-cast-out-5 : tie.Need-cast-out-5 Inv-loop μ-loop
-cast-out-5 c = omega arith
-
-add-out-3 : tie.Need-add-out-3 Inv-loop μ-loop
-add-out-3 c = omega (arith, at-cell (c .before .before) (c .if1 .left) .1)
-
-slice-write-out-5 : tie.Need-slice-write-out-5 Inv-loop μ-loop
-slice-write-out-5 c = simp length-set (omega (arith, at-cell (c .before .before) (c .if1 .left) .1))
+add-at c = omega (arith, width (c .before .before .before .before .before .before .before))
 
 add-at-2 : tie.Need-add-at-2 Inv-loop μ-loop
-add-at-2 c = omega (arith, at-cell (c .before .before) (c .if1 .left) .1)
-
-sub-left : tie.Need-sub-left Inv-loop μ-loop
-sub-left c = omega arith
-
-add-i : tie.Need-add-i Inv-loop μ-loop
-add-i c = omega arith
+add-at-2 c = omega (arith, fits (c .before .before .before .before .before .before .before))
 
 loop-less : tie.Need-loop-less Inv-loop μ-loop
 loop-less c = omega arith
 
 loop-again : tie.Need-loop-again Inv-loop μ-loop
 loop-again c =
-    let b = c .before .before in
-    ⊎-elim
-    (λ a.
-    let p = at-row b (a .0 .taken) in
-    let full = full-maps (arityOf (ars b) (w b)) (b .before .before .pre .0 (w b)) in
-    (omega arith, rw (a .3) (p .1), rw (a .2, a .3, a .4) (rw full (store _ (omega arith) (store _ refl (p .2))))))
-    (λ a.
-    let p = at-cell b (a .0 .left) in
-    (omega arith, rw (a .2) (p .0), rw (a .1, a .2, a .3) (store _ (omega arith) (store _ (omega arith) (store _ refl (p .1))))))
-    (c .if1 .came)
+    let b = c .before .before .before .before .before .before .before in
+    let out = b .before .loop .out in
+    let at = b .before .loop .at in
+    let sum : i b + 1 + a b ≡ i b + (1 + a b) = omega arith in
+    let next : at + (2 + 3 * (i b + 1 + a b - (i b + 1))) ≡ at + length (recordBytes (row b)) = omega (arith, size b) in
+    let part = rw (lent b, part-to-end out at) at (c .before .before .write-record .ensures) in
+    rw (next, sum, put-to-end out at _ (omega (arith, fits b)), part) (here b .next, store-part (recordBytes (row b)) (to-come b))
 
 same-length : tie.Need-same-length Inv-loop μ-loop
-same-length c = c .before .loop .inv .2 .same
+same-length c = c .before .loop .inv .1 .same
 
 returns : tie.Need-returns Inv-loop μ-loop
-unfolding recordsFrom
+unfolding recordsBytes
 returns c =
-    let words = c .before .before .args .words .now in
-    let i : c .before .loop .i ≡ length words = omega arith in
-    let all = finish (rw (i, drop-length) at (c .before .loop .inv .2)) in
-    rw (records-bytes maxRelations (c .before .before .args .arities .now) words (c .before .before .pre .1 .0)) at all
+    let start = c .before .before .before .before in
+    let ws = start .args .words .now in
+    let e : c .before .loop .i ≡ length ws = omega (arith, c .before .loop .inv .0 .within) in
+    finish (rw (rows-end (start .args .arities .now) ws _ e) at (c .before .loop .inv .1))
 
 pub write-records-spec : {M : Type 1} → statement M
 write-records-spec =
@@ -161,29 +170,26 @@ write-records-spec =
     Inv-loop
     μ-loop
     loop-holds
-    mul-w
-    shared-slice-read-w
-    cast-left
-    mul-left
-    element-copy-out-left
-    cast-out
-    slice-write-out
-    cast-out-2
-    array-read-out
-    add-out
-    slice-write-out-2
+    mul-relation
+    shared-slice-read-relation
+    add-first
+    cast-next
+    mul-next
+    element-copy-out-next
+    cast-next-2
+    add-next
+    sub-write-record
+    part-write-record-start
+    part-write-record-end
+    mul-write-record
+    sub-write-record-2
+    part-write-record-start-2
+    part-write-record-end-2
+    write-record-requires
+    sub-at
+    mul-at
     add-at
-    cast-out-3
-    slice-write-out-3
-    cast-out-4
-    add-out-2
-    slice-write-out-4
-    cast-out-5
-    add-out-3
-    slice-write-out-5
     add-at-2
-    sub-left
-    add-i
     loop-less
     loop-again
     same-length

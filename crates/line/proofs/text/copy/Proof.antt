@@ -5,7 +5,7 @@ use native.Mathlib.Omega.{arith}
 use borrow.Author.Needs.{needs}
 use lib.ListN.{length, drop, drop-of-length-le}
 use Rattle.calculus.proofs.Lists.{rest}
-use Rattle.card.proofs.Stores.{Written, begin, store, finish}
+use Rattle.calculus.proofs.Stores.{Written, begin, store, finish}
 use Rattle.line.proofs.text.copy.Statement.{statement}
 use Rattle.line.proofs.text.copy.Tie as tie
 
