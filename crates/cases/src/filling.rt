@@ -1,8 +1,8 @@
 // Fills, and what the census says of them.
 use calculus::answer::Answer;
 use instance::header::Header;
-use instance::null_counts::null_counts;
-use instance::substitute::substitute;
+use null_counts::null_counts;
+use substitute::substitute;
 use worked::plots::one_sheet;
 use worked::plots::sheets;
 use worked::show;

@@ -8,20 +8,21 @@ use Rattle.calculus.specs.declared.answer.Answer.{Answer}
 use Rattle.calculus.specs.Demand.{demand}
 use Rattle.calculus.specs.Refusal.{unsound}
 use Rattle.instance.specs.declared.header.Header.{Header}
-use Rattle.instance.specs.Header.{maxRelations}
+use Rattle.instance.specs.Header.{maxRelations, headerWith}
+use Rattle.calculus.specs.declared.answer.Answer.the-variants.{Refused}
 
 abbrev pub headerLength : ℕ
 headerLength = 10
 
 unfoldable pub headerOf : List ℕ → Header
-headerOf hs = record { relations = getD hs 0 0; arities = take maxRelations (drop 1 hs); used = getD hs 9 0 }
+headerOf hs = headerWith (getD hs 0 0) (take maxRelations (drop 1 hs)) (getD hs 9 0)
 
 unfoldable pub headerWords : Header → List ℕ
 headerWords h = h .relations ∷ h .arities ++ h .used ∷ []
 
 -- a slice of another length is no header, and so the plot breaks a rule of its section: 41, before all else
 abbrev pub headed : List ℕ → Answer → Answer
-headed hs a = demand (eqb (length hs) headerLength) unsound a
+headed hs a = demand (eqb (length hs) headerLength) (Refused unsound) a
 
 -- what such a slice leaves of the rest that is lent: all of it
 abbrev pub ifHeaded : {A : Type 0} → List ℕ → A → A → A

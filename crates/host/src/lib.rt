@@ -1,4 +1,4 @@
-// The calls for a host in C, on numbers and slices: each answers 0 where it is accepted, else the number of the refusal.
+// The calls for a host in C, on numbers and slices: each returns 0 if it is accepted, and otherwise the number of the refusal.
 ghost use mathlib.Core.Path.{_≡_};
 ghost use Rattle.calculus.specs.Answer.{numberOf, valueOf};
 ghost use Rattle.answer.specs.Numbers.{askedNumber, verdictOf, looksOf};
@@ -10,6 +10,7 @@ ghost use Rattle.host.specs.Calls.{askAnswer, askList};
 mod words;
 
 use calculus::refusal::UNSOUND;
+use words::HEADER;
 use words::asked_number;
 use words::looks;
 use words::number;
@@ -25,7 +26,7 @@ pub extern "C" fn plotask_decode(card: &[u8], header: &mut [u32], plot: &mut [u3
     ensures header { λ r. ⌜ now (header .exit) ≡ decodeHeader (now (card .entry)) (now (header .entry)) (now (plot .entry)) ⌝ }
     ensures words { λ r. ⌜ now (plot .exit) ≡ decodeWords (now (card .entry)) (now (header .entry)) (now (plot .entry)) ⌝ }
 {
-    if header.len() != 10 {
+    if header.len() != HEADER {
         return UNSOUND;
     }
     let stored = decode::decode(card, plot);
@@ -47,10 +48,10 @@ pub extern "C" fn plotask_insert(
     ensures header { λ r. ⌜ now (header .exit) ≡ insertHeader (now (header .entry)) (now (plot .entry)) relation (now (cells .entry)) ⌝ }
     ensures words { λ r. ⌜ now (plot .exit) ≡ insertWords (now (header .entry)) (now (plot .entry)) relation (now (cells .entry)) ⌝ }
 {
-    if header.len() != 10 {
+    if header.len() != HEADER {
         return UNSOUND;
     }
-    let stored = instance::insert::insert(read_header(header), plot, relation, cells);
+    let stored = insert::insert(read_header(header), plot, relation, cells);
     let answer = stored.answer;
     let grown = stored.header;
     put_header(header, answer, grown);
@@ -70,10 +71,10 @@ pub extern "C" fn plotask_substitute(
     ensures words { λ r. ⌜ now (plot .exit) ≡ substituteWords (now (header .entry)) (now (plot .entry)) mark cell ⌝ }
     ensures count { λ r. ⌜ now (count .exit) ≡ valueOf (substituteAnswer (now (header .entry)) (now (plot .entry)) mark cell) (now (count .entry)) ⌝ }
 {
-    if header.len() != 10 {
+    if header.len() != HEADER {
         return UNSOUND;
     }
-    let answer = instance::substitute::substitute(read_header(header), plot, mark, cell);
+    let answer = substitute::substitute(read_header(header), plot, mark, cell);
     *count = value(answer, *count);
     number(answer)
 }
@@ -90,10 +91,10 @@ pub extern "C" fn plotask_null_counts(
     ensures words { λ r. ⌜ now (counts .exit) ≡ countsWords (now (header .entry)) (now (plot .entry)) (now (counts .entry)) ⌝ }
     ensures count { λ r. ⌜ now (count .exit) ≡ valueOf (countsAnswer (now (header .entry)) (now (plot .entry)) (now (counts .entry))) (now (count .entry)) ⌝ }
 {
-    if header.len() != 10 {
+    if header.len() != HEADER {
         return UNSOUND;
     }
-    let counted = instance::null_counts::null_counts(read_header(header), plot, counts);
+    let counted = null_counts::null_counts(read_header(header), plot, counts);
     *count = value(counted, *count);
     number(counted)
 }
@@ -110,7 +111,7 @@ pub extern "C" fn plotask_encode(
     ensures bytes { λ r. ⌜ now (card .exit) ≡ encodeBytes (now (header .entry)) (now (plot .entry)) (now (card .entry)) ⌝ }
     ensures count { λ r. ⌜ now (count .exit) ≡ valueOf (encodeAnswer (now (header .entry)) (now (plot .entry)) (now (card .entry))) (now (count .entry)) ⌝ }
 {
-    if header.len() != 10 {
+    if header.len() != HEADER {
         return UNSOUND;
     }
     let written = encode::encode(read_header(header), plot, card);
@@ -135,7 +136,7 @@ pub extern "C" fn plotask_ask(
     ensures truth { λ r. ⌜ now (truth .exit) ≡ verdictOf (askAnswer (now (header .entry)) (now (plot .entry)) (now (query .entry)) (now (candidate .entry)) (now (list .entry)) budget) (now (truth .entry)) ⌝ }
     ensures cost { λ r. ⌜ now (cost .exit) ≡ looksOf (askAnswer (now (header .entry)) (now (plot .entry)) (now (query .entry)) (now (candidate .entry)) (now (list .entry)) budget) (now (cost .entry)) ⌝ }
 {
-    if header.len() != 10 {
+    if header.len() != HEADER {
         return UNSOUND;
     }
     let asked = answer::ask::ask(read_header(header), plot, query, candidate, list, budget);

@@ -1,55 +1,69 @@
 // A header as words, and an answer as numbers.
 ghost use mathlib.Core.Path.{_≡_};
-ghost use lib.ListN.{length};
+ghost use lib.ListN.{length, take, drop};
 ghost use Rattle.calculus.specs.Answer.{after, numberOf, valueOf};
 ghost use Rattle.calculus.specs.Kleene.{rank};
 ghost use Rattle.answer.specs.Numbers.{askedNumber, verdictOf, looksOf};
-ghost use Rattle.host.specs.Words.{headerOf, headerWords};
+ghost use Rattle.host.specs.Words.{headerOf, headerWords, headerLength};
+ghost use Rattle.instance.specs.Header.{maxRelations};
+ghost use Prim.Native.Nat.{_+_, _≤_};
+ghost use lib.Seq.{paste};
 use answer::asked::Asked;
 use calculus::answer::Answer;
 use calculus::truth::Truth;
 use instance::header::Header;
+use instance::header::header_with;
 
-pub fn read_header(words: &[u32]) -> Header
-    requires { ⌜ length (now words) ≡ 10 ⌝ }
-    ensures { λ r. ⌜ r ≡ headerOf (now (words .entry)) ⌝ }
+// the words of a header
+pub const HEADER: usize = 10;
+
+// Eight words of a slice, from word `at`.
+fn eight(words: &[u32], at: usize) -> [u32; 8]
+    requires { ⌜ (at + maxRelations ≤ length (now words)) × (at ≤ headerLength) ⌝ }
+    ensures { λ r. ⌜ r ≡ take maxRelations (drop at (now (words .entry))) ⌝ }
 {
-    Header {
-        relations: words[0],
-        arities: [
-            words[1],
-            words[2],
-            words[3],
-            words[4],
-            words[5],
-            words[6],
-            words[7],
-            words[8],
-        ],
-        used: words[9],
+    let mut values = [0u32; 8];
+    let mut i = 0;
+    while i < 8 {
+        values[i] = words[at + i];
+        i += 1;
+    }
+    values
+}
+
+// Writes eight words into a slice, from word `at`.
+fn put_eight(words: &mut [u32], at: usize, values: &[u32; 8])
+    requires { ⌜ (at + maxRelations ≤ length (now words)) × (at ≤ headerLength) × (length (now values) ≡ maxRelations) ⌝ }
+    ensures { λ _. ⌜ now (words .exit) ≡ paste (now (words .entry)) at (now (values .entry)) maxRelations ⌝ }
+{
+    let mut i = 0;
+    while i < 8 {
+        words[at + i] = values[i];
+        i += 1;
     }
 }
 
+pub fn read_header(words: &[u32]) -> Header
+    requires { ⌜ length (now words) ≡ headerLength ⌝ }
+    ensures { λ r. ⌜ r ≡ headerOf (now (words .entry)) ⌝ }
+{
+    let arities = eight(words, 1);
+    header_with(words[0], arities, words[9])
+}
+
 fn write_header(words: &mut [u32], header: Header)
-    requires { ⌜ length (now words) ≡ 10 ⌝ }
+    requires { ⌜ length (now words) ≡ headerLength ⌝ }
     ensures { λ _. ⌜ now (words .exit) ≡ headerWords header ⌝ }
 {
     let arities = header.arities;
     words[0] = header.relations;
-    words[1] = arities[0];
-    words[2] = arities[1];
-    words[3] = arities[2];
-    words[4] = arities[3];
-    words[5] = arities[4];
-    words[6] = arities[5];
-    words[7] = arities[6];
-    words[8] = arities[7];
+    put_eight(words, 1, &arities);
     words[9] = header.used;
 }
 
 // The header that an accepted call leaves; a refused one leaves the words as they are.
 pub fn put_header(words: &mut [u32], answer: Answer, header: Header)
-    requires { ⌜ length (now words) ≡ 10 ⌝ }
+    requires { ⌜ length (now words) ≡ headerLength ⌝ }
     ensures { λ _. ⌜ now (words .exit) ≡ after answer (headerWords header) (now (words .entry)) ⌝ }
 {
     if let Answer::Done(_) = answer {

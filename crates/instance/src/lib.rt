@@ -1,8 +1,5 @@
 // The instance (document 01: the plot): a header by value, and rows as words in a lent slice.
 pub mod cells;
 pub mod header;
-pub mod insert;
-pub mod null_counts;
 pub mod room;
 pub mod scan;
-pub mod substitute;

@@ -4,7 +4,7 @@ use super::question::NONE;
 use super::question::flat;
 use answer::ask::ask;
 use instance::header::Header;
-use instance::substitute::substitute;
+use substitute::substitute;
 use worked::plots::one_sheet;
 use worked::plots::two_sheets;
 use worked::show;

@@ -11,8 +11,8 @@ ghost use Rattle.instance.specs.Run.{filledWords, filledAnswers};
 ghost use Rattle.rerun.specs.Fills.{fillsOf, filledCandidate, answerPair, stored};
 use calculus::answer::Answer;
 use instance::header::Header;
-use instance::substitute::replace;
-use instance::substitute::substitute;
+use substitute::replace;
+use substitute::substitute;
 
 // "each accepted one is made in the candidate too"
 fn fill(header: Header, plot: &mut [u32], candidate: &mut [u32], mark: u32, cell: u32) -> Answer

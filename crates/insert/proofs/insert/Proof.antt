@@ -1,0 +1,117 @@
+-- `insert::insert` meets its contract: what check_insert accepts, write_row writes after the words in use. Assumes nothing.
+use Prim.Native.Nat.{ℕ}
+use mathlib.Core.Path.{_≡_, sym, ap, _∙_}
+use mathlib.Core.List.{List}
+use native.Mathlib.Omega.{arith}
+use lib.ListN.{length-take, length-drop}
+use Rattle.calculus.specs.declared.answer.Answer.the-variants.{Done}
+use Rattle.instance.specs.declared.header.Header.{Header}
+use Rattle.instance.specs.Insert.{inserted, insertedHeader, insertedWords}
+use Rattle.instance.proofs.Passes.{row-put}
+use Rattle.instance.proofs.Accepted.{Inserted, insert-accepted}
+use Rattle.instance.proofs.Kept.{entered-used}
+use Rattle.instance.proofs.Told.{insert-told}
+use borrow.Author.Needs.{needs}
+use Rattle.insert.proofs.insert.Statement.{statement}
+use Rattle.insert.proofs.insert.Tie as tie
+use Rattle.instance.specs.Header.{headerWith}
+
+check-insert-requires : tie.Need-check-insert-requires
+check-insert-requires c κs = search needs
+
+enum-known-answer : tie.Need-enum-known-answer
+enum-known-answer c = search needs
+
+enum-told : tie.Need-enum-told
+enum-told c = search needs
+
+same-length : tie.Need-same-length
+same-length c = search needs
+
+returns : tie.Need-returns
+unfolding insertedHeader insertedWords
+returns c =
+    let f = sym (c .before .before .check-insert .ensures) ∙ c .enum-told .given .1 in
+    insert-told _ _ _ _ (c .before .before .check-insert .ensures, (simp f, simp f))
+
+-- what the answer says
+module _ (c : tie.After-struct-known) where
+  abbrev answered : tie.After-check-insert
+  answered = c .before .before .before .before
+
+  abbrev h : Header
+  h = answered .before .before .before .before .args .header
+
+  abbrev ws : List ℕ
+  ws = answered .before .before .before .before .args .plot .now
+
+  abbrev r : ℕ
+  r = answered .before .before .before .before .args .relation
+
+  abbrev cs : List ℕ
+  cs = answered .before .before .before .before .args .cells .now
+
+  abbrev k : ℕ
+  k = c .before .before .answer .given .0 .0
+
+  done : inserted h ws r cs ≡ Done k
+  done = sym (answered .check-insert .ensures) ∙ c .before .before .answer .given .1
+
+  accepted : Inserted h ws r cs k
+  accepted = insert-accepted h ws r cs k done
+
+cast-at : tie.Need-cast-at
+cast-at c = search needs
+
+mul-write-row : tie.Need-mul-write-row
+mul-write-row c = search needs
+
+sub-write-row : tie.Need-sub-write-row
+sub-write-row c = omega (arith, accepted c .within)
+
+part-write-row-start : tie.Need-part-write-row-start
+part-write-row-start c = omega (arith, accepted c .within)
+
+part-write-row-end : tie.Need-part-write-row-end
+part-write-row-end c = search needs
+
+write-row-requires : tie.Need-write-row-requires
+write-row-requires c κs = simp (length-take, length-drop) (omega (arith, accepted (c .before) .within))
+
+header-with-requires : tie.Need-header-with-requires
+header-with-requires c κs = search needs
+
+same-length-2 : tie.Need-same-length-2
+same-length-2 c = search needs
+
+returns-2 : tie.Need-returns-2
+unfolding insertedHeader insertedWords
+returns-2 c =
+    let w = c .before .before .before .before in
+    let a = w .before .before in
+    insert-told (h a) (ws a) (r a) (cs a) (
+      sym (done a),
+      (
+        simp (done a) (c .header-with .ensures ∙ ap (headerWith (h a .relations) (h a .arities)) (entered-used (h a) (ws a) (r a) (cs a) (k a) (accepted a))),
+        simp (done a) (row-put _ (r a) (cs a) (ws a) _ (w .write-row .ensures)),
+      ),
+    )
+
+pub insert-spec : {M : Type 1} → statement M
+insert-spec =
+    tie.close
+    (tie.spec
+    check-insert-requires
+    enum-known-answer
+    enum-told
+    same-length
+    returns
+    cast-at
+    mul-write-row
+    sub-write-row
+    part-write-row-start
+    part-write-row-end
+    write-row-requires
+    header-with-requires
+    same-length-2
+    returns-2)

@@ -1,0 +1,66 @@
+// A fill: a cell for a null, in every cell that holds it.
+ghost use mathlib.Core.Path.{_≡_};
+ghost use Prim.Native.Nat.{_≤_};
+ghost use mathlib.Core.List.{map};
+ghost use lib.ListN.{length};
+ghost use Rattle.calculus.specs.Cell.{null, nulls, put};
+ghost use Rattle.instance.specs.Header.{maxWords};
+ghost use Rattle.calculus.specs.Answer.{Tells};
+ghost use Rattle.calculus.specs.Fill.{countOf, held};
+ghost use Rattle.instance.specs.Sound.{rows};
+ghost use Rattle.instance.specs.Substitute.{substituted, substitutedWords};
+use instance::header::Header;
+use instance::scan::Scanned;
+use instance::scan::scan;
+use calculus::answer::Answer;
+use calculus::cell::CONSTANTS;
+use calculus::cell::NULLS;
+use calculus::cell::is_cell;
+use calculus::refusal::NO_SUCH_NULL;
+use calculus::refusal::NOT_A_CELL;
+use calculus::refusal::NULL_ABSENT;
+use calculus::refusal::UNSOUND;
+
+// A relation's number is below every null, so the words in use need not be told apart from cells.
+pub fn replace(words: &mut [u32], mark: u32, cell: u32) -> u32
+    requires { ⌜ (mark ≤ nulls) × (length (now words) ≤ maxWords) ⌝ }
+    ensures count { λ r. ⌜ r ≡ countOf (null mark) (now (words .entry)) ⌝ }
+    ensures words { λ r. ⌜ now (words .exit) ≡ map (put mark cell) (now (words .entry)) ⌝ }
+{
+    let null = CONSTANTS + mark;
+    let mut count: u32 = 0;
+    let mut i = 0;
+    while i < words.len() {
+        if words[i] == null {
+            words[i] = cell;
+            count += 1;
+        }
+        i += 1;
+    }
+    count
+}
+
+pub fn substitute(header: Header, plot: &mut [u32], mark: u32, cell: u32) -> Answer
+    ensures answer { λ r. ⌜ r ≡ substituted header (now (plot .entry)) mark cell ⌝ }
+    ensures words { λ r. ⌜ now (plot .exit) ≡ substitutedWords header (now (plot .entry)) mark cell ⌝ }
+    ensures told { λ r. ⌜ Tells r (substituted header (now (plot .entry)) mark cell) (held mark (rows header (now (plot .entry)))) ⌝ }
+{
+    let Scanned::Rows(_) = scan(header, plot) else {
+        return Answer::Refused(UNSOUND);
+    };
+    if mark < 1 {
+        return Answer::Refused(NO_SUCH_NULL);
+    }
+    if NULLS < mark {
+        return Answer::Refused(NO_SUCH_NULL);
+    }
+    if !is_cell(cell) {
+        return Answer::Refused(NOT_A_CELL);
+    }
+    let used = header.used as usize;
+    let count = replace(&mut plot[..used], mark, cell);
+    if count == 0 {
+        return Answer::Refused(NULL_ABSENT);
+    }
+    Answer::Done(count)
+}
