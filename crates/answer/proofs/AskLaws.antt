@@ -32,9 +32,9 @@ use Rattle.query.proofs.Passed.{few-cells, count-within, node-stands}
 use Rattle.instance.specs.RowCounts.{rowCounts}
 use Rattle.instance.proofs.RowCounts.{row-count-at, row-counts-size}
 use Rattle.answer.specs.declared.asked.Asked.the-variants.{Refused}
-use Rattle.answer.specs.declared.evaluated.Evaluated.{Evaluated}
-use Rattle.answer.specs.Within.{within}
-use Rattle.answer.specs.Ready.{Ready, world}
+use Rattle.evaluate.specs.declared.evaluated.Evaluated.{Evaluated}
+use Rattle.evaluate.specs.Within.{within}
+use Rattle.evaluate.specs.Ready.{Ready, world}
 use Rattle.answer.specs.Ask.{ifPassed, evaluatedAs, answeredBy, askable, ask, askedBuffer}
 use Rattle.answer.proofs.RerunLaws.{Asks, askable-done}
 use Rattle.calculus.specs.Overwrite.{overwrite}

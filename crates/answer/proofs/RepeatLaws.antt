@@ -21,8 +21,8 @@ use Rattle.query.specs.Check.{checkQuery, passed}
 use Rattle.answer.specs.declared.asked.Asked.the-variants.{Verdict}
 use Rattle.answer.specs.Ask.{ask, evaluatedAs}
 use Rattle.answer.specs.Repeats.{SameVerdict, SameOrSpent, same, spent, Repeat, RepeatMeansOne}
-use Rattle.answer.proofs.Budget.{was-verdict}
-use Rattle.answer.proofs.Budget as budgets
+use Rattle.evaluate.proofs.Budget.{was-verdict}
+use Rattle.evaluate.proofs.Budget as budgets
 use Rattle.answer.proofs.RerunLaws.{Asks, verdict-asked, asked-verdict}
 use Rattle.answer.proofs.AskLaws.{evaluated-asked}
 

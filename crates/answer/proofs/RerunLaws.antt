@@ -31,12 +31,12 @@ use Rattle.query.specs.Check.{Checked, passed, checkQuery}
 use Rattle.calculus.specs.Reading.{refused, read}
 use Rattle.query.proofs.Passed.{passed-inked, count-within, are-cells, same-candidate}
 use Rattle.answer.specs.declared.asked.Asked.the-variants.{Verdict, Refused}
-use Rattle.answer.specs.declared.evaluated.Evaluated.{Evaluated}
-use Rattle.answer.specs.declared.evaluated.Evaluated.the-variants as evaluated
-use Rattle.answer.specs.Within.{within}
+use Rattle.evaluate.specs.declared.evaluated.Evaluated.{Evaluated}
+use Rattle.evaluate.specs.declared.evaluated.Evaluated.the-variants as evaluated
+use Rattle.evaluate.specs.Within.{within}
 use Rattle.answer.specs.Ask.{ifPassed, evaluatedAs, answeredBy, askable, ask}
 use Rattle.answer.specs.Rerun.{DemandThree}
-use Rattle.answer.proofs.Budget.{verdict, was-verdict}
+use Rattle.evaluate.proofs.Budget.{verdict, was-verdict}
 use Rattle.calculus.proofs.Bools.{zero-not-one}
 
 -- what a verdict says of the refusals before it

@@ -14,7 +14,7 @@ use Rattle.answer.specs.declared.asked.Asked.{Asked}
 use Rattle.answer.specs.declared.asked.Asked.the-variants.{Verdict, Refused}
 use Rattle.answer.specs.Ask.{ask}
 use Rattle.answer.specs.Numbers.{askedAs, askedNumber, verdictOf, looksOf, TellsVerdict}
-use Rattle.answer.proofs.Budget.{was-verdict}
+use Rattle.evaluate.proofs.Budget.{was-verdict}
 use Rattle.answer.proofs.RerunLaws.{verdict-asked}
 
 -- a verdict is that of the outcome

@@ -19,9 +19,9 @@ use Rattle.query.specs.Check.{Checked, passed, checkQuery}
 use Rattle.calculus.specs.Reading.{refused, read}
 use Rattle.answer.specs.declared.asked.Asked.{Asked}
 use Rattle.answer.specs.declared.asked.Asked.the-variants as ask-answer
-use Rattle.answer.specs.declared.evaluated.Evaluated.{Evaluated}
-use Rattle.answer.specs.declared.evaluated.Evaluated.the-variants as evaluated
-use Rattle.answer.specs.Within.{within}
+use Rattle.evaluate.specs.declared.evaluated.Evaluated.{Evaluated}
+use Rattle.evaluate.specs.declared.evaluated.Evaluated.the-variants as evaluated
+use Rattle.evaluate.specs.Within.{within}
 use Rattle.calculus.specs.Demand.{demand}
 use Rattle.calculus.specs.Overwrite.{overwrite}
 use Rattle.query.specs.Words.{rightLength}

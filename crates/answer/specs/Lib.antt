@@ -1,5 +1,3 @@
-pub mod Within
-pub mod Ready
 pub mod Ask
 pub mod Rerun
 pub mod Numbers

@@ -1,6 +1,3 @@
-// Asking: evaluation of a question's nodes, and the call.
+// Asking a question of an instance.
 pub mod ask;
 pub mod asked;
-pub mod evaluated;
-mod nodes;
-mod terms;

@@ -1,6 +1,6 @@
 // Rows that are entered, and rows and plots that are refused.
-use instance::header::Header;
 use insert::insert;
+use instance::header::Header;
 use worked::plots::one_sheet;
 use worked::plots::sheets;
 use worked::plots::two_sheets;

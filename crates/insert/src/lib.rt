@@ -5,6 +5,12 @@ ghost use mathlib.Core.List.{_∷_, _++_};
 ghost use lib.ListN.{length, drop};
 ghost use Rattle.calculus.specs.Answer.{Tells};
 ghost use Rattle.instance.specs.Insert.{inserted, insertedHeader, insertedWords};
+use calculus::answer::Answer;
+use calculus::refusal::NO_ROOM;
+use calculus::refusal::NO_SUCH_RELATION;
+use calculus::refusal::NOT_A_CELL;
+use calculus::refusal::UNSOUND;
+use calculus::refusal::WRONG_ROW_LENGTH;
 use instance::cells::are_cells;
 use instance::header::Header;
 use instance::header::Stored;
@@ -12,12 +18,6 @@ use instance::header::header_with;
 use instance::room::has_room;
 use instance::scan::Scanned;
 use instance::scan::scan;
-use calculus::answer::Answer;
-use calculus::refusal::NO_ROOM;
-use calculus::refusal::NO_SUCH_RELATION;
-use calculus::refusal::NOT_A_CELL;
-use calculus::refusal::UNSOUND;
-use calculus::refusal::WRONG_ROW_LENGTH;
 
 fn check_insert(header: Header, plot: &[u32], relation: u32, cells: &[u32]) -> Answer
     ensures { λ r. ⌜ r ≡ inserted header (now (plot .entry)) relation (now (cells .entry)) ⌝ }

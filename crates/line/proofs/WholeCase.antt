@@ -18,7 +18,7 @@ use Rattle.card.specs.Format.{readArities, readCount, readHead, readField, read
 use Rattle.query.specs.Tree.{termOf, termsAt, formulaAt}
 use Rattle.query.specs.Check.{zerosFrom, checkTerms, checkChild, checkNode, checkNodes, checkQuery}
 use Rattle.query.specs.Words.{rightLength, kindOf}
-use Rattle.answer.specs.Within.{within}
+use Rattle.evaluate.specs.Within.{within}
 use Rattle.answer.specs.Ask.{askable, ask}
 use Rattle.line.specs.Line.{blank, askedCard, answered, lineOf}
 use Rattle.line.specs.Decimal.{digitsIn}

@@ -6,14 +6,14 @@ ghost use Rattle.calculus.specs.Answer.{Tells};
 ghost use Rattle.calculus.specs.Cell.{nulls};
 ghost use Rattle.instance.specs.Header.{maxWords};
 ghost use Rattle.instance.specs.NullCounts.{counted, countedWords, nullsIn};
-use instance::header::Header;
-use instance::scan::Scanned;
-use instance::scan::scan;
 use calculus::answer::Answer;
 use calculus::cell::CONSTANTS;
 use calculus::cell::NULLS;
 use calculus::refusal::OUTPUT_TOO_SHORT;
 use calculus::refusal::UNSOUND;
+use instance::header::Header;
+use instance::scan::Scanned;
+use instance::scan::scan;
 
 // The count of each null in words, in one pass.
 fn count_words(words: &[u32]) -> [u32; 200]

@@ -9,9 +9,6 @@ ghost use Rattle.calculus.specs.Answer.{Tells};
 ghost use Rattle.calculus.specs.Fill.{countOf, held};
 ghost use Rattle.instance.specs.Sound.{rows};
 ghost use Rattle.instance.specs.Substitute.{substituted, substitutedWords};
-use instance::header::Header;
-use instance::scan::Scanned;
-use instance::scan::scan;
 use calculus::answer::Answer;
 use calculus::cell::CONSTANTS;
 use calculus::cell::NULLS;
@@ -20,6 +17,9 @@ use calculus::refusal::NO_SUCH_NULL;
 use calculus::refusal::NOT_A_CELL;
 use calculus::refusal::NULL_ABSENT;
 use calculus::refusal::UNSOUND;
+use instance::header::Header;
+use instance::scan::Scanned;
+use instance::scan::scan;
 
 // A relation's number is below every null, so the words in use need not be told apart from cells.
 pub fn replace(words: &mut [u32], mark: u32, cell: u32) -> u32

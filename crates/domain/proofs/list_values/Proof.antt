@@ -1,0 +1,183 @@
+-- `domain::list_values` meets its contract: the first n words of the buffer are chained, and hold the values of the rows before index i. Assumes nothing.
+use Prim.Native.Nat.{ℕ, _≤_, _<_, _-_, _+_}
+use mathlib.Core.Path.{_≡_, sym, ap, _∙_}
+use mathlib.Core.List.{List, [], _++_, _∷_}
+use native.Mathlib.Omega.{arith}
+use borrow.Author.Needs.{needs}
+use lib.ListN.{length, take, drop, getD, length-map}
+use lib.Seq.{length-take-le, length-front}
+use Rattle.calculus.specs.Row.{Row, cellsOf}
+use Rattle.instance.specs.Header.{arityOf, maxRelations}
+use Rattle.instance.specs.Rows.{rowsFrom}
+use Rattle.instance.proofs.Walk.{Walk, walk-starts, AtRow, row-here, rows-end, relation-few}
+use Rattle.domain.specs.Chains.{valueOf, Chained}
+use Rattle.domain.proofs.Chains.{chained-starts}
+use Rattle.domain.proofs.Listing.{Listing, listing-starts, listing-row, listing-room, listing-fits, listing-number, listing-ends}
+use Rattle.domain.proofs.list_values.Statement.{statement}
+use Rattle.domain.proofs.list_values.Tie as tie
+
+abbrev Inv-loop : tie.InvT-loop
+Inv-loop words arities relations buffer₀ heads₀ n₀ i₀ buffer heads n i =
+    Walk relations arities words i × (n ≤ i) × Chained heads buffer n
+    × Listing (cellsOf (rowsFrom arities 0 words)) buffer₀ buffer n (rowsFrom arities 0 (drop i words))
+
+abbrev μ-loop : tie.MeasureT-loop
+μ-loop words arities relations buffer₀ heads₀ n₀ i₀ buffer heads n i = length words - i
+
+loop-holds : tie.Need-loop-holds Inv-loop μ-loop
+loop-holds c = (walk-starts _ _ _ (c .before .before .pre .0 .words), omega arith, chained-starts _, listing-starts _ _ (c .before .before .pre .1))
+
+-- the row at index i
+module _ (c : tie.In-loop Inv-loop μ-loop) where
+  abbrev start : tie.Start Inv-loop μ-loop
+  start = c .before .before .before .before
+
+  abbrev n : ℕ
+  n = start .args .relations
+
+  abbrev ars : List ℕ
+  ars = start .args .arities .now
+
+  abbrev ws : List ℕ
+  ws = start .args .words .now
+
+  abbrev i : ℕ
+  i = c .before .loop .i
+
+  abbrev a : ℕ
+  a = arityOf ars (getD ws i 0)
+
+  abbrev row : Row
+  row = record { relation = getD ws i 0; cells = take a (drop (i + 1) ws) }
+
+  here : AtRow n ars ws i
+  here = row-here n ars ws i (omega arith) (c .before .loop .inv .0)
+
+  few : getD ws i 0 < maxRelations
+  few = relation-few n ars ws (getD ws i 0) (start .pre .0) (here .relation)
+
+  -- its cells, as they are lent
+  lent : take (i + 1 + a - (i + 1)) (drop (i + 1) ws) ≡ row .cells
+  lent = let e : i + 1 + a - (i + 1) ≡ a = omega arith in ap (λ (k : ℕ). take k (drop (i + 1) ws)) e
+
+  sum : i + 1 + a ≡ i + (1 + a)
+  sum = omega arith
+
+  to-come : Listing (cellsOf (rowsFrom ars 0 ws)) (start .args .buffer .now) (c .before .loop .buffer) (c .before .loop .n) (row ∷ rowsFrom ars 0 (drop (i + (1 + a)) ws))
+  to-come = rw (here .rows) at (c .before .loop .inv .3)
+
+add-first : tie.Need-add-first Inv-loop μ-loop
+add-first c = omega arith
+
+mul-next : tie.Need-mul-next Inv-loop μ-loop
+mul-next c = omega arith
+
+shared-slice-read-next : tie.Need-shared-slice-read-next Inv-loop μ-loop
+shared-slice-read-next c = omega arith
+
+cast-next : tie.Need-cast-next Inv-loop μ-loop
+cast-next c = omega (arith, few (c .before))
+
+mul-next-2 : tie.Need-mul-next-2 Inv-loop μ-loop
+mul-next-2 c = omega (arith, few (c .before))
+
+element-copy-out-next : tie.Need-element-copy-out-next Inv-loop μ-loop
+element-copy-out-next c = few (c .before)
+
+cast-next-2 : tie.Need-cast-next-2 Inv-loop μ-loop
+cast-next-2 c = omega (arith, here (c .before .before) .next .within)
+
+add-next : tie.Need-add-next Inv-loop μ-loop
+add-next c = omega (arith, here (c .before .before) .next .within)
+
+mul-add-cells : tie.Need-mul-add-cells Inv-loop μ-loop
+mul-add-cells c = omega arith
+
+sub-add-cells : tie.Need-sub-add-cells Inv-loop μ-loop
+sub-add-cells c = omega arith
+
+part-add-cells-start : tie.Need-part-add-cells-start Inv-loop μ-loop
+part-add-cells-start c = omega arith
+
+part-add-cells-end : tie.Need-part-add-cells-end Inv-loop μ-loop
+part-add-cells-end c = omega (arith, here (c .before .before .before .before) .next .within)
+
+add-cells-requires : tie.Need-add-cells-requires Inv-loop μ-loop
+add-cells-requires c κs =
+    let b = c .before .before .before .before .before in
+    let h = here b in
+    rw (lent b) (
+      listing-room (to-come b),
+      omega (arith, h .size, h .next .within, start b .pre .0 .few),
+      h .cells,
+      b .before .loop .inv .2,
+    )
+
+loop-less : tie.Need-loop-less Inv-loop μ-loop
+loop-less c = omega arith
+
+loop-again : tie.Need-loop-again Inv-loop μ-loop
+loop-again c =
+    let b = c .before .before .before .before .before .before .before .before in
+    let added = rw (lent b) at (c .before .before .add-cells .ensures .1) in
+    rw (sum b) (here b .next, omega (arith, added .most, here b .size), c .before .before .add-cells .ensures .0, listing-row (to-come b) added)
+
+all-listed :
+    (c : tie.After-loop Inv-loop μ-loop) →
+    Listing
+    (cellsOf (rowsFrom (c .before .before .before .before .args .arities .now) 0 (c .before .before .before .before .args .words .now)))
+    (c .before .before .before .before .args .buffer .now) (c .before .loop .buffer) (c .before .loop .n) []
+all-listed c =
+    let ws = c .before .before .before .before .args .words .now in
+    let e : c .before .loop .i ≡ length ws = omega (arith, c .before .loop .inv .0 .within) in
+    rw (rows-end (c .before .before .before .before .args .arities .now) ws _ e) at (c .before .loop .inv .3)
+
+slice-relend-prefix-unlink : tie.Need-slice-relend-prefix-unlink Inv-loop μ-loop
+slice-relend-prefix-unlink c = listing-fits (all-listed c)
+
+slice-aggregate-unlink : tie.Need-slice-aggregate-unlink Inv-loop μ-loop
+slice-aggregate-unlink c = sym (length-take-le _ _ (listing-fits (all-listed (c .before))))
+
+unlink-requires : tie.Need-unlink-requires Inv-loop μ-loop
+unlink-requires c κs = search needs
+
+same-length : tie.Need-same-length Inv-loop μ-loop
+same-length c =
+    let e = c .before .before .before .before .before .loop in
+    let l = ap length (c .before .before .unlink .ensures) ∙ length-map (take (e .n) (e .buffer)) valueOf in
+    length-front (e .buffer) (c .before .before .unlink .last .0) (e .n) l ∙ e .inv .3 .added .long
+
+returns : tie.Need-returns Inv-loop μ-loop
+returns c =
+    let e = c .before .before .before .before in (
+      listing-number (all-listed e),
+      ap (λ (l : List ℕ). l ++ drop (e .before .loop .n) (e .before .loop .buffer)) (c .before .before .unlink .ensures) ∙ listing-ends (all-listed e),
+    )
+
+pub list-values-spec : {M : Type 1} → statement M
+list-values-spec =
+    tie.close
+    (tie.spec
+    Inv-loop
+    μ-loop
+    loop-holds
+    add-first
+    mul-next
+    shared-slice-read-next
+    cast-next
+    mul-next-2
+    element-copy-out-next
+    cast-next-2
+    add-next
+    mul-add-cells
+    sub-add-cells
+    part-add-cells-start
+    part-add-cells-end
+    add-cells-requires
+    loop-less
+    loop-again
+    slice-relend-prefix-unlink
+    slice-aggregate-unlink
+    unlink-requires
+    same-length
+    returns)

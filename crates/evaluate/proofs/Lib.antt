@@ -1,0 +1,4 @@
+pub mod Budget
+pub mod Steps
+pub mod Children
+pub mod TermLaws

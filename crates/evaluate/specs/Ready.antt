@@ -1,0 +1,61 @@
+-- What evaluation is given: a sound instance's words, a question that passed its check, the number of rows of each relation, and the instance's values.
+use Prim.Native.Nat.{ℕ, _+_, _*_, _<_, _≤_}
+use mathlib.Core.Path.{_≡_}
+use mathlib.Core.Bool.{Bool, true, false}
+use mathlib.Core.List.{List}
+use lib.ListN.{length, getD}
+use Rattle.calculus.specs.Kleene.{Junction, conj, disj}
+use Rattle.calculus.specs.Formula.{variables}
+use Rattle.calculus.specs.Eval.{Outcome, Structure, eval}
+use Rattle.calculus.specs.Closed.{closed, tuples}
+use Rattle.instance.specs.Header.{headerStands, maxRelations, maxColumns, maxWords}
+use Rattle.instance.specs.Rows.{wordsStand, rowsFrom}
+use Rattle.query.specs.Words.{nodeCount, nodeWords, maxNodes, wordAt}
+use Rattle.query.specs.Tree.{formulaAt}
+use Rattle.query.specs.Check.{isTerm}
+use Rattle.query.specs.Passed.{NodeStands}
+use Rattle.evaluate.specs.declared.evaluated.Evaluated.{Evaluated}
+use Rattle.evaluate.specs.Within.{within}
+use Rattle.instance.specs.Standing.{Standing}
+
+-- the structure that words stand for
+abbrev pub world : List ℕ → List ℕ → Structure
+world ars ws = closed (rowsFrom ars 0 ws)
+
+pub record Ready (n : ℕ) (ars ws qs counts : List ℕ) : Type 0 where
+  pub standing : Standing n ars ws
+  pub eight : length ars ≡ maxRelations
+  pub whole : nodeCount qs * nodeWords ≡ length qs
+  pub nodes-few : nodeCount qs ≤ maxNodes
+  pub nodes : (i : ℕ) → i < nodeCount qs → NodeStands n ars qs i
+  pub counted : (r : ℕ) → r < n → getD counts r 0 ≡ length (tuples r (rowsFrom ars 0 ws))
+  pub eight-counts : length counts ≡ maxRelations
+
+-- the outcome of node i in a structure, with k nodes left, under an assignment
+abbrev pub outcomeAt : Structure → List ℕ → List ℕ → ℕ → ℕ → List ℕ → Outcome
+outcomeAt S ars qs k i e = eval S (formulaAt ars qs k i) e
+
+pub record Evaluable (n : ℕ) (ars ws qs counts values : List ℕ) (i : ℕ) (e : List ℕ) : Type 0 where
+  pub ready : Ready n ars ws qs counts
+  pub listed : values ≡ world ars ws .range
+  pub known : i < nodeCount qs
+  pub sixteen : length e ≡ variables
+
+-- an answer is right for node i: with as many nodes left as there are, the outcome within the budget
+abbrev pub RightIn : Structure → List ℕ → List ℕ → ℕ → List ℕ → ℕ → Evaluated → Type 0
+RightIn S ars qs i e budget r = (k : ℕ) → nodeCount qs ≤ i + k → r ≡ within budget (outcomeAt S ars qs k i e)
+
+abbrev pub Right : List ℕ → List ℕ → List ℕ → ℕ → List ℕ → ℕ → Evaluated → Type 0
+Right ars ws qs i e budget r = RightIn (world ars ws) ars qs i e budget r
+
+-- every is and, some is or
+abbrev pub junctionOf : Bool → Junction
+junctionOf true = conj
+junctionOf false = disj
+
+-- the terms in so many words of node i, from word 2 on, stand
+pub record TermsStand (qs : List ℕ) (i arity : ℕ) (e : List ℕ) : Type 0 where
+  pub known : i < nodeCount qs
+  pub narrow : arity ≤ maxColumns
+  pub terms : (j : ℕ) → j < arity → isTerm (wordAt qs i (2 + j)) ≡ true
+  pub sixteen : length e ≡ variables

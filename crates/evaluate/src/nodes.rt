@@ -1,0 +1,301 @@
+// Evaluation of a question's nodes. The stack grows with the question's depth alone: the walk over values is a loop.
+ghost use mathlib.Core.Path.{_≡_};
+ghost use Rattle.calculus.specs.Eval.{settles as settlesOf, Structure};
+ghost use Rattle.calculus.specs.Kleene.{join as joinOf, unit as unitOf};
+ghost use Prim.Native.Nat.{_<_, ℕ};
+ghost use lib.ListN.{length, set};
+ghost use Rattle.calculus.specs.Formula.{variables};
+ghost use Rattle.query.specs.Words.{nodeCount, nodeWords, wordAt, kindOf, rowStands, equals, negates, joins, ranges};
+ghost use Rattle.evaluate.specs.Ready.{Evaluable, Right, junctionOf, Ready, RightIn};
+ghost use Rattle.calculus.specs.Closed.{equality as equalityOf};
+ghost use mathlib.Core.List.{List};
+ghost use mathlib.Core.Bool.{true};
+ghost use Rattle.query.specs.Check.{isTerm};
+use super::evaluated::Evaluated;
+use super::terms::asked_row;
+use super::terms::same;
+use super::terms::term;
+use calculus::truth::Truth;
+use calculus::truth::and;
+use calculus::truth::not;
+use calculus::truth::or;
+use lookup::relation::stands;
+use query::words::NODE_WORDS;
+
+// Word j of a node.
+fn word(query: &[u32], node: usize, j: usize) -> usize
+    requires { ⌜ (node < nodeCount (now query)) × (j < nodeWords) ⌝ }
+    ensures { λ r. ⌜ r ≡ wordAt (now (query .entry)) node j ⌝ }
+{
+    query[node * NODE_WORDS + j] as usize
+}
+
+// Gives a variable a cell.
+fn assign(env: &mut [u32; 16], variable: usize, cell: u32)
+    requires { ⌜ (variable < variables) × (length (now env) ≡ variables) ⌝ }
+    ensures { λ _. ⌜ now (env .exit) ≡ set (now (env .entry)) variable cell ⌝ }
+{
+    env[variable] = cell;
+}
+
+// An atom.
+fn atom(
+    query: &[u32],
+    node: usize,
+    env: &[u32; 16],
+    budget: u32,
+    relations: u32,
+    arities: &[u32; 8],
+    words: &[u32],
+    counts: &[u32; 8],
+) -> Evaluated
+    requires { ⌜ Ready relations (now arities) (now words) (now query) (now counts) × (node < nodeCount (now query)) × (length (now env) ≡ variables) ⌝ }
+    requires { ⌜ kindOf (wordAt (now query) node 0) ≡ rowStands ⌝ }
+    ensures right { λ r. ⌜ Right (now (arities .entry)) (now (words .entry)) (now (query .entry)) node (now (env .entry)) budget r ⌝ }
+{
+    let relation = word(query, node, 1);
+    let rows = counts[relation];
+    let cost = 1 + rows;
+    if budget < cost {
+        return Evaluated::Spent;
+    }
+    let arity = arities[relation] as usize;
+    let row = asked_row(query, node, arity, env);
+    Evaluated::Verdict(
+        stands(words, arities, relations, relation as u32, rows, &row),
+        cost,
+    )
+}
+
+// An equality.
+fn equality(query: &[u32], node: usize, env: &[u32; 16], budget: u32) -> Evaluated
+    requires { ⌜ (node < nodeCount (now query)) × (length (now env) ≡ variables) ⌝ }
+    requires { ⌜ (isTerm (wordAt (now query) node 1) ≡ true) × (isTerm (wordAt (now query) node 2) ≡ true) ⌝ }
+    requires { ⌜ kindOf (wordAt (now query) node 0) ≡ equals ⌝ }
+    ensures right { λ r. ⌜ ((S : Structure) (ars : List ℕ) → S .equals ≡ equalityOf → RightIn S ars (now (query .entry)) node (now (env .entry)) budget r) ⌝ }
+{
+    if budget < 1 {
+        return Evaluated::Spent;
+    }
+    let a = term(query, node, 1, env);
+    let b = term(query, node, 2, env);
+    Evaluated::Verdict(same(a, b), 1)
+}
+
+// `and` if `every`, otherwise `or`.
+fn join(every: bool, a: Truth, b: Truth) -> Truth
+    ensures { λ r. ⌜ r ≡ joinOf (junctionOf every) a b ⌝ }
+{
+    if every { and(a, b) } else { or(a, b) }
+}
+
+fn settles(every: bool, a: Truth) -> bool
+    ensures { λ r. ⌜ r ≡ settlesOf (junctionOf every) a ⌝ }
+{
+    match a {
+        Truth::False => every,
+        Truth::Unknown => false,
+        Truth::True => !every,
+    }
+}
+
+// What joining none gives.
+fn unit(every: bool) -> Truth
+    ensures { λ r. ⌜ r ≡ unitOf (junctionOf every) ⌝ }
+{
+    if every { Truth::True } else { Truth::False }
+}
+
+fn negated(
+    query: &[u32],
+    node: usize,
+    env: &mut [u32; 16],
+    budget: u32,
+    values: &[u32],
+    relations: u32,
+    arities: &[u32; 8],
+    words: &[u32],
+    counts: &[u32; 8],
+) -> Evaluated
+    requires { ⌜ Evaluable relations (now arities) (now words) (now query) (now counts) (now values) node (now env) ⌝ }
+    requires { ⌜ kindOf (wordAt (now query) node 0) ≡ negates ⌝ }
+    ensures kept { λ r. ⌜ now (env .exit) ≡ now (env .entry) ⌝ }
+    ensures right { λ r. ⌜ Right (now (arities .entry)) (now (words .entry)) (now (query .entry)) node (now (env .entry)) budget r ⌝ }
+{
+    let child = word(query, node, 1);
+    let Evaluated::Verdict(truth, cost) = evaluate(
+        query,
+        child,
+        env,
+        budget,
+        values,
+        relations,
+        arities,
+        words,
+        counts,
+    ) else {
+        return Evaluated::Spent;
+    };
+    Evaluated::Verdict(not(truth), cost)
+}
+
+fn both(
+    query: &[u32],
+    node: usize,
+    every: bool,
+    env: &mut [u32; 16],
+    budget: u32,
+    values: &[u32],
+    relations: u32,
+    arities: &[u32; 8],
+    words: &[u32],
+    counts: &[u32; 8],
+) -> Evaluated
+    requires { ⌜ Evaluable relations (now arities) (now words) (now query) (now counts) (now values) node (now env) ⌝ }
+    requires { ⌜ kindOf (wordAt (now query) node 0) ≡ joins (junctionOf every) ⌝ }
+    ensures kept { λ r. ⌜ now (env .exit) ≡ now (env .entry) ⌝ }
+    ensures right { λ r. ⌜ Right (now (arities .entry)) (now (words .entry)) (now (query .entry)) node (now (env .entry)) budget r ⌝ }
+{
+    let left = word(query, node, 1);
+    let right = word(query, node, 2);
+    let Evaluated::Verdict(a, paid) = evaluate(
+        query,
+        left,
+        env,
+        budget,
+        values,
+        relations,
+        arities,
+        words,
+        counts,
+    ) else {
+        return Evaluated::Spent;
+    };
+    if settles(every, a) {
+        return Evaluated::Verdict(a, paid);
+    }
+    let Evaluated::Verdict(b, more) = evaluate(
+        query,
+        right,
+        env,
+        budget - paid,
+        values,
+        relations,
+        arities,
+        words,
+        counts,
+    ) else {
+        return Evaluated::Spent;
+    };
+    Evaluated::Verdict(join(every, a, b), paid + more)
+}
+
+fn walk(
+    query: &[u32],
+    node: usize,
+    every: bool,
+    env: &mut [u32; 16],
+    budget: u32,
+    values: &[u32],
+    relations: u32,
+    arities: &[u32; 8],
+    words: &[u32],
+    counts: &[u32; 8],
+) -> Evaluated
+    requires { ⌜ Evaluable relations (now arities) (now words) (now query) (now counts) (now values) node (now env) ⌝ }
+    requires { ⌜ kindOf (wordAt (now query) node 0) ≡ ranges (junctionOf every) ⌝ }
+    ensures kept { λ r. ⌜ now (env .exit) ≡ now (env .entry) ⌝ }
+    ensures right { λ r. ⌜ Right (now (arities .entry)) (now (words .entry)) (now (query .entry)) node (now (env .entry)) budget r ⌝ }
+{
+    let variable = word(query, node, 1);
+    let child = word(query, node, 2);
+    let old = env[variable];
+    let mut truth = unit(every);
+    let mut cost: u32 = 0;
+    let mut i = 0;
+    while i < values.len() {
+        assign(env, variable, values[i]);
+        let Evaluated::Verdict(one, paid) = evaluate(
+            query,
+            child,
+            env,
+            budget - cost,
+            values,
+            relations,
+            arities,
+            words,
+            counts,
+        ) else {
+            assign(env, variable, old);
+            return Evaluated::Spent;
+        };
+        cost += paid;
+        truth = join(every, truth, one);
+        if settles(every, one) {
+            assign(env, variable, old);
+            return Evaluated::Verdict(truth, cost);
+        }
+        i += 1;
+    }
+    assign(env, variable, old);
+    Evaluated::Verdict(truth, cost)
+}
+
+pub fn evaluate(
+    query: &[u32],
+    node: usize,
+    env: &mut [u32; 16],
+    budget: u32,
+    values: &[u32],
+    relations: u32,
+    arities: &[u32; 8],
+    words: &[u32],
+    counts: &[u32; 8],
+) -> Evaluated
+    requires { ⌜ Evaluable relations (now arities) (now words) (now query) (now counts) (now values) node (now env) ⌝ }
+    ensures kept { λ r. ⌜ now (env .exit) ≡ now (env .entry) ⌝ }
+    ensures right { λ r. ⌜ Right (now (arities .entry)) (now (words .entry)) (now (query .entry)) node (now (env .entry)) budget r ⌝ }
+{
+    let kind = word(query, node, 0);
+    match kind {
+        1 => atom(query, node, env, budget, relations, arities, words, counts),
+        2 => equality(query, node, env, budget),
+        3 => negated(
+            query,
+            node,
+            env,
+            budget,
+            values,
+            relations,
+            arities,
+            words,
+            counts,
+        ),
+        4 | 5 => both(
+            query,
+            node,
+            kind == 4,
+            env,
+            budget,
+            values,
+            relations,
+            arities,
+            words,
+            counts,
+        ),
+        6 | 7 => walk(
+            query,
+            node,
+            kind == 7,
+            env,
+            budget,
+            values,
+            relations,
+            arities,
+            words,
+            counts,
+        ),
+        // Never reached: the contract requires that every node has a kind from 1 to 7.
+        _ => Evaluated::Spent,
+    }
+}
