@@ -1,8 +1,8 @@
+pub mod Opening
 pub mod Fields
 pub mod Records
+pub mod Measuring
+pub mod Told
 pub mod Written
 pub mod WritingRows
-pub mod Measuring
-pub mod Opening
 pub mod Decoding
-pub mod Told

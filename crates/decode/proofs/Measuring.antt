@@ -1,4 +1,4 @@
--- The first pass over a card's records: how it starts, goes on behind a record, and ends. Assumes nothing.
+-- The first pass over a card's records: how it starts, goes on after a record, and ends. Assumes nothing.
 use Prim.Native.Nat.{ℕ, suc, _+_, _-_, _*_, _≤_, _<_, max}
 use mathlib.Core.Path.{_≡_, sym, ap, _∙_}
 use mathlib.Core.Bool.{true}
@@ -6,11 +6,12 @@ use mathlib.Core.List.{List}
 use native.Mathlib.Omega.{arith}
 use lib.ListN.{length, drop, getD, length-drop}
 use lib.Seq.{drop-drop}
+use Rattle.instance.specs.Blanks.{blanks, highest}
 use Rattle.instance.specs.Header.{aritiesStand, maxColumns}
+use Rattle.parse.specs.Parse.{readEach}
 use Rattle.decode.specs.declared.measure.Measured.the-variants as measured
 use Rattle.decode.specs.declared.measure.Needed.the-variants as needed
 use Rattle.card.specs.Format.{readRecord, readRecords}
-use Rattle.card.specs.Blanks.{blanks, highest}
 use Rattle.decode.specs.Measure.{measuredRecord, measuredRecords, wordsIn}
 use Rattle.instance.proofs.Rows.{arity-low}
 use Rattle.decode.proofs.Records.{record-read, step, added, added-none, added-more, records-more, records-refused}
@@ -20,8 +21,8 @@ module _ (card : List ℕ) (start n : ℕ) (ars : List ℕ) (count : ℕ) where
   pub record Measuring (words blank top at left : ℕ) : Type 0 where
     pub within : at ≤ length card
     pub fewer : left ≤ count
-    pub few-words : words + 7 * left ≤ 7 * count
-    pub few-blanks : blank + 6 * left ≤ 6 * count
+    pub few-words : words + (1 + maxColumns) * left ≤ (1 + maxColumns) * count
+    pub few-blanks : blank + maxColumns * left ≤ maxColumns * count
     pub sum :
         measuredRecords (length card) (readRecords n ars count (drop start card))
         ≡ added words blank top (measuredRecords (length card) (readRecords n ars left (drop at card)))
@@ -35,13 +36,13 @@ module _ (card : List ℕ) (start n : ℕ) (ars : List ℕ) (count : ℕ) where
     sum = sym (added-none (measuredRecords (length card) (readRecords n ars count (drop start card))));
   }
 
-  -- a record at the place, and the turn behind it
+  -- a record at index `at`, and the turn after it
   pub record Turn (words blank top at left arity written h : ℕ) : Type 0 where
     pub narrow : arity ≤ maxColumns
     pub fewer : written ≤ arity
     pub in-card : at + (2 + 3 * written) ≤ length card
-    pub words-fit : words + (1 + arity) ≤ 7 * count
-    pub blanks-fit : blank + (arity - written) ≤ 6 * count
+    pub words-fit : words + (1 + arity) ≤ (1 + maxColumns) * count
+    pub blanks-fit : blank + (arity - written) ≤ maxColumns * count
     pub then : Measuring (words + (1 + arity)) (blank + (arity - written)) (max top h) (at + (2 + 3 * written)) (left - 1)
 
   module _ (words blank top at left : ℕ) (m : Measuring words blank top at left) (some : 0 < left) where
@@ -62,10 +63,10 @@ module _ (card : List ℕ) (start n : ℕ) (ars : List ℕ) (count : ℕ) where
       then = record { within = in-card; fewer = omega arith; few-words = omega arith; few-blanks = omega arith; sum = sum };
     }
 
-    pub turn : (arity written h : ℕ) → aritiesStand n ars ≡ true
+    pub next-turn : (arity written h : ℕ) → aritiesStand n ars ≡ true
         → measuredRecord (readRecord n ars (drop at card)) ≡ measured.Record arity written h
         → Turn words blank top at left arity written h
-    turn arity written h stand e =
+    next-turn arity written h stand e =
         let s = step n ars (drop at card) arity written h e in
         let low : arity ≤ maxColumns =
         omega (arith, s .arity-is, record-read n ars (drop at card) (s .was-read) .columns, arity-low n ars (getD (drop at card) 0 0) stand) in
@@ -89,7 +90,7 @@ module _ (card : List ℕ) (start n : ℕ) (ars : List ℕ) (count : ℕ) where
   pub measuring-ends : (words blank top at left : ℕ) → Measuring words blank top at left → left ≤ 0
       → measuredRecords (length card) (readRecords n ars count (drop start card))
       ≡ needed.Records (record { words = words; blanks = blank; highest = top; end = at })
-  unfolding measuredRecords readRecords wordsIn blanks highest
+  unfolding measuredRecords readEach wordsIn blanks highest
   measuring-ends words blank top at left m none =
       let a : left ≡ 0 = omega arith in
       let b : words + 0 ≡ words = omega arith in

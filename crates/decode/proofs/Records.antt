@@ -1,4 +1,4 @@
--- Reading records: what a record that was read says of its bytes, and what the first pass answers of one record and of the records behind it.
+-- Reading records: what a record that was read says of its bytes, and what the first pass returns of one record and of the records after it.
 -- Assumes nothing.
 use Prim.Native.Nat.{ℕ, suc, _+_, _-_, _*_, _^_, _≤_, _<_, max}
 use mathlib.Core.Path.{_≡_, refl, sym, ap, _∙_}
@@ -13,135 +13,106 @@ use borrow.Author.Tests.{ltb-true, lt-ltb, le-ltb}
 use Rattle.calculus.specs.declared.answer.Answer.{Answer}
 use Rattle.calculus.specs.declared.answer.Answer.the-variants.{Done, Refused}
 use Rattle.calculus.specs.Cell.{nulls}
+use Rattle.calculus.specs.Reading.{read, refused, andThen}
 use Rattle.calculus.specs.Refusal.{cut-short, no-such-relation, bit-beyond-arity}
+use Rattle.calculus.proofs.Bools.{zero-not-one}
 use Rattle.instance.specs.Header.{arityOf}
+use Rattle.instance.specs.Blanks.{Field, Record, blanksIn, highestIn, blanks, highest, writtenOf}
+use Rattle.parse.specs.Parse.{Parsed, readEach}
+use Rattle.parse.proofs.Bytes.{byte-at, byte-cut}
+use Rattle.card.specs.Format.{readFields, readRecord, readRecords}
+use Rattle.card.proofs.Parts.{fields-stand, record-read as parts}
 use Rattle.decode.specs.declared.measure.Measured.{Measured}
 use Rattle.decode.specs.declared.measure.Measured.the-variants as measured
 use Rattle.decode.specs.declared.measure.Needed.{Needed}
 use Rattle.decode.specs.declared.measure.Needed.the-variants as needed
-use Rattle.card.specs.Parse.{Parsed, read, refused, andThen, readByte}
-use Rattle.card.specs.Format.{Field, Record, readFields, readRecord, readRecords}
-use Rattle.card.specs.Blanks.{blanksIn, highestIn, blanks, highest}
-use Rattle.decode.specs.Measure.{readWritten, writtenOf, measuredFields, measuredRecord, measuredRecords, wordsIn}
-use Rattle.card.proofs.Order.{read-first, byte-read}
-use Rattle.decode.proofs.Fields.{WrittenRead, written-read, onlyWritten, fields-written, fields-columns, written-or-blank, highest-written}
+use Rattle.decode.specs.Measure.{readWritten, measuredFields, measuredRecord, measuredRecords, wordsIn}
+use Rattle.decode.proofs.Fields.{WrittenRead, written-read, onlyWritten, fields-written, written-or-blank}
 
 -- the fields of a map that is within the columns
-pub record FieldsRead (columns bits : ℕ) (bs : List ℕ) (fs : List Field) (rest : List ℕ) : Type 0 where
-  pub columns-are : length fs ≡ columns
-  pub count : length (writtenOf fs) ≡ ones bits
-  pub low : highestIn fs ≤ nulls
-  pub long : 3 * ones bits ≤ length bs
-  pub behind : rest ≡ drop (3 * ones bits) bs
+record FieldsRead (columns bits : ℕ) (bs : List ℕ) (fs : List Field) (rest : List ℕ) : Type 0 where
+  columns-are : length fs ≡ columns
+  were : WrittenRead (ones bits) bs (writtenOf fs) rest
 
-pub fields-read : (a bits : ℕ) (bs : List ℕ) {fs : List Field} {rest : List ℕ} → bits < 2 ^ a → readFields a bits bs ≡ read fs rest
+fields-read : (a bits : ℕ) (bs : List ℕ) {fs : List Field} {rest : List ℕ} → bits < 2 ^ a → readFields a bits bs ≡ read fs rest
     → FieldsRead a bits bs fs rest
-fields-read a bits bs {fs} {rest} h e =
-    let w : WrittenRead (ones bits) bs (writtenOf fs) rest = written-read (ones bits) bs (sym (fields-written a bits bs h) ∙ ap onlyWritten e) in
-    record {
-      columns-are = fields-columns a bits bs e;
-      count = w .count;
-      low = rw (← highest-written fs) (w .low);
-      long = w .long;
-      behind = w .behind;
-    }
+fields-read a bits bs h e = record {
+  columns-are = fields-stand a bits bs e .0;
+  were = written-read (ones bits) bs (sym (fields-written a bits bs h) ∙ ap onlyWritten e);
+}
 
+-- a record that was read, by its first two bytes
 pub record RecordRead (n : ℕ) (ars bs : List ℕ) (r : Record) (rest : List ℕ) : Type 0 where
   pub known : getD bs 0 0 < n
-  pub within : getD bs 1 0 < 2 ^ arityOf ars (getD bs 0 0)
   pub relation-is : r .relation ≡ getD bs 0 0
   pub fields-are : readFields (arityOf ars (getD bs 0 0)) (getD bs 1 0) (drop 2 bs) ≡ read (r .fields) rest
   pub columns : length (r .fields) ≡ arityOf ars (getD bs 0 0)
   pub count : length (writtenOf (r .fields)) ≡ ones (getD bs 1 0)
   pub low : highestIn (r .fields) ≤ nulls
   pub long : 2 + 3 * ones (getD bs 1 0) ≤ length bs
-  pub behind : rest ≡ drop (2 + 3 * ones (getD bs 1 0)) bs
-
-record-made : (n : ℕ) (ars : List ℕ) (x bits : ℕ) (bs : List ℕ) {fs : List Field} {rest : List ℕ}
-    → ltb x n ≡ true → ltb bits (2 ^ arityOf ars x) ≡ true → readFields (arityOf ars x) bits bs ≡ read fs rest
-    → RecordRead n ars (x ∷ bits ∷ bs) (record { relation = x; fields = fs }) rest
-record-made n ars x bits bs p q e =
-    let within : bits < 2 ^ arityOf ars x = ltb-true bits (2 ^ arityOf ars x) q in
-    let f = fields-read (arityOf ars x) bits bs within e in
-    record {
-      known = ltb-true x n p;
-      within = within;
-      relation-is = refl;
-      fields-are = e;
-      columns = f .columns-are;
-      count = f .count;
-      low = f .low;
-      long = omega (arith, f .long);
-      behind = f .behind ∙ drop-drop (3 * ones bits) 2 (x ∷ bits ∷ bs);
-    }
+  pub after : rest ≡ drop (2 + 3 * ones (getD bs 1 0)) bs
 
 pub record-read : (n : ℕ) (ars bs : List ℕ) {r : Record} {rest : List ℕ} → readRecord n ars bs ≡ read r rest → RecordRead n ars bs r rest
-unfolding readRecord
 record-read n ars bs {r} {rest} e =
-    let a = read-first (readByte (λ r. ltb r n) no-such-relation bs) _ e in
-    let b = read-first (readByte (λ bits. ltb bits (2 ^ arityOf ars (a .0))) bit-beyond-arity (a .1)) _ (a .3) in
-    let f = read-first (readFields (arityOf ars (a .0)) (b .0) (b .1)) _ (b .3) in
-    let p = byte-read _ no-such-relation bs (a .2) in
-    let q = byte-read _ bit-beyond-arity (a .1) (b .2) in
-    let whole : a .0 ∷ b .0 ∷ b .1 ≡ bs = cc in
-    let made : record { relation = a .0; fields = f .0 } ≡ r = cc in
-    let end : f .1 ≡ rest = cc in
-    rw (whole, made, end) at (record-made n ars (a .0) (b .0) (b .1) (p .1) (q .1) (f .2))
+    let p = parts n ars bs e in
+    let x = r .relation in
+    let f = fields-read (arityOf ars x) (p .map) (p .body) (ltb-true (p .map) _ (p .within)) (p .fields-are) in
+    let made : RecordRead n ars (x ∷ p .map ∷ p .body) r rest = record {
+      known = ltb-true x n (p .known);
+      relation-is = refl;
+      fields-are = p .fields-are;
+      columns = f .columns-are;
+      count = f .were .count;
+      low = f .were .low;
+      long = omega (arith, f .were .long);
+      after = f .were .after ∙ drop-drop (3 * ones (p .map)) 2 (x ∷ p .map ∷ p .body);
+    } in
+    let whole : x ∷ p .map ∷ p .body ≡ bs = sym (p .bytes) in
+    rw whole at made
 
--- what the first pass answers of a record, from what it answers of the fields
+-- what the first pass returns of a record, from what it returns of the fields
 abbrev pub measuredAs : ℕ → ℕ → Answer → Measured
 measuredAs arity count (Done h) = measured.Record arity count h
 measuredAs arity count (Refused why) = measured.Refused why
 
-measured-made : (n : ℕ) (ars : List ℕ) (x bits : ℕ) (bs : List ℕ) → ltb x n ≡ true → ltb bits (2 ^ arityOf ars x) ≡ true
-    → measuredRecord (readRecord n ars (x ∷ bits ∷ bs)) ≡ measuredAs (arityOf ars x) (ones bits) (measuredFields (readWritten (ones bits) bs))
-unfolding readRecord readByte measuredRecord measuredFields
-measured-made n ars x bits bs p q = simp (p, q) (go (readFields (arityOf ars x) bits bs) refl)
-  where
-    go : (fs : Parsed (List Field)) → readFields (arityOf ars x) bits bs ≡ fs
-        → measuredRecord (andThen fs (λ fs bs. read (record { relation = x; fields = fs }) bs))
-        ≡ measuredAs (arityOf ars x) (ones bits) (measuredFields (readWritten (ones bits) bs))
-    go (read fs rest) e =
-        let h : bits < 2 ^ arityOf ars x = ltb-true bits (2 ^ arityOf ars x) q in
-        let f = fields-read (arityOf ars x) bits bs h e in
-        cc (fields-written (arityOf ars x) bits bs h, ap onlyWritten e, highest-written fs, f .columns-are, f .count)
-    go (refused r) e =
-        let h : bits < 2 ^ arityOf ars x = ltb-true bits (2 ^ arityOf ars x) q in
-        cc (fields-written (arityOf ars x) bits bs h, ap onlyWritten e)
+-- What the first pass returns of one record, test by test.
+module _ (n : ℕ) (ars bs : List ℕ) where
+  pub record-none : length bs < 1 → measuredRecord (readRecord n ars bs) ≡ measured.Refused cut-short
+  unfolding readRecord measuredRecord
+  record-none h = rw (byte-cut (λ r. ltb r n) no-such-relation bs 0 (omega arith))
 
--- What the first pass answers of one record, test by test.
-module _ (n : ℕ) (ars : List ℕ) where
-  pub record-none : (bs : List ℕ) → length bs < 1 → measuredRecord (readRecord n ars bs) ≡ measured.Refused cut-short
-  unfolding readRecord readByte measuredRecord
-  record-none [] h = refl
-  record-none (x ∷ bs) h = absurd (omega arith)
+  module _ (x : ℕ) (some : 0 < length bs) (is : x ≡ getD bs 0 0) where
+    pub record-unknown : n ≤ x → measuredRecord (readRecord n ars bs) ≡ measured.Refused no-such-relation
+    unfolding readRecord measuredRecord
+    record-unknown h = rw (byte-at (λ r. ltb r n) no-such-relation bs 0 some, ← is, le-ltb x n h)
 
-  pub record-unknown : (bs : List ℕ) → 1 ≤ length bs → n ≤ getD bs 0 0 → measuredRecord (readRecord n ars bs) ≡ measured.Refused no-such-relation
-  unfolding readRecord readByte measuredRecord
-  record-unknown [] l h = absurd (omega arith)
-  record-unknown (x ∷ bs) l h = simp (le-ltb x n h)
+    pub record-cut : x < n → length bs < 2 → measuredRecord (readRecord n ars bs) ≡ measured.Refused cut-short
+    unfolding readRecord measuredRecord
+    record-cut h l =
+        rw (byte-at (λ r. ltb r n) no-such-relation bs 0 some, ← is, lt-ltb x n h, byte-cut (λ bits. ltb bits (2 ^ arityOf ars x)) bit-beyond-arity bs 1 (omega arith))
 
-  pub record-cut : (bs : List ℕ) → getD bs 0 0 < n → length bs < 2 → measuredRecord (readRecord n ars bs) ≡ measured.Refused cut-short
-  unfolding readRecord readByte measuredRecord
-  record-cut [] h l = refl
-  record-cut (x ∷ []) h l = simp (lt-ltb x n h)
-  record-cut (x ∷ bits ∷ bs) h l = absurd (omega arith)
+    module _ (bits : ℕ) (known : x < n) (room : 1 < length bs) (map-is : bits ≡ getD bs 1 0) where
+      pub record-beyond : 2 ^ arityOf ars x ≤ bits → measuredRecord (readRecord n ars bs) ≡ measured.Refused bit-beyond-arity
+      unfolding readRecord measuredRecord
+      record-beyond h =
+          rw (byte-at (λ r. ltb r n) no-such-relation bs 0 some, ← is, lt-ltb x n known, byte-at (λ bits. ltb bits (2 ^ arityOf ars x)) bit-beyond-arity bs 1 room, ← map-is, le-ltb bits (2 ^ arityOf ars x) h)
 
-  pub record-beyond : (bs : List ℕ) → getD bs 0 0 < n → 2 ≤ length bs → 2 ^ arityOf ars (getD bs 0 0) ≤ getD bs 1 0
-      → measuredRecord (readRecord n ars bs) ≡ measured.Refused bit-beyond-arity
-  unfolding readRecord readByte measuredRecord
-  record-beyond [] h l p = absurd (omega arith)
-  record-beyond (x ∷ []) h l p = absurd (omega arith)
-  record-beyond (x ∷ bits ∷ bs) h l p = simp (lt-ltb x n h, le-ltb bits (2 ^ arityOf ars x) p)
+      pub record-measured : bits < 2 ^ arityOf ars x
+          → measuredRecord (readRecord n ars bs) ≡ measuredAs (arityOf ars x) (ones bits) (measuredFields (readWritten (ones bits) (drop 2 bs)))
+      unfolding readRecord measuredRecord measuredFields
+      record-measured h =
+          rw (byte-at (λ r. ltb r n) no-such-relation bs 0 some, ← is, lt-ltb x n known, byte-at (λ bits. ltb bits (2 ^ arityOf ars x)) bit-beyond-arity bs 1 room, ← map-is, lt-ltb bits (2 ^ arityOf ars x) h)
+          (go (readFields (arityOf ars x) bits (drop 2 bs)) refl)
+        where
+          go : (p : Parsed (List Field)) → readFields (arityOf ars x) bits (drop 2 bs) ≡ p
+              → measuredRecord (andThen p (λ fs bs. read (record { relation = x; fields = fs }) bs))
+              ≡ measuredAs (arityOf ars x) (ones bits) (measuredFields (readWritten (ones bits) (drop 2 bs)))
+          go (read fs rest) e =
+              let f = fields-read (arityOf ars x) bits (drop 2 bs) h e in
+              cc (fields-written (arityOf ars x) bits (drop 2 bs) h, ap onlyWritten e, f .columns-are, f .were .count)
+          go (refused r) e = cc (fields-written (arityOf ars x) bits (drop 2 bs) h, ap onlyWritten e)
 
-  pub record-measured : (bs : List ℕ) → getD bs 0 0 < n → 2 ≤ length bs → getD bs 1 0 < 2 ^ arityOf ars (getD bs 0 0)
-      → measuredRecord (readRecord n ars bs)
-      ≡ measuredAs (arityOf ars (getD bs 0 0)) (ones (getD bs 1 0)) (measuredFields (readWritten (ones (getD bs 1 0)) (drop 2 bs)))
-  record-measured [] h l p = absurd (omega arith)
-  record-measured (x ∷ []) h l p = absurd (omega arith)
-  record-measured (x ∷ bits ∷ bs) h l p = measured-made n ars x bits bs (lt-ltb x n h) (lt-ltb bits (2 ^ arityOf ars x) p)
-
--- what the first pass answers once some records' words, blanks and highest null are added to the rest's
+-- what the first pass returns once some records' words, blanks and highest null are added to the rest's
 abbrev pub added : ℕ → ℕ → ℕ → Needed → Needed
 added w b h (needed.Records t) = needed.Records (record { words = w + t .words; blanks = b + t .blanks; highest = max h (t .highest); end = t .end })
 added w b h (needed.Refused why) = needed.Refused why
@@ -172,7 +143,7 @@ pub record Step (n : ℕ) (ars bs : List ℕ) (arity count h : ℕ) : Type 0 whe
   pub fewer : count ≤ arity
   pub highest-is : highestIn (one .fields) ≡ h
   pub long : 2 + 3 * count ≤ length bs
-  pub behind : rest ≡ drop (2 + 3 * count) bs
+  pub after : rest ≡ drop (2 + 3 * count) bs
 
 pub step : (n : ℕ) (ars bs : List ℕ) (arity count h : ℕ) → measuredRecord (readRecord n ars bs) ≡ measured.Record arity count h → Step n ars bs arity count h
 unfolding measuredRecord
@@ -194,12 +165,12 @@ step n ars bs arity count h = go (readRecord n ars bs) refl
           fewer = omega arith;
           highest-is = cc;
           long = rw same at (q .long);
-          behind = rw same at (q .behind);
+          after = rw same at (q .after);
         }
-    go (refused r) e m = let z : _≡_ {A = ℕ} 0 1 = cc in absurd (omega arith)
+    go (refused r) e m = let z : _≡_ {A = ℕ} 0 1 = cc in absurd (zero-not-one z)
 
--- the first pass over a record and those behind it
-pub records-joined : (size : ℕ) (r : Record) (p : Parsed (List Record))
+-- the first pass over a record and those after it
+records-joined : (size : ℕ) (r : Record) (p : Parsed (List Record))
     → measuredRecords size (andThen p (λ rs bs. read (r ∷ rs) bs))
     ≡ added (1 + length (r .fields)) (blanksIn (r .fields)) (highestIn (r .fields)) (measuredRecords size p)
 unfolding measuredRecords wordsIn blanks highest
@@ -210,15 +181,15 @@ pub records-more : (size n : ℕ) (ars : List ℕ) (k : ℕ) (bs : List ℕ) (ar
     → measuredRecord (readRecord n ars bs) ≡ measured.Record arity count h
     → measuredRecords size (readRecords n ars (suc k) bs)
     ≡ added (1 + arity) (arity - count) h (measuredRecords size (readRecords n ars k (drop (2 + 3 * count) bs)))
-unfolding measuredRecords readRecords
+unfolding readEach
 records-more size n ars k bs arity count h m =
     let s = step n ars bs arity count h m in
     rw (s .was-read)
-    (records-joined size (s .one) (readRecords n ars k (s .rest)) ∙ rw (s .arity-is, s .blanks-are, s .highest-is, s .behind))
+    (records-joined size (s .one) (readRecords n ars k (s .rest)) ∙ rw (s .arity-is, s .blanks-are, s .highest-is, s .after))
 
 pub records-refused : (size n : ℕ) (ars : List ℕ) (k : ℕ) (bs : List ℕ) (why : ℕ)
     → measuredRecord (readRecord n ars bs) ≡ measured.Refused why → measuredRecords size (readRecords n ars (suc k) bs) ≡ needed.Refused why
-unfolding measuredRecords readRecords measuredRecord
+unfolding measuredRecords readEach measuredRecord
 records-refused size n ars k bs why = go (readRecord n ars bs)
   where
     go : (p : Parsed Record) → measuredRecord p ≡ measured.Refused why

@@ -1,13 +1,14 @@
--- What each pass over a card tells, in the paper's numbers, where its answer is the definition's. Assumes nothing.
+-- What each pass over a card tells, in the paper's numbers, if its answer is the definition's. Assumes nothing.
 use Prim.Native.Nat.{ℕ}
 use mathlib.Core.Path.{_≡_, refl, sym}
 use mathlib.Core.List.{List}
 use Rattle.calculus.specs.declared.answer.Answer.{Answer}
 use Rattle.calculus.specs.Answer.{Tells}
+use Rattle.calculus.specs.Reading.{read, refused}
 use Rattle.calculus.proofs.Answers.{tells}
 use Rattle.instance.specs.declared.header.Header.{Header}
-use Rattle.card.specs.Parse.{Parsed, read, refused}
-use Rattle.card.specs.Format.{Record}
+use Rattle.instance.specs.Blanks.{Record}
+use Rattle.parse.specs.Parse.{Parsed}
 use Rattle.card.specs.Decode.{decoded}
 use Rattle.card.proofs.Sound.{decoded-sound}
 use Rattle.decode.specs.declared.measure.Measured.{Measured}

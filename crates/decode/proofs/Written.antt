@@ -1,215 +1,155 @@
--- What a row's written and blank columns come to, one column at a time. Assumes nothing.
-use Prim.Native.Nat.{ℕ, suc, _+_, _-_, _*_, _/_, _%_, _≤_, _<_}
+-- What a row's written and blank columns come to, one column at a time, while the row is being written. Assumes nothing.
+use Prim.Native.Nat.{ℕ, suc, _+_, _-_, _/_, _%_, _≤_, _<_}
 use mathlib.Core.Path.{_≡_, refl, sym, ap, _∙_}
-use mathlib.Core.Bool.{Bool, true, false, true≢false}
-use mathlib.Core.List.{List, [], _∷_, _++_, append-assoc, append-nil}
-use native.Mathlib.Nat.{sub-zero, not-suc-le-zero}
+use mathlib.Core.Bool.{true}
+use mathlib.Core.List.{List, [], _∷_}
+use native.Mathlib.Nat.{sub-zero}
 use native.Mathlib.Numerals.{add-one}
 use native.Mathlib.Omega.{arith}
-use lib.ListN.{length, take, drop, set, length-set, length-drop, take-append-drop}
-use lib.Seq.{take-suc-set, drop-set-lt, drop-drop}
+use lib.ListN.{length, drop, set, length-drop}
+use lib.Dec.{eqb}
+use lib.Seq.{drop-drop, drop-set-lt}
 use borrow.Author.Tests.{eq-eqb, ne-eqb}
-use Rattle.calculus.specs.Cell.{isCell, null}
-use Rattle.card.specs.Parse.{Parsed, read, refused, andThen, ruled, isRead, got}
-use Rattle.card.specs.Format.{Field, written, blank, fieldAt, readField, readFields}
-use Rattle.card.specs.Blanks.{numbered}
+use Rattle.calculus.specs.Cell.{null}
+use Rattle.calculus.specs.Overwrite.{overwrite}
+use Rattle.calculus.specs.Reading.{read, refused, andThen}
+use Rattle.calculus.proofs.Bools.{never}
+use Rattle.calculus.proofs.Reading.{then-read}
+use Rattle.calculus.proofs.Stores.{Written, begin, store, anew, finish}
+use Rattle.instance.specs.Blanks.{Field, written, blank, numbered}
+use Rattle.instance.proofs.Blanks.{numbered-length}
+use Rattle.parse.specs.Parse.{Parsed, isRead, got}
+use Rattle.parse.specs.Number.{readNumber}
+use Rattle.parse.proofs.Each.{First, first-read}
+use Rattle.card.specs.Format.{readField, readColumn, readFields}
+use Rattle.card.proofs.Parts.{field-read, fields-stand}
 
--- the cells of so many columns, where the next blank gets null m
+-- the cells of n columns, if the next blank gets null m
 abbrev pub cellsRead : ℕ → ℕ → ℕ → List ℕ → List ℕ
-cellsRead m columns bits bs = numbered m (got [] (readFields columns bits bs))
+cellsRead m n bits bs = numbered m (got [] (readFields n bits bs))
 
 abbrev pub allRead : ℕ → ℕ → List ℕ → Type 0
-allRead columns bits bs = isRead (readFields columns bits bs) ≡ true
+allRead n bits bs = isRead (readFields n bits bs) ≡ true
 
-pub never : {A : Type 0} → _≡_ {A = Bool} false true → A
-never e = absurd (true≢false (sym e))
+pub cells-long : (m n bits : ℕ) (bs : List ℕ) → allRead n bits bs → length (cellsRead m n bits bs) ≡ n
+cells-long m n bits bs = go (readFields n bits bs) refl
+  where
+    go : (p : Parsed (List Field)) → readFields n bits bs ≡ p → isRead p ≡ true → length (numbered m (got [] p)) ≡ n
+    go (read fs rest) e h = numbered-length m fs ∙ fields-stand n bits bs e .0
+    go (refused r) e h = never h
 
--- one field before others
-consed : Field → Parsed (List Field) → Parsed (List Field)
-consed f p = andThen p (λ fs bs. read (f ∷ fs) bs)
-
-consed-read : (f : Field) (p : Parsed (List Field)) → isRead (consed f p) ≡ true → isRead p ≡ true
-unfolding consed
-consed-read f (read fs bs) e = refl
-consed-read f (refused r) e = e
-
-consed-got : (f : Field) (p : Parsed (List Field)) → isRead (consed f p) ≡ true → got [] (consed f p) ≡ f ∷ got [] p
-unfolding consed
-consed-got f (read fs bs) e = refl
-consed-got f (refused r) e = never e
-
-fields-blank : (k bits : ℕ) (bs : List ℕ) → (bits % 2 ≡ 1 → ⊥) → readFields (suc k) bits bs ≡ consed blank (readFields k (bits / 2) bs)
-unfolding readFields consed
-fields-blank k bits bs even = simp (ne-eqb (bits % 2) 1 even)
-
--- a written column, behind the field that was read
-column-written : ℕ → ℕ → Parsed ℕ → Parsed (List Field)
-column-written k bits p = andThen p (λ c bs. consed (written c) (readFields k (bits / 2) bs))
-
-then-written :
-    (p : Parsed ℕ) (f : Field → List ℕ → Parsed (List Field)) →
-    andThen (andThen p (λ c bs. read (written c) bs)) f ≡ andThen p (λ c bs. f (written c) bs)
-then-written (read c bs) f = refl
-then-written (refused r) f = refl
-
-fields-written :
-    (k bits : ℕ) (bs : List ℕ) → bits % 2 ≡ 1 →
-    readFields (suc k) bits bs ≡ column-written k bits (readField bs)
-unfolding readFields consed column-written
-fields-written k bits bs odd =
-    simp (eq-eqb (bits % 2) 1 odd) (then-written (readField bs) _)
-
-module _ (k bits m : ℕ) where
-  pub record WrittenColumn (bs : List ℕ) : Type 0 where
+module _ (k bits m : ℕ) (bs : List ℕ) (h : allRead (suc k) bits bs) where
+  -- a column that is written: its cell, and the columns after it
+  pub record WrittenColumn : Type 0 where
+    pub cell : ℕ
+    pub number : readNumber 3 bs ≡ read cell (drop 3 bs)
     pub long : 3 ≤ length bs
     pub reads : allRead k (bits / 2) (drop 3 bs)
-    pub cells : cellsRead m (suc k) bits bs ≡ fieldAt bs ∷ cellsRead m k (bits / 2) (drop 3 bs)
+    pub cells : cellsRead m (suc k) bits bs ≡ cell ∷ cellsRead m k (bits / 2) (drop 3 bs)
 
-  -- a field that is a cell, as its test says
-  field-read :
-      (v : ℕ) (bs : List ℕ) (cell : Bool) →
-      isRead (column-written k bits (ruled cell 16 v bs)) ≡ true →
-      (allRead k (bits / 2) bs) × (numbered m (got [] (column-written k bits (ruled cell 16 v bs))) ≡ v ∷ cellsRead m k (bits / 2) bs)
-  unfolding numbered column-written
-  field-read v bs true h = (consed-read (written v) (readFields k (bits / 2) bs) h, ap (numbered m) (consed-got (written v) (readFields k (bits / 2) bs) h))
-  field-read v bs false h = never h
+  pub written-column : bits % 2 ≡ 1 → WrittenColumn
+  unfolding readFields numbered
+  written-column odd =
+      let f = first-read (readColumn (eqb (bits % 2) 1) bs) (readFields k (bits / 2)) h in
+      let bit : readColumn (eqb (bits % 2) 1) bs ≡ readColumn true bs = rw (eq-eqb (bits % 2) 1 odd) in
+      let c = then-read (readField bs) _ (sym bit ∙ f .was-read) in
+      let r = field-read bs (c .first) in
+      let one : f .one ≡ written (c .value) = cc (c .second) in
+      let after : f .between ≡ drop 3 bs = cc (c .second, r .after) in
+      let fields : got [] (readFields (suc k) bits bs) ≡ written (c .value) ∷ got [] (readFields k (bits / 2) (drop 3 bs)) = cc (f .all) in
+      record {
+        cell = c .value;
+        number = rw (r .after) at (r .number);
+        long = r .long;
+        reads = rw after at (f .reads);
+        cells = ap (numbered m) fields;
+      }
 
-  pub written-column : (bs : List ℕ) → bits % 2 ≡ 1 → allRead (suc k) bits bs → WrittenColumn bs
-  unfolding readField column-written
-  written-column bs odd h = go bs (rw (fields-written k bits bs odd) at h)
-    where
-      go : (bs : List ℕ) → isRead (column-written k bits (readField bs)) ≡ true → WrittenColumn bs
-      go [] h = never h
-      go (a ∷ []) h = never h
-      go (a ∷ b ∷ []) h = never h
-      go (a ∷ b ∷ c ∷ bs) h =
-          let r = field-read (a * 65536 + b * 256 + c) bs (isCell (a * 65536 + b * 256 + c)) h in
-          record {
-            long = omega arith;
-            reads = r .0;
-            cells = ap (λ (p : Parsed (List Field)). numbered m (got [] p)) (fields-written k bits (a ∷ b ∷ c ∷ bs) odd) ∙ r .1;
-          }
-
-  pub record BlankColumn (bs : List ℕ) : Type 0 where
+  pub record BlankColumn : Type 0 where
     pub reads : allRead k (bits / 2) bs
     pub cells : cellsRead m (suc k) bits bs ≡ null m ∷ cellsRead (suc m) k (bits / 2) bs
 
-  pub blank-column : (bs : List ℕ) → (bits % 2 ≡ 1 → ⊥) → allRead (suc k) bits bs → BlankColumn bs
-  unfolding numbered
-  blank-column bs even h =
-      let e = fields-blank k bits bs even in
-      let h′ : isRead (consed blank (readFields k (bits / 2) bs)) ≡ true = rw e at h in
-      record {
-        reads = consed-read blank (readFields k (bits / 2) bs) h′;
-        cells = ap (λ (p : Parsed (List Field)). numbered m (got [] p)) e ∙ ap (numbered m) (consed-got blank (readFields k (bits / 2) bs) h′);
-      }
+  pub blank-column : (bits % 2 ≡ 1 → ⊥) → BlankColumn
+  unfolding readFields numbered
+  blank-column even =
+      let f = first-read (readColumn (eqb (bits % 2) 1) bs) (readFields k (bits / 2)) h in
+      let bit : readColumn (eqb (bits % 2) 1) bs ≡ read blank bs = rw (ne-eqb (bits % 2) 1 even) in
+      let e : read blank bs ≡ read (f .one) (f .between) = sym bit ∙ f .was-read in
+      let one : f .one ≡ blank = cc in
+      let after : f .between ≡ bs = cc in
+      record { reads = rw after at (f .reads); cells = ap (numbered m) (rw (one, after) at (f .all)) }
 
 -- ---- a row that is being written
 
 module _ (start : List ℕ) (relation arity map : ℕ) (fields : List ℕ) (next : ℕ) where
-  -- column columns of the row stand in the part, and the cells of the others are still to be read
+  abbrev row : List ℕ
+  row = relation ∷ cellsRead next arity map fields
+
+  -- `column` columns of the row stand in the part, and the cells of the others are still to be read
   pub record WritingRow (part : List ℕ) (bits free at column : ℕ) : Type 0 where
     pub within : column ≤ arity
-    pub long : length part ≡ length start
     pub small : free ≤ next + column
     pub reads : allRead (arity - column) bits (drop at fields)
-    pub row : take (column + 1) part ++ cellsRead free (arity - column) bits (drop at fields) ≡ relation ∷ cellsRead next arity map fields
-    pub others : drop (column + 1) part ≡ drop (column + 1) start
+    pub stored : Written row (cellsRead free (arity - column) bits (drop at fields)) start part (column + 1)
 
-  -- one cell more: v, behind which the rest is read from another place with other bits
-  pub row-step :
-      (part : List ℕ) (bits free at column v bits′ free′ at′ : ℕ) →
-      WritingRow part bits free at column →
-      column < arity →
-      column + 1 < length part →
-      free′ ≤ free + 1 →
-      allRead (arity - (column + 1)) bits′ (drop at′ fields) →
-      cellsRead free (arity - column) bits (drop at fields) ≡ v ∷ cellsRead free′ (arity - (column + 1)) bits′ (drop at′ fields) →
-      WritingRow (set part (column + 1) v) bits′ free′ at′ (column + 1)
-  row-step part bits free at column v bits′ free′ at′ w more room up reads cells =
-      let rest = cellsRead free′ (arity - (column + 1)) bits′ (drop at′ fields) in
-      record {
-        within = omega arith;
-        long = length-set part (column + 1) v ∙ w .long;
-        small = omega (arith, w .small);
-        reads = reads;
-        row =
-            ap (λ (n : ℕ). take n (set part (column + 1) v) ++ rest) (add-one (column + 1)) ∙
-            ap (λ (l : List ℕ). l ++ rest) (take-suc-set part (column + 1) v room) ∙
-            append-assoc (take (column + 1) part) (v ∷ []) rest ∙
-            ap (λ (l : List ℕ). take (column + 1) part ++ l) (sym cells) ∙
-            w .row;
-        others =
-            drop-set-lt (column + 1 + 1) part (column + 1) v (omega arith) ∙
-            sym (drop-drop 1 (column + 1) part) ∙
-            ap (drop 1) (w .others) ∙
-            drop-drop 1 (column + 1) start;
-      }
+  module _ (part : List ℕ) (bits free at column : ℕ) (w : WritingRow part bits free at column) where
+    module _ (more : column < arity) where
+      left : arity - column ≡ suc (arity - (column + 1))
+      left = omega arith
 
-  -- the next column's field is written in the card
-  pub written-step :
-      (part : List ℕ) (bits free at column : ℕ) →
-      WritingRow part bits free at column →
-      column < arity →
-      column + 1 < length part →
-      bits % 2 ≡ 1 →
-      (at + 3 ≤ length fields) × WritingRow (set part (column + 1) (fieldAt (drop at fields))) (bits / 2) free (at + 3) (column + 1)
-  written-step part bits free at column w more room odd =
-      let left : arity - column ≡ suc (arity - (column + 1)) = omega arith in
-      let col = written-column (arity - (column + 1)) bits free (drop at fields) odd (rw left at (w .reads)) in
-      let long : 3 ≤ length (drop at fields) = col .long in (
-        omega (arith, length-drop at fields),
-        row-step part bits free at column (fieldAt (drop at fields)) (bits / 2) free (at + 3) w more room (omega arith)
-            (rw (drop-drop 3 at fields) at (col .reads))
-            (rw left (rw (drop-drop 3 at fields) at (col .cells))),
-      )
+      pub row-room : column + 1 < length part
+      row-room = omega (arith, w .stored .same, w .stored .room, cells-long free (arity - column) bits (drop at fields) (w .reads))
 
-  -- the next column is blank
-  pub blank-step :
-      (part : List ℕ) (bits free at column : ℕ) →
-      WritingRow part bits free at column →
-      column < arity →
-      column + 1 < length part →
-      (bits % 2 ≡ 1 → ⊥) →
-      WritingRow (set part (column + 1) (1000000 + free)) (bits / 2) (free + 1) at (column + 1)
-  blank-step part bits free at column w more room even =
-      let left : arity - column ≡ suc (arity - (column + 1)) = omega arith in
-      let col = blank-column (arity - (column + 1)) bits free (drop at fields) even (rw left at (w .reads)) in
-      row-step part bits free at column (1000000 + free) (bits / 2) (free + 1) at w more room (omega arith)
-      (col .reads)
-      (rw (left, add-one free) (col .cells))
+      -- the next column's field is written in the card
+      here : bits % 2 ≡ 1 → WrittenColumn (arity - (column + 1)) bits free (drop at fields) (rw left at (w .reads))
+      here = written-column (arity - (column + 1)) bits free (drop at fields) (rw left at (w .reads))
 
-  pub row-ends :
-      (part : List ℕ) (bits free at column : ℕ) →
-      WritingRow part bits free at column →
-      arity ≤ column →
-      part ≡ relation ∷ cellsRead next arity map fields ++ drop (1 + arity) start
-  unfolding readFields numbered
-  row-ends part bits free at column w done =
-      let last : arity ≡ column = omega (arith, w .within) in
-      let none : arity - column ≡ 0 = omega arith in
-      let end : column + 1 ≡ 1 + arity = omega arith in
-      let whole : take (column + 1) part ≡ relation ∷ cellsRead next arity map fields =
-      sym (append-nil (take (column + 1) part)) ∙
-      ap (λ (n : ℕ). take (column + 1) part ++ cellsRead free n bits (drop at fields)) (sym none) ∙
-      w .row
-      in
-      sym (take-append-drop (column + 1) part) ∙
-      ap (λ (l : List ℕ). l ++ drop (column + 1) part) whole ∙
-      ap (λ (l : List ℕ). relation ∷ cellsRead next arity map fields ++ l) (w .others) ∙
-      ap (λ (n : ℕ). relation ∷ cellsRead next arity map fields ++ drop n start) end
+      pub field-room : bits % 2 ≡ 1 → at + 3 ≤ length fields
+      field-room odd = omega (arith, here odd .long, length-drop at fields)
 
+      pub written-step : bits % 2 ≡ 1 → {c : ℕ} {rest : List ℕ} → readNumber 3 (drop at fields) ≡ read c rest
+          → WritingRow (set part (column + 1) c) (bits / 2) free (at + 3) (column + 1)
+      written-step odd {c} number =
+          let col = here odd in
+          let same : col .cell ≡ c = cc (col .number) in
+          let stored = rw (left, col .cells, same, drop-drop) at (w .stored) in
+          record {
+            within = omega arith;
+            small = omega (arith, w .small);
+            reads = rw drop-drop at (col .reads);
+            stored = store (column + 1 + 1) refl stored;
+          }
+
+      -- it is blank
+      pub blank-step : (bits % 2 ≡ 1 → ⊥) → WritingRow (set part (column + 1) (null free)) (bits / 2) (free + 1) at (column + 1)
+      blank-step even =
+          let col = blank-column (arity - (column + 1)) bits free (drop at fields) (rw left at (w .reads)) even in
+          let stored = rw (left, col .cells, ← add-one free) at (w .stored) in
+          record {
+            within = omega arith;
+            small = omega (arith, w .small);
+            reads = col .reads;
+            stored = store (column + 1 + 1) refl stored;
+          }
+
+    pub row-ends : arity ≤ column → part ≡ overwrite row start
+    unfolding readFields numbered
+    row-ends done =
+        let none : arity - column ≡ 0 = omega arith in
+        finish (rw none at (w .stored))
+
+-- the relation is stored first
 pub row-starts :
-    (part : List ℕ) (relation arity map : ℕ) (fields : List ℕ) (next : ℕ) →
-    0 < length part →
-    allRead arity map fields →
+    (part : List ℕ) (relation arity map : ℕ) (fields : List ℕ) (next : ℕ) → 1 + arity ≤ length part → allRead arity map fields →
     WritingRow (set part 0 relation) relation arity map fields next (set part 0 relation) map next 0 0
-row-starts [] relation arity map fields next some reads = absurd (not-suc-le-zero some)
-row-starts (x ∷ part) relation arity map fields next some reads = record {
-  within = omega arith;
-  long = refl;
-  small = omega arith;
-  reads = rw sub-zero reads;
-  row = rw sub-zero;
-  others = refl;
-}
+row-starts part relation arity map fields next room reads =
+    let long = cells-long next arity map fields reads in
+    record {
+      within = omega arith;
+      small = omega arith;
+      reads = rw sub-zero reads;
+      stored = rw sub-zero (anew (store 1 refl (begin (relation ∷ cellsRead next arity map fields) part (omega arith))));
+    }
+
+pub row-whole : (part : List ℕ) (relation : ℕ) (cells : List ℕ) → overwrite (relation ∷ cells) (set part 0 relation) ≡ overwrite (relation ∷ cells) part
+row-whole part relation cells = rw (drop-set-lt (suc (length cells)) part 0 relation (omega arith))

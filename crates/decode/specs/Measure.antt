@@ -1,12 +1,13 @@
--- What the first pass over a card's bytes answers. Document 01, "The card".
-use Prim.Native.Nat.{ℕ, zero, suc, _+_, _-_, max}
+-- What the first pass over a card's bytes returns. Document 01, "The card".
+use Prim.Native.Nat.{ℕ, _+_, _-_}
 use mathlib.Core.Path.{_≡_}
 use mathlib.Core.List.{List, [], _∷_, _++_}
 use lib.ListN.{length, drop, replicate}
 use Rattle.calculus.specs.declared.answer.Answer.{Answer}
 use Rattle.calculus.specs.declared.answer.Answer.the-variants.{Done, Refused}
-use Rattle.calculus.specs.Cell.{markOf}
 use Rattle.calculus.specs.Padded.{padded}
+use Rattle.calculus.specs.Reading.{read, refused, readingNumber}
+use Rattle.instance.specs.Blanks.{Record, blanks, highest, highestOf, highestIn, writtenOf}
 use Rattle.instance.specs.Header.{maxRelations}
 use Rattle.decode.specs.declared.head.Arities as declared-arities
 use Rattle.decode.specs.declared.head.Head as declared-head
@@ -15,11 +16,10 @@ use Rattle.decode.specs.declared.measure.Measured.the-variants as measur
 use Rattle.decode.specs.declared.measure.Total.{Total}
 use Rattle.decode.specs.declared.measure.Needed.{Needed}
 use Rattle.decode.specs.declared.measure.Needed.the-variants as needed
-use Rattle.card.specs.Parse.{Parsed, read, refused, andThen, parsedNumber}
-use Rattle.card.specs.Format.{Field, written, blank, Record, Head, readField, readRecords}
-use Rattle.card.specs.Blanks.{blanks, highest, highestIn}
+use Rattle.parse.specs.Parse.{Parsed, readEach}
+use Rattle.card.specs.Format.{Head, readField, readRecords}
 
--- what a refusal answers
+-- what a refusal leaves
 abbrev pub noArities : ℕ → declared-arities.Arities
 noArities why = record { answer = Refused why; arities = replicate maxRelations 0 }
 
@@ -36,10 +36,9 @@ unfoldable pub openedHead : Parsed Head → declared-head.Head
 openedHead (read h bs) = record { answer = Done (h .count); relations = h .relations; arities = h .arities }
 openedHead (refused r) = noHead r
 
--- so many fields in a row, all of them written
-unfoldable pub readWritten : ℕ → List ℕ → Parsed (List ℕ)
-readWritten zero bs = read [] bs
-readWritten (suc k) bs = andThen (readField bs) (λ c bs. andThen (readWritten k bs) (λ cs bs. read (c ∷ cs) bs))
+-- n fields, all of them written
+abbrev pub readWritten : ℕ → List ℕ → Parsed (List ℕ)
+readWritten n bs = readEach readField n bs
 
 unfoldable pub measuredFields : Parsed (List ℕ) → Answer
 measuredFields (read cs bs) = Done (highestOf cs)
@@ -49,7 +48,7 @@ unfoldable pub measuredRecord : Parsed Record → Measured
 measuredRecord (read r bs) = measured.Record (length (r .fields)) (length (writtenOf (r .fields))) (highestIn (r .fields))
 measuredRecord (refused why) = measured.Refused why
 
--- what is answered of a record, as the paper's number and values: its columns, how many of them are written, and the highest null
+-- what is returned of a record, as the paper's number and values: its columns, how many of them are written, and the highest null
 abbrev pub measuredNumber : Measured → ℕ
 measuredNumber (measured.Record arity count top) = 0
 measuredNumber (measured.Refused why) = why
@@ -59,7 +58,7 @@ measuredValues (measured.Record arity count top) = arity ∷ count ∷ top ∷ [
 measuredValues (measured.Refused why) = []
 
 pub record TellsRecord (m : Measured) (p : Parsed Record) : Type 0 where
-  pub number : measuredNumber m ≡ parsedNumber p
+  pub number : measuredNumber m ≡ readingNumber p
   pub values : (r : Record) (bs : List ℕ) → p ≡ read r bs → measuredValues m ≡ length (r .fields) ∷ length (writtenOf (r .fields)) ∷ highestIn (r .fields) ∷ []
 
 -- the words of records
@@ -67,7 +66,7 @@ unfoldable pub wordsIn : List Record → ℕ
 wordsIn [] = 0
 wordsIn (r ∷ rs) = 1 + length (r .fields) + wordsIn rs
 
--- what records of a card of so many bytes need, and where the last of them ends
+-- what records of a card of size bytes need, and where the last of them ends
 abbrev pub total : ℕ → List Record → List ℕ → Total
 total size rs bs = record { words = wordsIn rs; blanks = blanks rs; highest = highest rs; end = size - length bs }
 
@@ -75,7 +74,7 @@ unfoldable pub measuredRecords : ℕ → Parsed (List Record) → Needed
 measuredRecords size (read rs bs) = needed.Records (total size rs bs)
 measuredRecords size (refused why) = needed.Refused why
 
--- what is answered of all records, as the paper's number and what they need
+-- what is returned of all records, as the paper's number and what they need
 abbrev pub neededNumber : Needed → ℕ
 neededNumber (needed.Records t) = 0
 neededNumber (needed.Refused why) = why
@@ -85,9 +84,9 @@ neededTotal (needed.Records t) = t ∷ []
 neededTotal (needed.Refused why) = []
 
 pub record TellsRecords (n : Needed) (size : ℕ) (p : Parsed (List Record)) : Type 0 where
-  pub number : neededNumber n ≡ parsedNumber p
+  pub number : neededNumber n ≡ readingNumber p
   pub needs : (rs : List Record) (bs : List ℕ) → p ≡ read rs bs → neededTotal n ≡ total size rs bs ∷ []
 
--- the first pass over so many records, from a place of the card on
+-- the first pass over count records, from index start of the card
 abbrev pub measuredFrom : List ℕ → ℕ → ℕ → List ℕ → ℕ → Needed
 measuredFrom card start n ars count = measuredRecords (length card) (readRecords n ars count (drop start card))

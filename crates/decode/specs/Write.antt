@@ -5,13 +5,13 @@ use mathlib.Core.Bool.{true}
 use mathlib.Core.List.{List, []}
 use lib.ListN.{length, drop}
 use Rattle.calculus.specs.Cell.{nulls}
+use Rattle.instance.specs.Blanks.{blanks, numberedRows}
 use Rattle.instance.specs.Header.{arityOf, maxRelations, maxColumns}
 use Rattle.instance.specs.Rows.{wordsOf}
-use Rattle.card.specs.Parse.{isRead, got}
+use Rattle.parse.specs.Parse.{isRead, got}
 use Rattle.card.specs.Format.{readRecords}
-use Rattle.card.specs.Blanks.{blanks, numberedRows}
 
--- the words of so many records, where the next blank gets the given null
+-- the words of count records, if the next blank gets null `next`
 abbrev pub wordsRead : ℕ → List ℕ → ℕ → ℕ → List ℕ → List ℕ
 wordsRead n ars count next bs = wordsOf (numberedRows next (got [] (readRecords n ars count bs)))
 

@@ -1,19 +1,20 @@
 // What stands before a card's records: the number of relations, their arities and the number of rows.
 ghost use mathlib.Core.Path.{_≡_};
 ghost use mathlib.Core.List.{[]};
-ghost use Prim.Native.Nat.{ℕ, _≤_, _<_};
+ghost use Prim.Native.Nat.{ℕ, _^_, _≤_, _<_};
 ghost use lib.ListN.{length, drop};
 ghost use Rattle.calculus.specs.declared.answer.Answer.the-variants.{Done};
 ghost use Rattle.instance.specs.Header.{maxRelations};
 ghost use Rattle.card.specs.Format.{readArities, readHead};
 ghost use Rattle.decode.specs.Measure.{noArities, openedArities, noHead, openedHead};
-use super::field::wide;
 use calculus::answer::Answer;
 use calculus::refusal::BAD_ARITY;
 use calculus::refusal::BAD_RELATION_COUNT;
 use calculus::refusal::CUT_SHORT;
 use instance::header::COLUMNS;
 use instance::header::RELATIONS;
+use parse::number::byte;
+use parse::number::number;
 
 pub struct Arities {
     pub answer: Answer,
@@ -57,7 +58,7 @@ fn read_arities(card: &[u8], relations: usize) -> Arities
         if card.len() - 1 <= i {
             return no_arities(CUT_SHORT);
         }
-        let a = wide(card[i + 1]);
+        let a = byte(card, i + 1);
         if a < 1 {
             return no_arities(BAD_ARITY);
         }
@@ -75,12 +76,12 @@ fn read_arities(card: &[u8], relations: usize) -> Arities
 
 pub fn read_head(card: &[u8]) -> Head
     ensures head { λ r. ⌜ r ≡ openedHead (readHead (now (card .entry))) ⌝ }
-    ensures counted { λ r. ⌜ ((n : ℕ) → r .answer ≡ Done n → n < 65536) ⌝ }
+    ensures counted { λ r. ⌜ ((n : ℕ) → r .answer ≡ Done n → n < 256 ^ 2) ⌝ }
 {
     if card.len() < 1 {
         return no_head(CUT_SHORT);
     }
-    let relations = wide(card[0]);
+    let relations = byte(card, 0);
     if relations < 1 {
         return no_head(BAD_RELATION_COUNT);
     }
@@ -101,7 +102,7 @@ pub fn read_head(card: &[u8]) -> Head
     if card.len() - at < 2 {
         return no_head(CUT_SHORT);
     }
-    let count = wide(card[at]) * 256 + wide(card[at + 1]);
+    let count = number(card, at, 2);
     Head {
         answer: Answer::Done(count),
         relations,

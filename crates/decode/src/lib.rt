@@ -1,7 +1,7 @@
 // Reading a card into an instance.
 ghost use mathlib.Core.Path.{_≡_};
 ghost use Rattle.calculus.specs.declared.answer.Answer.the-variants.{Done, Refused};
-ghost use Rattle.instance.specs.Room.{hasRoom};
+ghost use Rattle.instance.specs.Header.{headerWith};
 ghost use Rattle.calculus.specs.Answer.{Tells};
 ghost use Rattle.card.specs.Decode.{decoded, noHeader};
 use calculus::answer::Answer;
@@ -10,14 +10,13 @@ use calculus::refusal::BYTES_LEFT_OVER;
 use calculus::refusal::NO_ROOM;
 use calculus::refusal::NULLS_EXHAUSTED;
 use head::read_head;
-use instance::header::Header;
 use instance::header::Stored;
-use instance::header::WORDS;
+use instance::header::header_with;
+use instance::room::has_room;
 use measure::Needed;
 use measure::measure;
 use write::write_rows;
 
-mod field;
 mod head;
 mod measure;
 mod write;
@@ -26,35 +25,22 @@ fn refused(why: u32) -> Stored
     ensures answer { λ r. ⌜ r .answer ≡ Refused why ⌝ }
     ensures header { λ r. ⌜ r .header ≡ noHeader ⌝ }
 {
+    let header = header_with(0, [0u32; 8], 0);
     Stored {
         answer: Answer::Refused(why),
-        header: Header {
-            relations: 0,
-            arities: [0u32; 8],
-            used: 0,
-        },
+        header,
     }
 }
 
 fn stored(relations: u32, arities: [u32; 8], used: u32) -> Stored
     ensures answer { λ r. ⌜ r .answer ≡ Done used ⌝ }
-    ensures header { λ r. ⌜ r .header ≡ record { relations = relations; arities = arities; used = used } ⌝ }
+    ensures header { λ r. ⌜ r .header ≡ headerWith relations arities used ⌝ }
 {
+    let header = header_with(relations, arities, used);
     Stored {
         answer: Answer::Done(used),
-        header: Header {
-            relations,
-            arities,
-            used,
-        },
+        header,
     }
-}
-
-fn has_room(words: u32, slice: usize) -> bool
-    ensures { λ r. ⌜ r ≡ hasRoom words slice ⌝ }
-{
-    let needed = words as usize;
-    needed <= WORDS && needed <= slice
 }
 
 // Nothing is written before everything is known to fit.
@@ -88,7 +74,7 @@ pub fn decode(card: &[u8], plot: &mut [u32]) -> Stored
     if NULLS < total.highest + total.blanks {
         return refused(NULLS_EXHAUSTED);
     }
-    if !has_room(total.words, plot.len()) {
+    if !has_room(total.words as usize, plot.len()) {
         return refused(NO_ROOM);
     }
     write_rows(plot, card, relations, &arities, count, total.highest + 1);

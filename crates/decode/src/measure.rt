@@ -1,13 +1,11 @@
 // The first pass over a card's records: every byte is checked, and what the rows need is added up.
 ghost use mathlib.Core.Path.{_≡_};
 ghost use mathlib.Core.Bool.{true};
-ghost use Prim.Native.Nat.{_≤_, _<_};
+ghost use Prim.Native.Nat.{_^_, _≤_, _<_};
 ghost use lib.ListN.{length, drop};
 ghost use Rattle.instance.specs.Header.{aritiesStand, maxRelations};
 ghost use Rattle.card.specs.Format.{readRecord, readRecords};
 ghost use Rattle.decode.specs.Measure.{readWritten, measuredFields, measuredRecord, TellsRecord, measuredFrom, TellsRecords};
-use super::field::field;
-use super::field::wide;
 use calculus::answer::Answer;
 use calculus::cell::CONSTANTS;
 use calculus::cell::is_cell;
@@ -15,6 +13,8 @@ use calculus::refusal::BIT_BEYOND_ARITY;
 use calculus::refusal::CUT_SHORT;
 use calculus::refusal::NO_SUCH_RELATION;
 use calculus::refusal::NOT_A_CELL;
+use parse::number::byte;
+use parse::number::number;
 
 pub enum Measured {
     Record {
@@ -38,7 +38,7 @@ pub enum Needed {
     Refused(u32),
 }
 
-// The highest null of so many written fields.
+// The highest null of n fields, all of them written.
 fn measure_fields(bytes: &[u8], written: u32) -> Answer
     ensures { λ r. ⌜ r ≡ measuredFields (readWritten written (now (bytes .entry))) ⌝ }
 {
@@ -49,7 +49,7 @@ fn measure_fields(bytes: &[u8], written: u32) -> Answer
         if bytes.len() - at < 3 {
             return Answer::Refused(CUT_SHORT);
         }
-        let cell = field(bytes, at);
+        let cell = number(bytes, at, 3);
         if !is_cell(cell) {
             return Answer::Refused(NOT_A_CELL);
         }
@@ -72,14 +72,14 @@ fn measure_record(bytes: &[u8], relations: u32, arities: &[u32; 8]) -> Measured
     if bytes.len() < 1 {
         return Measured::Refused(CUT_SHORT);
     }
-    let relation = wide(bytes[0]);
+    let relation = byte(bytes, 0);
     if relations <= relation {
         return Measured::Refused(NO_SUCH_RELATION);
     }
     if bytes.len() < 2 {
         return Measured::Refused(CUT_SHORT);
     }
-    let map = wide(bytes[1]);
+    let map = byte(bytes, 1);
     let arity = arities[relation as usize];
     if u32::leading_zeros(map) < 32 - arity {
         return Measured::Refused(BIT_BEYOND_ARITY);
@@ -95,12 +95,12 @@ fn measure_record(bytes: &[u8], relations: u32, arities: &[u32; 8]) -> Measured
     }
 }
 
-// So many records, from a place of the card on.
+// Measures count records, from index start of the card.
 pub fn measure(card: &[u8], start: usize, relations: u32, arities: &[u32; 8], count: u32) -> Needed
     requires within { ⌜ start ≤ length (now card) ⌝ }
     requires few { ⌜ relations ≤ maxRelations ⌝ }
     requires stand { ⌜ aritiesStand relations (now arities) ≡ true ⌝ }
-    requires counted { ⌜ count < 65536 ⌝ }
+    requires counted { ⌜ count < 256 ^ 2 ⌝ }
     ensures answer { λ r. ⌜ r ≡ measuredFrom (now (card .entry)) start relations (now (arities .entry)) count ⌝ }
     ensures told { λ r. ⌜ TellsRecords r (length (now (card .entry))) (readRecords relations (now (arities .entry)) count (drop start (now (card .entry)))) ⌝ }
 {

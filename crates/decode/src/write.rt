@@ -1,24 +1,27 @@
 // The second pass over a card's records, all of them checked: the rows are written.
 ghost use mathlib.Core.Path.{_≡_};
 ghost use mathlib.Core.Bool.{true};
-ghost use mathlib.Core.List.{[], _∷_, _++_};
+ghost use mathlib.Core.List.{[], _∷_};
 ghost use Prim.Native.Nat.{_+_, _≤_};
 ghost use lib.ListN.{length, drop};
-ghost use Rattle.card.specs.Parse.{isRead, got};
+ghost use Rattle.calculus.specs.Cell.{nulls};
+ghost use Rattle.calculus.specs.Overwrite.{overwrite};
+ghost use Rattle.instance.specs.Blanks.{numbered};
+ghost use Rattle.instance.specs.Header.{maxColumns};
+ghost use Rattle.parse.specs.Parse.{isRead, got};
 ghost use Rattle.card.specs.Format.{readFields};
-ghost use Rattle.card.specs.Blanks.{numbered};
 ghost use Rattle.decode.specs.Write.{WriteRows, wordsRead};
-use super::field::field;
-use super::field::wide;
 use calculus::cell::CONSTANTS;
+use parse::number::byte;
+use parse::number::number;
 
 // Writes one row at the start of a part of the plot; the next blank gets the given null.
 fn write_row(part: &mut [u32], relation: u32, arity: usize, map: u32, fields: &[u8], next: u32)
     requires { ⌜ 1 + arity ≤ length (now part) ⌝ }
-    requires { ⌜ arity ≤ 6 ⌝ }
-    requires { ⌜ next ≤ 201 ⌝ }
+    requires { ⌜ arity ≤ maxColumns ⌝ }
+    requires { ⌜ next ≤ nulls + 1 ⌝ }
     requires { ⌜ isRead (readFields arity map (now fields)) ≡ true ⌝ }
-    ensures { λ _. ⌜ now (part .exit) ≡ relation ∷ numbered next (got [] (readFields arity map (now (fields .entry)))) ++ drop (1 + arity) (now (part .entry)) ⌝ }
+    ensures { λ _. ⌜ now (part .exit) ≡ overwrite (relation ∷ numbered next (got [] (readFields arity map (now (fields .entry))))) (now (part .entry)) ⌝ }
 {
     part[0] = relation;
     let mut bits = map;
@@ -27,7 +30,7 @@ fn write_row(part: &mut [u32], relation: u32, arity: usize, map: u32, fields: &[
     let mut column = 0;
     while column < arity {
         if bits % 2 == 1 {
-            part[column + 1] = field(fields, at);
+            part[column + 1] = number(fields, at, 3);
             at += 3;
         } else {
             part[column + 1] = CONSTANTS + null;
@@ -38,7 +41,7 @@ fn write_row(part: &mut [u32], relation: u32, arity: usize, map: u32, fields: &[
     }
 }
 
-// Writes so many rows from the plot's first word on; the card's records are read already.
+// Writes count rows from the plot's first word; the records are read already.
 pub fn write_rows(
     plot: &mut [u32],
     card: &[u8],
@@ -48,15 +51,15 @@ pub fn write_rows(
     next: u32,
 )
     requires { ⌜ WriteRows (now plot) (now card) relations (now arities) count next ⌝ }
-    ensures { λ _. ⌜ now (plot .exit) ≡ wordsRead relations (now (arities .entry)) count next (drop (relations + 3) (now (card .entry))) ++ drop (length (wordsRead relations (now (arities .entry)) count next (drop (relations + 3) (now (card .entry))))) (now (plot .entry)) ⌝ }
+    ensures { λ _. ⌜ now (plot .exit) ≡ overwrite (wordsRead relations (now (arities .entry)) count next (drop (relations + 3) (now (card .entry)))) (now (plot .entry)) ⌝ }
 {
     let mut used = 0;
     let mut null = next;
     let mut at = relations as usize + 3;
     let mut left = count;
     while 0 < left {
-        let relation = wide(card[at]);
-        let map = wide(card[at + 1]);
+        let relation = byte(card, at);
+        let map = byte(card, at + 1);
         let arity = arities[relation as usize] as usize;
         let written = u32::count_ones(map);
         let first = at + 2;

@@ -10,17 +10,33 @@ use Rattle.calculus.proofs.Bools.{never}
 use Rattle.calculus.proofs.Reading.{then-read}
 use Rattle.parse.specs.Parse.{Parsed, readEach, isRead, got}
 
--- one item before others
-abbrev consed : {A : Type 0} → A → Parsed (List A) → Parsed (List A)
-consed x p = andThen p (λ xs bs. read (x ∷ xs) bs)
+module _ {A : Type 0} where
+  -- one item before others
+  abbrev consed : A → Parsed (List A) → Parsed (List A)
+  consed x p = andThen p (λ xs bs. read (x ∷ xs) bs)
 
-consed-read : {A : Type 0} (x : A) (p : Parsed (List A)) → isRead (consed x p) ≡ true → (isRead p ≡ true) × (got [] (consed x p) ≡ x ∷ got [] p)
-consed-read x (read xs bs) e = (refl, refl)
-consed-read x (refused r) e = never e
+  read-consed : (x : A) (p : Parsed (List A)) → isRead p ≡ true → isRead (consed x p) ≡ true
+  read-consed x (read xs bs) e = refl
+  read-consed x (refused r) e = e
 
-read-consed : {A : Type 0} (x : A) (p : Parsed (List A)) → isRead p ≡ true → isRead (consed x p) ≡ true
-read-consed x (read xs bs) e = refl
-read-consed x (refused r) e = e
+  -- items that are read by p and then by `next`: the first of them, and the others
+  pub record First (p : Parsed A) (next : List ℕ → Parsed (List A)) (items : Parsed (List A)) : Type 0 where
+    pub one : A
+    pub between : List ℕ
+    pub was-read : p ≡ read one between
+    pub reads : isRead (next between) ≡ true
+    pub all : got [] items ≡ one ∷ got [] (next between)
+
+  pub first-read : (p : Parsed A) (next : List ℕ → Parsed (List A)) → isRead (andThen p (λ x bs. consed x (next bs))) ≡ true
+      → First p next (andThen p (λ x bs. consed x (next bs)))
+  first-read (read x between) next h =
+      let c = parts (next between) h in
+      record { one = x; between = between; was-read = refl; reads = c .0; all = c .1 }
+    where
+      parts : (p : Parsed (List A)) → isRead (consed x p) ≡ true → (isRead p ≡ true) × (got [] (consed x p) ≡ x ∷ got [] p)
+      parts (read xs bs) e = (refl, refl)
+      parts (refused r) e = never e
+  first-read (refused r) next h = never h
 
 module _ {A : Type 0} (item : List ℕ → Parsed A) where
   -- What holds of no items, and of an item before others of which it holds, holds of all that are read: P of their number, the bytes, the items and the
@@ -41,28 +57,14 @@ module _ {A : Type 0} (item : List ℕ → Parsed A) where
       let end : b .state ≡ rest = cc (b .second) in
       rw (items, end) at (more n bs _ _ _ _ (a .first) (each-read P none more n (a .state) (b .first)))
 
-  -- the first of the items that are read, and the others
-  pub record First (n : ℕ) (bs : List ℕ) : Type 0 where
-    pub one : A
-    pub between : List ℕ
-    pub was-read : item bs ≡ read one between
-    pub reads : isRead (readEach item n between) ≡ true
-    pub items : got [] (readEach item (suc n) bs) ≡ one ∷ got [] (readEach item n between)
-
-  pub first-read : (n : ℕ) (bs : List ℕ) → isRead (readEach item (suc n) bs) ≡ true → First n bs
+  pub each-first : (n : ℕ) (bs : List ℕ) → isRead (readEach item (suc n) bs) ≡ true → First (item bs) (readEach item n) (readEach item (suc n) bs)
   unfolding readEach
-  first-read n bs = go (item bs) refl
-    where
-      go : (p : Parsed A) → item bs ≡ p → isRead (andThen p (λ x bs. consed x (readEach item n bs))) ≡ true → First n bs
-      go (read x between) e h =
-          let c = consed-read x (readEach item n between) h in
-          record { one = x; between = between; was-read = e; reads = c .0; items = rw e (c .1) }
-      go (refused r) e h = never h
+  each-first n bs h = first-read (item bs) (readEach item n) h
 
   pub each-length : (n : ℕ) (bs : List ℕ) → isRead (readEach item n bs) ≡ true → length (got [] (readEach item n bs)) ≡ n
   unfolding readEach
   each-length zero bs e = refl
-  each-length (suc n) bs e = let f = first-read n bs e in ap length (f .items) ∙ ap suc (each-length n (f .between) (f .reads))
+  each-length (suc n) bs e = let f = each-first n bs e in ap length (f .all) ∙ ap suc (each-length n (f .between) (f .reads))
 
   -- if items are read, so are fewer
   pub each-fewer : (few n : ℕ) (bs : List ℕ) → few ≤ n → isRead (readEach item n bs) ≡ true → isRead (readEach item few bs) ≡ true
@@ -70,5 +72,5 @@ module _ {A : Type 0} (item : List ℕ → Parsed A) where
   each-fewer zero n bs l e = refl
   each-fewer (suc few) zero bs l e = absurd (omega arith)
   each-fewer (suc few) (suc n) bs l e =
-      let f = first-read n bs e in
+      let f = each-first n bs e in
       rw (f .was-read) (read-consed (f .one) (readEach item few (f .between)) (each-fewer few n (f .between) (omega arith) (f .reads)))

@@ -15,7 +15,7 @@ use Rattle.calculus.proofs.Lists.{rest}
 use Rattle.calculus.proofs.Reading.{refused-read}
 use Rattle.parse.specs.Parse.{Parsed, readEach, isRead, got}
 use Rattle.parse.specs.Number.{readDigits, readNumber, readNumbers, readBytes, numbersOf}
-use Rattle.parse.proofs.Each.{first-read, each-length}
+use Rattle.parse.proofs.Each.{each-first, each-length}
 
 -- a byte more of a number
 pub digit-more : (high left : ℕ) {width : ℕ} (bytes : List ℕ) (at : ℕ) → width ≡ suc left → at < length bytes
@@ -105,16 +105,16 @@ bytes-whole (suc count) (b ∷ bs) l = rw (zero-mul, zero-add, bytes-whole count
 module _ (width : ℕ) where
   -- if numbers are read, there are bytes for the first
   pub numbers-room : (count : ℕ) (bs : List ℕ) → isRead (readNumbers width (suc count) bs) ≡ true → width ≤ length bs
-  numbers-room count bs e = took (takes-number width) bs (first-read (readNumber width) count bs e .was-read) .0
+  numbers-room count bs e = took (takes-number width) bs (each-first (readNumber width) count bs e .was-read) .0
 
   -- the first number, and the others after it
   pub numbers-more : (count x : ℕ) (bs rest : List ℕ) → readNumber width bs ≡ read x rest → isRead (readNumbers width (suc count) bs) ≡ true
       → (isRead (readNumbers width count rest) ≡ true) × (numbersOf width (suc count) bs ≡ x ∷ numbersOf width count rest)
   numbers-more count x bs rest first e =
-      let f = first-read (readNumber width) count bs e in
+      let f = each-first (readNumber width) count bs e in
       let same : f .one ≡ x = cc (f .was-read) in
       let after : f .between ≡ rest = cc (f .was-read) in
-      (rw after at (f .reads), rw (same, after) at (f .items))
+      (rw after at (f .reads), rw (same, after) at (f .all))
 
   -- the numbers in front of a list
   pub numbers-front : (count : ℕ) (bs rest list : List ℕ) → isRead (readNumbers width count bs) ≡ true → list ≡ numbersOf width count bs ++ rest

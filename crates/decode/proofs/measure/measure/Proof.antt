@@ -1,6 +1,6 @@
 -- `decode::measure::measure` meets its contract. The loop's invariant: the answer of the whole is that of what is left, with what was counted so
 -- far added. Assumes nothing.
-use Prim.Native.Nat.{_-_, max}
+use Prim.Native.Nat.{_-_, _^_, _<_, max}
 use mathlib.Core.Path.{_≡_, sym, _∙_}
 use mathlib.Core.Logic.{⊎-elim}
 use native.Mathlib.Omega.{arith}
@@ -10,7 +10,7 @@ use lib.ListN.{length, take, drop}
 use Rattle.card.specs.Format.{readRecord}
 use Rattle.decode.specs.Measure.{measuredRecord}
 use Rattle.instance.proofs.Parts.{part-to-end}
-use Rattle.decode.proofs.Measuring.{Measuring, Turn, turn, measuring-starts, measuring-refused, measuring-ends}
+use Rattle.decode.proofs.Measuring.{Measuring, Turn, next-turn, measuring-starts, measuring-refused, measuring-ends}
 use Rattle.decode.proofs.measure.measure.Statement.{statement}
 use Rattle.decode.proofs.measure.measure.Tie as tie
 
@@ -36,44 +36,38 @@ part-measure-record-end c = search needs
 measure-record-requires : tie.Need-measure-record-requires Inv-loop μ-loop
 measure-record-requires c κs = search needs
 
--- what the record at the place was measured to be
-measured-here : (d : tie.After-measure-record Inv-loop μ-loop)
-    → d .measure-record .result
-    ≡ measuredRecord
-    (readRecord
-    (d .before .before .before .before .before .args .relations)
-    (d .before .before .before .before .before .args .arities .now)
-    (drop (d .before .before .before .loop .at) (d .before .before .before .before .before .args .card .now)))
-measured-here d =
-    let card = d .before .before .before .before .before .args .card .now in
-    let at = d .before .before .before .loop .at in
-    let known : d .measure-record .result
-    ≡ measuredRecord (readRecord (d .before .before .before .before .before .args .relations) (d .before .before .before .before .before .args .arities .now) (take (length card - at) (drop at card))) =
-    d .measure-record .ensures .0 in
-    known ∙ rw (part-to-end card at)
+-- what the record at index `at` was measured to be
+module _ (c : tie.After-measure-record Inv-loop μ-loop) where
+  abbrev turn : tie.At-loop Inv-loop μ-loop
+  turn = c .before .before .before
 
-here : (c : tie.After-known-told Inv-loop μ-loop)
-    → Turn
-    (c .before .before .before .before .before .before .before .before .args .card .now)
-    (c .before .before .before .before .before .before .before .before .args .start)
-    (c .before .before .before .before .before .before .before .before .args .relations)
-    (c .before .before .before .before .before .before .before .before .args .arities .now)
-    (c .before .before .before .before .before .before .before .before .args .count)
-    (c .before .before .before .before .before .before .loop .words)
-    (c .before .before .before .before .before .before .loop .blanks)
-    (c .before .before .before .before .before .before .loop .top)
-    (c .before .before .before .before .before .before .loop .at)
-    (c .before .before .before .before .before .before .loop .left)
-    (c .before .arity .given .0 .0)
-    (c .before .arity .given .0 .1 .0)
-    (c .before .arity .given .0 .1 .1 .0)
-here c =
-    turn _ _ _ _ _ _ _ _ _ _
-    (c .before .before .before .before .before .before .loop .inv)
-    (c .before .before .before .before .before .loop-test .taken)
-    _ _ _
-    (c .before .before .before .before .before .before .before .before .pre .1 .1 .0)
-    (sym (measured-here (c .before .before .before)) ∙ c .before .arity .given .1)
+  abbrev start : tie.Start Inv-loop μ-loop
+  start = turn .before .before
+
+  measured-here : c .measure-record .result ≡ measuredRecord (readRecord (start .args .relations) (start .args .arities .now) (drop (turn .loop .at) (start .args .card .now)))
+  measured-here =
+      let card = start .args .card .now in
+      let at = turn .loop .at in
+      let known : c .measure-record .result ≡ measuredRecord (readRecord (start .args .relations) (start .args .arities .now) (take (length card - at) (drop at card))) =
+      c .measure-record .ensures .0 in
+      known ∙ rw (part-to-end card at)
+
+module _ (c : tie.After-known-told Inv-loop μ-loop) where
+  abbrev asked : tie.After-measure-record Inv-loop μ-loop
+  asked = c .before .before .before
+
+  abbrev found : tie.After-arity Inv-loop μ-loop
+  found = c .before
+
+  here :
+      let args = start asked .args in
+      let l = turn asked .loop in
+      Turn (args .card .now) (args .start) (args .relations) (args .arities .now) (args .count) (l .words) (l .blanks) (l .top) (l .at) (l .left)
+      (found .arity .given .0 .0) (found .arity .given .0 .1 .0) (found .arity .given .0 .1 .1 .0)
+  here = next-turn _ _ _ _ _ _ _ _ _ _ (turn asked .loop .inv) (asked .before .before .loop-test .taken) _ _ _ (start asked .pre .1 .1 .0) (sym (measured-here asked) ∙ found .arity .given .1)
+
+  few : start asked .args .count < 256 ^ 2
+  few = start asked .pre .1 .1 .1
 
 enum-known-arity : tie.Need-enum-known-arity Inv-loop μ-loop
 enum-known-arity c = search needs
@@ -82,13 +76,13 @@ add-words : tie.Need-add-words Inv-loop μ-loop
 add-words c = omega (arith, here c .narrow)
 
 add-words-2 : tie.Need-add-words-2 Inv-loop μ-loop
-add-words-2 c = omega (arith, here c .words-fit, c .before .before .before .before .before .before .before .before .pre .1 .1 .1)
+add-words-2 c = omega (arith, here c .words-fit, few c)
 
 sub-blanks : tie.Need-sub-blanks Inv-loop μ-loop
 sub-blanks c = here c .fewer
 
 add-blanks : tie.Need-add-blanks Inv-loop μ-loop
-add-blanks c = omega (arith, here c .blanks-fit, c .before .before .before .before .before .before .before .before .pre .1 .1 .1)
+add-blanks c = omega (arith, here c .blanks-fit, few c)
 
 cast-at : tie.Need-cast-at Inv-loop μ-loop
 cast-at c = omega (arith, here (c .before) .narrow, here (c .before) .fewer)
@@ -107,13 +101,9 @@ enum-known-why c = search needs
 
 returns : tie.Need-returns Inv-loop μ-loop
 returns c =
+    let asked = c .before .before .before in
     records-told _ _
-    (sym
-    (measuring-refused _ _ _ _ _ _ _ _ _ _
-    (c .before .before .before .before .before .before .loop .inv)
-    (c .before .before .before .before .before .loop-test .taken)
-    _
-    (sym (measured-here (c .before .before .before)) ∙ c .before .why .given .1)))
+    (sym (measuring-refused _ _ _ _ _ _ _ _ _ _ (turn asked .loop .inv) (asked .before .before .loop-test .taken) _ (sym (measured-here asked) ∙ c .before .why .given .1)))
 
 sub-left : tie.Need-sub-left Inv-loop μ-loop
 sub-left c = search needs
@@ -123,7 +113,7 @@ loop-less c = search needs
 
 loop-again : tie.Need-loop-again Inv-loop μ-loop
 loop-again c =
-    let top : c .if1 .top ≡ max (c .before .before .before .before .before .before .before .loop .top) (c .before .before .arity .given .0 .1 .1 .0) =
+    let top : c .if1 .top ≡ max (turn (asked (c .before)) .loop .top) (c .before .before .arity .given .0 .1 .1 .0) =
     ⊎-elim (λ w. omega arith) (λ w. omega arith) (c .if1 .came) in
     rw top (here (c .before) .then)
 

@@ -5,8 +5,7 @@ use mathlib.Core.Path.{_≡_, _∙_}
 use mathlib.Core.Logic.{⊎-elim}
 use native.Mathlib.Omega.{arith}
 use lib.ListN.{length, length-set}
-use lib.Seq.{drop-set-lt}
-use Rattle.decode.proofs.Written.{WritingRow, row-starts, written-step, blank-step, row-ends}
+use Rattle.decode.proofs.Written.{cellsRead, WritingRow, row-starts, row-room, field-room, written-step, blank-step, row-ends, row-whole}
 use Rattle.decode.proofs.write.write_row.Statement.{statement}
 use Rattle.decode.proofs.write.write_row.Tie as tie
 
@@ -20,23 +19,20 @@ abbrev μ-loop : tie.MeasureT-loop
 slice-write-part : tie.Need-slice-write-part Inv-loop μ-loop
 slice-write-part c = omega arith
 
--- there is room for the column
-room : (c : tie.In-loop Inv-loop μ-loop) → c .before .loop .column + 1 < length (c .before .loop .part)
-room c =
-    let start = c .before .before .before .before in
-    omega (arith, c .before .loop .inv .long, length-set (start .args .part .now) 0 (start .args .relation))
+-- what a turn of the loop has
+module _ (c : tie.In-loop Inv-loop μ-loop) where
+  room : c .before .loop .column + 1 < length (c .before .loop .part)
+  room = row-room _ _ _ _ _ _ _ _ _ _ _ (c .before .loop .inv) (c .loop-test .taken)
 
--- the field of a column whose bit stands is within the bytes
-in-bytes :
-    (c : tie.In-loop Inv-loop μ-loop) → c .before .loop .bits % 2 ≡ 1 →
-    c .before .loop .at + 3 ≤ length (c .before .before .before .before .args .fields .now)
-in-bytes c odd = written-step _ _ _ _ _ _ _ _ _ _ _ (c .before .loop .inv) (c .loop-test .taken) (room c) odd .0
+  -- the field of a column whose bit stands is within the bytes
+  in-bytes : c .before .loop .bits % 2 ≡ 1 → c .before .loop .at + 3 ≤ length (c .before .before .before .before .args .fields .now)
+  in-bytes = field-room _ _ _ _ _ _ _ _ _ _ _ (c .before .loop .inv) (c .loop-test .taken)
 
 loop-holds : tie.Need-loop-holds Inv-loop μ-loop
-loop-holds c = row-starts (c .before .before .args .part .now) _ _ _ _ _ (omega arith) (c .before .before .pre .1 .1 .1)
+loop-holds c = row-starts (c .before .before .args .part .now) _ _ _ _ _ (c .before .before .pre .0) (c .before .before .pre .1 .1 .1)
 
-field-requires : tie.Need-field-requires Inv-loop μ-loop
-field-requires c κs = in-bytes (c .before) (c .if1 .taken)
+number-requires : tie.Need-number-requires Inv-loop μ-loop
+number-requires c κs = (omega arith, in-bytes (c .before) (c .if1 .taken))
 
 add-part : tie.Need-add-part Inv-loop μ-loop
 add-part c = omega arith
@@ -75,18 +71,18 @@ loop-again : tie.Need-loop-again Inv-loop μ-loop
 loop-again c =
     let v = c .before in
     ⊎-elim
-    (λ w. rw (w .2, w .3, w .4, w .1 .ensures .0) (written-step _ _ _ _ _ _ _ _ _ _ _ (v .before .loop .inv) (v .loop-test .taken) (room v) (w .0 .taken) .1))
-    (λ w. rw (w .1, w .2, w .3) (blank-step _ _ _ _ _ _ _ _ _ _ _ (v .before .loop .inv) (v .loop-test .taken) (room v) (w .0 .left)))
+    (λ w. rw (w .2, w .3, w .4) (written-step _ _ _ _ _ _ _ _ _ _ _ (v .before .loop .inv) (v .loop-test .taken) (w .0 .taken) (w .1 .ensures .0)))
+    (λ w. rw (w .1, w .2, w .3) (blank-step _ _ _ _ _ _ _ _ _ _ _ (v .before .loop .inv) (v .loop-test .taken) (w .0 .left)))
     (c .if1 .came)
 
 same-length : tie.Need-same-length Inv-loop μ-loop
-same-length c = c .before .loop .inv .long ∙ length-set (c .before .before .before .before .args .part .now) 0 (c .before .before .before .before .args .relation)
+same-length c = c .before .loop .inv .stored .same ∙ length-set (c .before .before .before .before .args .part .now) 0 (c .before .before .before .before .args .relation)
 
 returns : tie.Need-returns Inv-loop μ-loop
 returns c =
-    let start = c .before .before .before .before in
+    let args = c .before .before .before .before .args in
     row-ends _ _ _ _ _ _ _ _ _ _ _ (c .before .loop .inv) (c .loop-test .left) ∙
-    rw (drop-set-lt (1 + start .args .arity) (start .args .part .now) 0 (start .args .relation) (omega arith))
+    row-whole (args .part .now) (args .relation) (cellsRead (args .next) (args .arity) (args .map) (args .fields .now))
 
 pub write-row-spec : {M : Type 1} → statement M
 write-row-spec =
@@ -96,7 +92,7 @@ write-row-spec =
     μ-loop
     slice-write-part
     loop-holds
-    field-requires
+    number-requires
     add-part
     mul-part
     slice-write-part-2
