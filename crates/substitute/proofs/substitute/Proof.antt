@@ -32,11 +32,14 @@ enum-told-2 c = search needs
 
 -- what the answer of the scan says
 module _ (c : tie.After-enum-told) where
+  abbrev start : tie.Start
+  start = c .before .before .before .before .before
+
   abbrev h : Header
-  h = c .before .before .before .before .before .args .header
+  h = start .args .header
 
   abbrev ws : List ℕ
-  ws = c .before .before .before .before .before .args .plot .now
+  ws = start .args .plot .now
 
   stands : sound h ws ≡ true
   stands = scanned-sound h ws _ (sym (c .before .before .scan .ensures .0) ∙ c .enum-told .given .1)
@@ -47,10 +50,10 @@ module _ (c : tie.After-slice-known2) where
   told = c .before .before .before .before .before .before .before .before .before
 
   abbrev m : ℕ
-  m = c .before .before .before .before .before .before .before .before .before .before .before .before .before .before .args .mark
+  m = start told .args .mark
 
   abbrev cell : ℕ
-  cell = c .before .before .before .before .before .before .before .before .before .before .before .before .before .before .args .cell
+  cell = start told .args .cell
 
   count-is : c .before .before .replace .result ≡ held m (rows (h told) (ws told))
   count-is = c .before .before .replace .ensures .0 ∙ sym (held-words (h told) (ws told) (stands told) m)

@@ -312,10 +312,11 @@ negated-not-requires t c κs = search needs
 
 negated-returns-2 : (t : ℕ) → negated-lts.Need-returns-2 (negated-claims t) (negated-at t) negated.Post
 negated-returns-2 t c =
-    let start = c .before .before .before .before .before .before .before .before .before .before in
+    let asked = c .before .before .before .before in
+    let start = asked .before .before .before .before .before .before in
     let ev = start .pre .1 .0 in
     let down = stands-by _ _ _ _ _ _ negates (ev .ready) (ev .known) (start .pre .1 .1) in
-    let child = c .before .before .before .before .evaluate .ensures in
+    let child = asked .evaluate .ensures in
     (child .0, rw (c .not .ensures .0) (negated-verdict _ _ _ _ (ev .known) (start .pre .1 .1) (down .0) _ _ _ _ (rw (c .before .before .before .before .before .before .word .ensures, c .before .before .truth .given .1) at (child .1))))
 
 abbrev walk-Inv-loop : walk-lts.InvT-loop
@@ -347,7 +348,7 @@ module _ (t : ℕ) (e : walk-lts.After-evaluate (walk-claims t) (walk-at t) walk
 
   -- the variable, as the code has it and as the question's word
   abbrev variable : ℕ
-  variable = e .before .before .before .before .before .before .before .before .before .before .word .result
+  variable = walk-loop .before .before .before .before .word .result
 
   abbrev value : ℕ
   value = getD (walk-start .args .values .now) (walk-loop .loop .i) 0
@@ -356,7 +357,7 @@ module _ (t : ℕ) (e : walk-lts.After-evaluate (walk-claims t) (walk-at t) walk
   here : e .before .before .assign .last .0 ≡ set env₀ (wordAt qs (walk-start .args .node) 1) value
   here =
       e .before .before .assign .ensures ∙ set-again _ (walk-loop .loop .env) _ _ _ (walk-loop .loop .inv .1) ∙
-      ap (λ (v : ℕ). set env₀ v value) (e .before .before .before .before .before .before .before .before .before .before .word .ensures)
+      ap (λ (v : ℕ). set env₀ v value) (walk-loop .before .before .before .before .word .ensures)
 
   -- putting the old cell back restores the assignment
   back : set (e .evaluate .last .1 .1 .0) variable (getD env₀ variable 0) ≡ env₀
@@ -372,7 +373,7 @@ module _ (t : ℕ) (e : walk-lts.After-evaluate (walk-claims t) (walk-at t) walk
   -- the assignment is as long as it was, and the variable within it
   assignable : (variable < variables) × (length (e .evaluate .last .1 .1 .0) ≡ variables)
   assignable = (
-    omega (arith, e .before .before .before .before .before .before .before .before .before .before .word .ensures, walk-down t walk-start .0),
+    omega (arith, walk-loop .before .before .before .before .word .ensures, walk-down t walk-start .0),
     ap length (e .evaluate .ensures .0 ∙ here) ∙ length-set env₀ _ _ ∙ walk-start .pre .1 .0 .sixteen,
   )
 

@@ -55,9 +55,13 @@ part-store-start c = omega arith
 part-store-end : tie.Need-part-store-end Inv-loop μ-loop
 part-store-end c = omega arith
 
+-- the turn of the loop that made a fill
+abbrev begins : tie.After-fill Inv-loop μ-loop → tie.At-loop Inv-loop μ-loop
+begins c = c .before .before .before .before .before .before
+
 store-requires : tie.Need-store-requires Inv-loop μ-loop
 store-requires c κs =
-    let at = c .before .before .before .before .before .before .before .before .before .before .before .loop in
+    let at = begins (c .before .before .before .before .before) .loop in
     rw (part-to-end (at .answers) (at .i)) (omega (arith, length-drop (at .i) (at .answers)))
 
 add-i : tie.Need-add-i Inv-loop μ-loop
@@ -68,9 +72,10 @@ loop-less c = omega arith
 
 loop-again : tie.Need-loop-again Inv-loop μ-loop
 loop-again c =
-    let args = c .before .before .before .before .before .before .before .before .before .before .before .before .before .before .before .before .before .before .before .args in
-    let at = c .before .before .before .before .before .before .before .before .before .before .before .before .before .before .loop in
-    let filled = c .before .before .before .before .before .before .before .before .fill in
+    let fill = c .before .before .before .before .before .before .before .before in
+    let at = begins fill .loop in
+    let args = begins fill .before .before .before .before .before .args in
+    let filled = fill .fill in
     let out = at .answers in
     let is-stored =
     put-to-end out (at .i) (c .before .before .store .last .0) (omega arith) ∙

@@ -15,29 +15,32 @@ use Rattle.rerun.proofs.rerun.rerun.Tie as tie
 
 -- run A got a verdict
 module _ (c : tie.After-truth-a) where
+  abbrev start : tie.Start
+  start = c .before .before .before .before .before .before .before .before .before .before .before .before .before .before .before
+
   abbrev h : Header
-  h = c .before .before .before .before .before .before .before .before .before .before .before .before .before .before .before .args .header
+  h = start .args .header
 
   abbrev ws : List ℕ
-  ws = c .before .before .before .before .before .before .before .before .before .before .before .before .before .before .before .args .plot .now
+  ws = start .args .plot .now
 
   abbrev qs : List ℕ
-  qs = c .before .before .before .before .before .before .before .before .before .before .before .before .before .before .before .args .query .now
+  qs = start .args .query .now
 
   abbrev candidate : List ℕ
-  candidate = c .before .before .before .before .before .before .before .before .before .before .before .before .before .before .before .args .candidate .now
+  candidate = start .args .candidate .now
 
   abbrev buffer : List ℕ
-  buffer = c .before .before .before .before .before .before .before .before .before .before .before .before .before .before .before .args .buffer .now
+  buffer = start .args .buffer .now
 
   abbrev budget : ℕ
-  budget = c .before .before .before .before .before .before .before .before .before .before .before .before .before .before .before .args .budget
+  budget = start .args .budget
 
   abbrev fills : List ℕ
-  fills = c .before .before .before .before .before .before .before .before .before .before .before .before .before .before .before .args .fills .now
+  fills = start .args .fills .now
 
   abbrev out : List ℕ
-  out = c .before .before .before .before .before .before .before .before .before .before .before .before .before .before .before .args .answers .now
+  out = start .args .answers .now
 
   abbrev verdict : Asked
   verdict = Verdict (c .truth-a .given .0 .0) (c .truth-a .given .0 .1 .0)
@@ -47,17 +50,20 @@ module _ (c : tie.After-truth-a) where
 
 -- run B was asked
 module _ (c : tie.After-ask2) where
+  abbrev made : tie.After-fill-all
+  made = c .before .before .before .before .before .before .before .before .before .before
+
   abbrev first : tie.After-truth-a
-  first = c .before .before .before .before .before .before .before .before .before .before .before .before .before .before .before
+  first = made .before .before .before .before .before
 
   ended :
       (b : Asked) → c .ask2 .result ≡ b →
       Ends (h first) (ws first) (qs first) (candidate first) (buffer first) (budget first) (fills first) (out first) (bothRuns (verdict first) b)
-      (c .before .before .before .before .before .before .before .before .before .before .fill-all .last .1 .0) (c .before .before .before .before .before .before .before .before .before .before .fill-all .last .1 .1 .0) (c .ask2 .last .1 .1 .1 .1 .0) (c .before .before .before .before .before .before .before .before .before .before .fill-all .last .1 .1 .1 .1 .0)
+      (made .fill-all .last .1 .0) (made .fill-all .last .1 .1 .0) (c .ask2 .last .1 .1 .1 .1 .0) (made .fill-all .last .1 .1 .1 .1 .0)
   ended b is =
-      let made = c .before .before .before .before .before .before .before .before .before .before .fill-all .ensures in
+      let told = made .fill-all .ensures in
       verdicts (h first) (ws first) (qs first) (candidate first) (buffer first) (budget first) (fills first) (out first) (first .before .before .before .before .before .before .before .before .if1 .left) _ _ (is-verdict first)
-      _ _ _ _ _ b (first .before .before .before .before .ask .ensures .1 .0) (made .0) (made .1 .0) (made .1 .1) (sym is ∙ c .ask2 .ensures .0) (c .ask2 .ensures .1 .0)
+      _ _ _ _ _ b (first .before .before .before .before .ask .ensures .1 .0) (told .0) (told .1 .0) (told .1 .1) (sym is ∙ c .ask2 .ensures .0) (c .ask2 .ensures .1 .0)
 
 returns : tie.Need-returns
 returns c =
@@ -99,9 +105,11 @@ same-length-3 c = search needs
 
 returns-2 : tie.Need-returns-2
 returns-2 c =
-    let args = c .before .before .before .before .before .before .before .before .before .before .before .before .before .before .before .before .args in
-    let told = c .before .before .before .before .before .ask .ensures in
-    refused (args .header) (args .plot .now) (args .query .now) (args .candidate .now) (args .buffer .now) (args .budget) (args .fills .now) (args .answers .now) (c .before .before .before .before .before .before .before .before .before .if1 .left) _ (sym (c .before .why-a .given .1) ∙ told .0) _ (told .1 .0)
+    let asked = c .before .before .before .before .before in
+    let room = asked .before .before .before .before in
+    let args = room .before .before .before .before .before .before .before .args in
+    let told = asked .ask .ensures in
+    refused (args .header) (args .plot .now) (args .query .now) (args .candidate .now) (args .buffer .now) (args .budget) (args .fills .now) (args .answers .now) (room .if1 .left) _ (sym (c .before .why-a .given .1) ∙ told .0) _ (told .1 .0)
 
 same-length-4 : tie.Need-same-length-4
 same-length-4 c = search needs
