@@ -3,16 +3,16 @@ use mathlib.Core.Path.{refl}
 use Rattle.calculus.specs.Cell.{isCell}
 use Rattle.instance.specs.Rows.{wordsOf}
 use Rattle.card.specs.Decode.{accepted, decodedFrom, decoded}
-use Rattle.card.specs.Blanks.{blanksIn, blanks, highestIn, highest, numbered, numberedRows}
-use Rattle.card.specs.Parse.{readByte}
-use Rattle.card.specs.Format.{readArities, readCount, readHead, readField, readFields as readCardFields, readRecord, readRecords, readCard}
+use Rattle.instance.specs.Blanks.{blanksIn, blanks, highestOf, writtenOf, highest, numbered, numberedRows}
+use Rattle.parse.specs.Parse.{readByte, readEach}
+use Rattle.card.specs.Format.{readHead, readField, readFields as readCardFields, readRecord, readCard}
 use Rattle.line.specs.Line.{blank}
-use Rattle.line.specs.Number.{readDigits, readNumbers, readBytes}
+use Rattle.parse.specs.Number.{readDigits}
 use Rattle.line.specs.Fields.{readFields, readInput}
 use Rattle.line.proofs.WholeCase.{input}
 use Rattle.readings.specs.Table.{nodes}
 use Rattle.readings.specs.WholeCase.{ReadsAs6}
 
 pub whole-case-6 : ReadsAs6 input
-unfolding isCell wordsOf accepted decodedFrom decoded blanksIn blanks highestIn highest numbered numberedRows readByte readArities readCount readHead readField readCardFields readRecord readRecords readCard blank readDigits readNumbers readBytes readFields readInput nodes
+unfolding isCell wordsOf accepted decodedFrom decoded blanksIn blanks highestOf writtenOf highest numbered numberedRows readByte readEach readHead readField readCardFields readRecord readCard blank readDigits readFields readInput nodes
 whole-case-6 = record { fields = refl; accepted = refl; header = refl; words = refl }

@@ -5,7 +5,7 @@ use mathlib.Core.Path.{_≡_}
 use mathlib.Core.List.{List, [], _∷_}
 use lib.ListN.{length, take}
 use Rattle.calculus.specs.declared.answer.Answer.the-variants.{Done}
-use Rattle.card.specs.Parse.{read}
+use Rattle.calculus.specs.Reading.{read}
 use Rattle.card.specs.Decode.{decoded}
 use Rattle.line.specs.Fields.{readInput}
 use Rattle.line.specs.Line.{blank}

@@ -38,10 +38,12 @@ same-length c = search needs
 returns-2 : tie.Need-returns-2
 unfolding askAnswer askList
 returns-2 c =
-    let args = c .before .before .before .before .before .before .before .before .before .before .before .before .before .before .before .before .args in
+    let read = c .before .before .before .before .before .before .before .before .before in
+    let tested = read .before in
+    let args = tested .before .before .before .before .before .before .args in
     let hs = args .header .now in
-    let ten = c .before .before .before .before .before .before .before .before .before .before .if1 .left in
-    let is = c .before .before .before .before .before .before .before .before .before .read-header .ensures in
+    let ten = tested .if1 .left in
+    let is = read .read-header .ensures in
     let made = c .before .before .before .before .before .before .before .ask .ensures in
     let a = left hs ten is (λ h. ask h (args .plot .now) (args .query .now) (args .candidate .now) (args .list .now) (args .budget)) (Refused 41) (made .0) in (
       c .asked-number .ensures ∙ ap askedNumber a,

@@ -37,11 +37,13 @@ same-length-2 c = search needs
 returns-2 : tie.Need-returns-2
 unfolding decodeAnswer decodeHeader decodeWords
 returns-2 c =
-    let args = c .before .before .before .before .before .before .before .before .before .before .before .before .before .before .args in
+    let call = c .before .before .before .before .before .before .before .before in
+    let tested = call .before .before in
+    let args = tested .before .before .before .before .args in
     let hs = args .header .now in
-    let ten = c .before .before .before .before .before .before .before .before .before .before .if1 .left in
-    let made = c .before .before .before .before .before .before .before .before .decode .ensures in
-    let stored = c .before .before .before .before .before .before .before .before .decode .result in
+    let ten = tested .if1 .left in
+    let made = call .decode .ensures in
+    let stored = call .decode .result in
     let a = made .0 ∙ sym (headed-yes hs ten (decoded (args .card .now) (args .plot .now) .answer)) in (
       c .number .ensures ∙ ap numberOf a,
       (

@@ -40,14 +40,17 @@ same-length-2 c = search needs
 returns-2 : tie.Need-returns-2
 unfolding insertAnswer insertHeader insertWords
 returns-2 c =
-    let args = c .before .before .before .before .before .before .before .before .before .before .before .before .before .before .before .before .args in
+    let call = c .before .before .before .before .before .before .before .before in
+    let read = call .before .before in
+    let tested = read .before .before in
+    let args = tested .before .before .before .before .args in
     let hs = args .header .now in
-    let ten = c .before .before .before .before .before .before .before .before .before .before .before .before .if1 .left in
-    let is = c .before .before .before .before .before .before .before .before .before .before .read-header .ensures in
-    let made = c .before .before .before .before .before .before .before .before .insert .ensures in
+    let ten = tested .if1 .left in
+    let is = read .read-header .ensures in
+    let made = call .insert .ensures in
     let a = answered hs ten is (λ h. inserted h (args .plot .now) (args .relation) (args .cells .now)) (made .0) in
     let new = made .1 .0 ∙ ap (λ (h : Header). insertedHeader h (args .plot .now) (args .relation) (args .cells .now)) is in
-    let stored = c .before .before .before .before .before .before .before .before .insert .result in (
+    let stored = call .insert .result in (
       c .number .ensures ∙ ap numberOf a,
       (
         c .before .before .before .put-header .ensures ∙

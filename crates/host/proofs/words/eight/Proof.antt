@@ -18,3 +18,8 @@ Inv-loop words at values₀ i₀ values i = (i ≤ maxRelations) × (values ≡ 
 
 abbrev μ-loop : tie.MeasureT-loop
 μ-loop words at values₀ i₀ values i = maxRelations - i
+
+-- the word at index i of the part
+module _ (c : tie.In-loop Inv-loop μ-loop) where
+  abbrev ws : List ℕ
+  ws = c .before .before .before .args .words .now
