@@ -1,9 +1,10 @@
 -- What is asked of a card that is read or refused, and the line of an answer. Assumes nothing.
 use Prim.Native.Nat.{ℕ, _≤_, _<_}
 use mathlib.Core.Path.{_≡_}
-use mathlib.Core.List.{List, _++_}
+use mathlib.Core.List.{List}
 use borrow.Author.Tests.{le-leb, lt-leb}
-use lib.ListN.{length, drop}
+use lib.ListN.{length}
+use Rattle.calculus.specs.Overwrite.{overwrite}
 use Rattle.calculus.specs.declared.answer.Answer.{Answer}
 use Rattle.calculus.specs.declared.answer.Answer.the-variants as answer
 use Rattle.instance.specs.declared.header.Header.{Header}
@@ -27,6 +28,6 @@ module _ (input out : List ℕ) where
   no-line l = (rw (lt-leb maxLine (length out) l), rw (lt-leb maxLine (length out) l))
 
   pub one-line : {a : Asked} → a ≡ answered input → maxLine ≤ length out
-      → (lineLength input out ≡ length (lineFor a)) × (lineOut input out ≡ lineFor a ++ drop (length (lineFor a)) out)
+      → (lineLength input out ≡ length (lineFor a)) × (lineOut input out ≡ overwrite (lineFor a) out)
   unfolding lineLength lineOut lineOf
   one-line e l = (rw (le-leb maxLine (length out) l, e), rw (le-leb maxLine (length out) l, e))

@@ -1,4 +1,4 @@
--- The fields of an input, found one behind the other: what stands so far says what the whole input reads as. Assumes nothing.
+-- The fields of an input, found one after the other: what stands so far says what the whole input reads as. Assumes nothing.
 use Prim.Native.Nat.{ℕ, _+_, _-_, _*_, _≤_, _<_}
 use mathlib.Core.Path.{_≡_, ap, _∙_}
 use mathlib.Core.List.{List, []}
@@ -7,15 +7,16 @@ use borrow.Author.Tests.{le-leb, lt-leb, ne-eqb}
 use lib.ListN.{length, take, drop, length-drop, drop-of-length-le}
 use lib.Seq.{drop-drop}
 use Rattle.calculus.specs.Refusal.{cut-short, input-too-long, bytes-left-over}
-use Rattle.card.specs.Parse.{Parsed, read, refused, andThen}
-use Rattle.line.specs.Number.{readNumber, readNumbers, numbersOf, readBytes}
+use Rattle.calculus.specs.Reading.{read, refused, andThen}
+use Rattle.parse.specs.Parse.{Parsed}
+use Rattle.parse.specs.Number.{readNumber, readNumbers, numbersOf, readBytes}
+use Rattle.parse.proofs.Numbers.{Cuts, Takes, cuts-then, takes-number, takes-bytes, bytes-whole, takes-numbers, numbers-whole}
 use Rattle.line.specs.Fields.{Fields, readFields, wholly, maxInput, readInput}
-use Rattle.line.proofs.Reading.{Cuts, Takes, cuts-then, takes-number, takes-bytes, bytes-whole, takes-numbers, numbers-whole}
 
 abbrev fields : List ℕ → List ℕ → List ℕ → ℕ → Fields
 fields card words candidate budget = record { card = card; words = words; candidate = candidate; budget = budget }
 
--- what is left to read behind the number of cells, behind the count of words, behind the card's length
+-- what is left to read after the number of cells, after the count of words, after the card's length
 abbrev pub fromCells : List ℕ → List ℕ → ℕ → List ℕ → Parsed Fields
 fromCells card words k bs =
     andThen (readNumbers 3 k bs)
@@ -28,7 +29,7 @@ fromWords card count bs = andThen (readNumbers 4 count bs) (λ words bs. andThen
 abbrev pub fromCard : ℕ → List ℕ → Parsed Fields
 fromCard size bs = andThen (readBytes size bs) (λ card bs. andThen (readNumber 2 bs) (λ count bs. fromWords card count bs))
 
--- Items and the next field's number behind them, whatever follows: too few bytes are refused, and enough are read.
+-- Items and the next field's number after them, whatever follows: too few bytes are refused, and enough are read.
 cuts-items : {A B : Type 0} {m : ℕ} (n : ℕ) {p : List ℕ → Parsed A} (f : A → ℕ → List ℕ → Parsed B) → Takes m p
     → Cuts (m + n) (λ bs. andThen (p bs) (λ a bs. andThen (readNumber n bs) (λ x bs. f a x bs)))
 cuts-items n f t = cuts-then t (λ a bs l. rw (takes-number n .cut bs l))
@@ -56,15 +57,15 @@ module _ (input : List ℕ) (fits : length input ≤ maxInput) where
   unfolding readFields
   to-card number = starts ∙ rw number
 
--- what is known of an input whose bytes up to a place are read
+-- what is known of an input whose bytes before index `at` are read
 module _ (input : List ℕ) (at : ℕ) where
-  cut-behind : (n : ℕ) {p : List ℕ → Parsed Fields} → readInput input ≡ wholly (p (drop at input)) → Cuts n p → at ≤ length input → length input < at + n
+  cut-after : (n : ℕ) {p : List ℕ → Parsed Fields} → readInput input ≡ wholly (p (drop at input)) → Cuts n p → at ≤ length input → length input < at + n
       → readInput input ≡ refused cut-short
-  cut-behind n e cut within l = e ∙ ap wholly (cut (drop at input) (rw length-drop (omega arith)))
+  cut-after n e cut within l = e ∙ ap wholly (cut (drop at input) (rw length-drop (omega arith)))
 
   module _ (size : ℕ) (e : readInput input ≡ wholly (fromCard size (drop at input))) where
     pub cut-card : at ≤ length input → length input < at + (size + 2) → readInput input ≡ refused cut-short
-    cut-card = cut-behind (size + 2) e (cuts-items 2 (λ card count bs. fromWords card count bs) (takes-bytes size))
+    cut-card = cut-after (size + 2) e (cuts-items 2 (λ card count bs. fromWords card count bs) (takes-bytes size))
 
     pub to-words : {count : ℕ} {rest : List ℕ} → at + size ≤ length input → readNumber 2 (drop (at + size) input) ≡ read count rest
         → readInput input ≡ wholly (fromWords (take size (drop at input)) count rest)
@@ -73,7 +74,7 @@ module _ (input : List ℕ) (at : ℕ) where
 
   module _ (card : List ℕ) (count : ℕ) (e : readInput input ≡ wholly (fromWords card count (drop at input))) where
     pub cut-words : at ≤ length input → length input < at + (4 * count + 1) → readInput input ≡ refused cut-short
-    cut-words = cut-behind (4 * count + 1) e (cuts-items 1 (λ words k bs. fromCells card words k bs) (takes-numbers 4 count))
+    cut-words = cut-after (4 * count + 1) e (cuts-items 1 (λ words k bs. fromCells card words k bs) (takes-numbers 4 count))
 
     pub to-cells : {k : ℕ} {rest : List ℕ} → at + 4 * count ≤ length input → readNumber 1 (drop (at + 4 * count) input) ≡ read k rest
         → readInput input ≡ wholly (fromCells card (numbersOf 4 count (drop at input)) k rest)
@@ -82,7 +83,7 @@ module _ (input : List ℕ) (at : ℕ) where
 
   module _ (card words : List ℕ) (k : ℕ) (e : readInput input ≡ wholly (fromCells card words k (drop at input))) where
     pub cut-cells : at ≤ length input → length input < at + (3 * k + 4) → readInput input ≡ refused cut-short
-    cut-cells = cut-behind (3 * k + 4) e (cuts-items 4 (λ cells budget bs. read (fields card words cells budget) bs) (takes-numbers 3 k))
+    cut-cells = cut-after (3 * k + 4) e (cuts-items 4 (λ cells budget bs. read (fields card words cells budget) bs) (takes-numbers 3 k))
 
     pub to-end : {budget : ℕ} {rest : List ℕ} → at + 3 * k ≤ length input → readNumber 4 (drop (at + 3 * k) input) ≡ read budget rest
         → readInput input ≡ wholly (read (fields card words (numbersOf 3 k (drop at input)) budget) rest)

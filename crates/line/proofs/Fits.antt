@@ -1,11 +1,13 @@
 -- A line is no longer than the bytes that it was written to. Assumes nothing.
 use Prim.Native.Nat.{ℕ, _+_, _≤_}
 use mathlib.Core.Path.{_≡_, ap}
-use mathlib.Core.Bool.{Bool, true, false, cond}
-use mathlib.Core.List.{List, _++_}
+use mathlib.Core.Bool.{Bool, true, false}
+use mathlib.Core.List.{List}
 use native.Mathlib.Omega.{arith}
 use lib.ListN.{length, drop, length-append}
 use lib.Dec.{leb}
+use Rattle.calculus.specs.Demand.{demand}
+use Rattle.calculus.specs.Overwrite.{overwrite}
 use Rattle.line.specs.Text.{maxLine}
 use Rattle.line.specs.Line.{lineOf, lineLength, lineOut}
 
@@ -13,6 +15,6 @@ pub line-fits : (input out left : List ℕ) → left ≡ lineOut input out → l
 unfolding lineLength lineOut
 line-fits input out left is kept = go (leb maxLine (length out)) (ap length is)
   where
-    go : (b : Bool) → length left ≡ length (cond b (lineOf input ++ drop (length (lineOf input)) out) out) → cond b (length (lineOf input)) 0 ≤ length out
+    go : (b : Bool) → length left ≡ length (demand b out (overwrite (lineOf input) out)) → demand b 0 (length (lineOf input)) ≤ length out
     go true e = omega (arith, e, kept, length-append (lineOf input) (drop (length (lineOf input)) out))
     go false e = omega arith

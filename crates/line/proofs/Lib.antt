@@ -1,8 +1,4 @@
-pub mod Reading
-pub mod Filling
 pub mod Finding
-pub mod Writing
-pub mod Digits
 pub mod Lines
 pub mod Shown
 pub mod Answering

@@ -10,15 +10,15 @@ use lib.Dec.{leb, eqb}
 use Rattle.instance.specs.declared.header.Header.{Header}
 use Rattle.instance.specs.Sound.{sound}
 use Rattle.query.specs.Words.{rightLength, nodeWords, maxNodes}
-use Rattle.query.specs.Check.{checkQuery}
-use Rattle.card.specs.Parse.{isRead}
 use Rattle.answer.specs.Ask.{askable, ask}
-use Rattle.line.specs.Number.{readNumbers, numbersOf}
-use Rattle.line.proofs.Reading.{numbers-length, numbers-fewer}
+use Rattle.parse.specs.Parse.{isRead}
+use Rattle.parse.specs.Number.{readNumber, readNumbers, numbersOf}
+use Rattle.parse.proofs.Each.{each-length, each-fewer}
+use Rattle.line.specs.Line.{lookedAt}
 
 module _ (h : Header) (ws candidate buffer : List ℕ) (budget : ℕ) where
   wrong-length : (qs qs′ : List ℕ) → rightLength qs ≡ false → rightLength qs′ ≡ false → ask h ws qs candidate buffer budget ≡ ask h ws qs′ candidate buffer budget
-  unfolding ask askable checkQuery
+  unfolding ask askable
   wrong-length qs qs′ e e′ = go (sound h ws) refl
     where
       go : (b : Bool) → sound h ws ≡ b → ask h ws qs candidate buffer budget ≡ ask h ws qs′ candidate buffer budget
@@ -26,26 +26,26 @@ module _ (h : Header) (ws candidate buffer : List ℕ) (budget : ℕ) where
       go false s = rw s
 
   -- more words than a question may have
-  too-many : (qs : List ℕ) → 800 < length qs → rightLength qs ≡ false
+  too-many : (qs : List ℕ) → maxNodes * nodeWords < length qs → rightLength qs ≡ false
   unfolding rightLength
   too-many qs l = go (leb nodeWords (length qs))
     where
       go : (b : Bool) → (b && leb (length qs) (maxNodes * nodeWords) && eqb (length qs % nodeWords) 0) ≡ false
-      go true = rw (lt-leb (length qs) 800 l)
+      go true = rw (lt-leb (length qs) (maxNodes * nodeWords) l)
       go false = refl
 
-  pub first-words : (count : ℕ) (bs : List ℕ) → isRead (readNumbers 4 count bs) ≡ true
-      → ask h ws (numbersOf 4 (min count 808) bs) candidate buffer budget ≡ ask h ws (numbersOf 4 count bs) candidate buffer budget
-  first-words count bs e = go (leb count 808) refl
+  pub first-words : (count shown : ℕ) (bs : List ℕ) → shown ≡ min count lookedAt → isRead (readNumbers 4 count bs) ≡ true
+      → ask h ws (numbersOf 4 shown bs) candidate buffer budget ≡ ask h ws (numbersOf 4 count bs) candidate buffer budget
+  first-words count shown bs is e = rw is (go (leb count lookedAt) refl)
     where
-      go : (b : Bool) → leb count 808 ≡ b → ask h ws (numbersOf 4 (min count 808) bs) candidate buffer budget ≡ ask h ws (numbersOf 4 count bs) candidate buffer budget
+      go : (b : Bool) → leb count lookedAt ≡ b → ask h ws (numbersOf 4 (min count lookedAt) bs) candidate buffer budget ≡ ask h ws (numbersOf 4 count bs) candidate buffer budget
       go true t =
-          let same : min count 808 ≡ count = omega (arith, leb-true count 808 t) in
+          let same : min count lookedAt ≡ count = omega (arith, leb-true count lookedAt t) in
           rw same
       go false t =
-          let more : 808 < count = leb-false count 808 t in
-          let same : min count 808 ≡ 808 = omega arith in
-          let few : length (numbersOf 4 808 bs) ≡ 808 = numbers-length 4 808 bs (numbers-fewer 4 808 count bs (omega arith) e) in
+          let more : lookedAt < count = leb-false count lookedAt t in
+          let same : min count lookedAt ≡ lookedAt = omega arith in
+          let few = each-length (readNumber 4) lookedAt bs (each-fewer (readNumber 4) lookedAt count bs (omega arith) e) in
           rw same
-          (wrong-length (numbersOf 4 808 bs) (numbersOf 4 count bs)
-          (too-many (numbersOf 4 808 bs) (omega arith)) (too-many (numbersOf 4 count bs) (omega (arith, numbers-length 4 count bs e))))
+          (wrong-length (numbersOf 4 lookedAt bs) (numbersOf 4 count bs)
+          (too-many (numbersOf 4 lookedAt bs) (omega arith)) (too-many (numbersOf 4 count bs) (omega (arith, each-length (readNumber 4) count bs e))))

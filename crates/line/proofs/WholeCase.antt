@@ -10,20 +10,20 @@ use Rattle.calculus.specs.Row.{cellsOf}
 use Rattle.calculus.specs.Cell.{isCell}
 use Rattle.instance.specs.Sound.{sound, rows}
 use Rattle.instance.specs.Header.{aritiesStand, headerStands}
-use Rattle.instance.specs.Rows.{areCells, wordsStand, rowsFrom, wordsOf}
+use Rattle.instance.specs.Rows.{wordsStand, rowsFrom, wordsOf}
 use Rattle.card.specs.Decode.{accepted, decodedFrom, decoded}
-use Rattle.card.specs.Blanks.{blanksIn, blanks, highestIn, highest, numbered, numberedRows}
-use Rattle.card.specs.Parse.{readByte}
-use Rattle.card.specs.Format.{readArities, readCount, readHead, readField, readFields as readCardFields, readRecord, readRecords, readCard}
+use Rattle.instance.specs.Blanks.{blanksIn, blanks, highestOf, writtenOf, highest, numbered, numberedRows}
+use Rattle.parse.specs.Parse.{readByte, readEach}
+use Rattle.parse.specs.Number.{readDigits}
+use Rattle.card.specs.Format.{readHead, readField, readFields as readCardFields, readRecord, readCard}
 use Rattle.query.specs.Tree.{termOf, termsAt, formulaAt}
 use Rattle.query.specs.Check.{zerosFrom, checkTerms, checkChild, checkNode, checkNodes, checkQuery}
 use Rattle.query.specs.Words.{rightLength, kindOf}
 use Rattle.evaluate.specs.Within.{within}
 use Rattle.answer.specs.Ask.{askable, ask}
 use Rattle.line.specs.Line.{blank, askedCard, answered, lineOf}
-use Rattle.line.specs.Decimal.{digitsIn}
+use Rattle.decimal.specs.Decimal.{digitsIn}
 use Rattle.line.specs.Text.{lineWith}
-use Rattle.line.specs.Number.{readDigits, readNumbers, readBytes}
 use Rattle.line.specs.Fields.{readFields, readInput}
 use Rattle.calculus.specs.All.{all}
 
@@ -31,5 +31,5 @@ abbrev pub input : List ℕ
 input = 0 ∷ 12 ∷ 2 ∷ 1 ∷ 1 ∷ 0 ∷ 2 ∷ 0 ∷ 1 ∷ 0 ∷ 0 ∷ 201 ∷ 1 ∷ 0 ∷ 0 ∷ 32 ∷ 0 ∷ 0 ∷ 0 ∷ 4 ∷ 0 ∷ 0 ∷ 0 ∷ 1 ∷ 0 ∷ 0 ∷ 0 ∷ 2 ∷ 0 ∷ 0 ∷ 0 ∷ 0 ∷ 0 ∷ 0 ∷ 0 ∷ 0 ∷ 0 ∷ 0 ∷ 0 ∷ 0 ∷ 0 ∷ 0 ∷ 0 ∷ 0 ∷ 0 ∷ 0 ∷ 0 ∷ 0 ∷ 0 ∷ 0 ∷ 0 ∷ 1 ∷ 0 ∷ 0 ∷ 0 ∷ 0 ∷ 0 ∷ 30 ∷ 132 ∷ 128 ∷ 0 ∷ 0 ∷ 0 ∷ 0 ∷ 0 ∷ 0 ∷ 0 ∷ 0 ∷ 0 ∷ 0 ∷ 0 ∷ 0 ∷ 0 ∷ 0 ∷ 0 ∷ 0 ∷ 0 ∷ 0 ∷ 0 ∷ 0 ∷ 0 ∷ 0 ∷ 0 ∷ 3 ∷ 0 ∷ 0 ∷ 0 ∷ 3 ∷ 0 ∷ 0 ∷ 0 ∷ 0 ∷ 0 ∷ 0 ∷ 0 ∷ 0 ∷ 0 ∷ 0 ∷ 0 ∷ 0 ∷ 0 ∷ 0 ∷ 0 ∷ 0 ∷ 0 ∷ 0 ∷ 0 ∷ 0 ∷ 0 ∷ 0 ∷ 0 ∷ 0 ∷ 0 ∷ 0 ∷ 0 ∷ 1 ∷ 0 ∷ 0 ∷ 0 ∷ 1 ∷ 0 ∷ 30 ∷ 132 ∷ 128 ∷ 0 ∷ 0 ∷ 0 ∷ 0 ∷ 0 ∷ 0 ∷ 0 ∷ 0 ∷ 0 ∷ 0 ∷ 0 ∷ 0 ∷ 0 ∷ 0 ∷ 0 ∷ 0 ∷ 0 ∷ 0 ∷ 0 ∷ 0 ∷ 1 ∷ 0 ∷ 0 ∷ 201 ∷ 0 ∷ 0 ∷ 0 ∷ 100 ∷ []
 
 pub whole-case : lineOf input ≡ 117 ∷ 110 ∷ 107 ∷ 110 ∷ 111 ∷ 119 ∷ 110 ∷ 32 ∷ 52 ∷ 10 ∷ []
-unfolding eval without distinct tuples some identical stands equality unifiesWith cellsOf isCell sound rows aritiesStand headerStands all wordsStand rowsFrom wordsOf accepted decodedFrom decoded blanksIn blanks highestIn highest numbered numberedRows readByte readArities readCount readHead readField readCardFields readRecord readRecords readCard termOf termsAt formulaAt zerosFrom checkTerms checkChild checkNode checkNodes checkQuery rightLength kindOf within askable ask blank askedCard answered lineOf digitsIn lineWith readDigits readNumbers readBytes readFields readInput
+unfolding eval without distinct tuples some identical stands equality unifiesWith cellsOf isCell sound rows aritiesStand headerStands all wordsStand rowsFrom wordsOf accepted decodedFrom decoded blanksIn blanks highestOf writtenOf highest numbered numberedRows readByte readEach readDigits readHead readField readCardFields readRecord readCard termOf termsAt formulaAt zerosFrom checkTerms checkChild checkNode checkNodes checkQuery rightLength kindOf within askable ask blank askedCard answered lineOf digitsIn lineWith readFields readInput
 whole-case = refl

@@ -2,16 +2,18 @@
 -- (1), k cells (3 each), allowance (4)"; "Its own fields are checked first (10, 11, 18)".
 use Prim.Native.Nat.{ℕ, _+_, _≤_, _<_}
 use mathlib.Core.Path.{_≡_}
-use mathlib.Core.Bool.{true, cond}
+use mathlib.Core.Bool.{true}
 use mathlib.Core.List.{List, []}
 use lib.ListN.{length, take, drop}
 use lib.Dec.{leb, eqb}
+use Rattle.calculus.specs.Demand.{demand}
+use Rattle.calculus.specs.Reading.{read, refused, andThen}
 use Rattle.calculus.specs.Refusal.{input-too-long, bytes-left-over}
-use Rattle.card.specs.Parse.{Parsed, read, refused, andThen, isRead}
+use Rattle.parse.specs.Parse.{Parsed, isRead}
+use Rattle.parse.specs.Number.{readNumber, readNumbers, numbersOf, readBytes}
 use Rattle.line.specs.declared.fields.Places.{Places}
 use Rattle.line.specs.declared.fields.Found.{Found}
 use Rattle.line.specs.declared.fields.Found.the-variants as found
-use Rattle.line.specs.Number.{readNumber, readNumbers, numbersOf, readBytes}
 
 pub record Fields : Type 0 where
   pub card : List ℕ
@@ -32,7 +34,7 @@ readFields bs =
 
 -- "bytes follow .. the program's last field"
 abbrev pub wholly : {A : Type 0} → Parsed A → Parsed A
-wholly (read a bs) = cond (eqb (length bs) 0) (read a bs) (refused bytes-left-over)
+wholly (read a bs) = demand (eqb (length bs) 0) (refused bytes-left-over) (read a bs)
 wholly (refused r) = refused r
 
 -- "the program's input is over 16,384 bytes"
@@ -40,7 +42,7 @@ abbrev pub maxInput : ℕ
 maxInput = 16384
 
 unfoldable pub readInput : List ℕ → Parsed Fields
-readInput bs = cond (leb (length bs) maxInput) (wholly (readFields bs)) (refused input-too-long)
+readInput bs = demand (leb (length bs) maxInput) (refused input-too-long) (wholly (readFields bs))
 
 -- the fields that stand at places of the input
 abbrev pub fieldsAt : List ℕ → Places → Fields

@@ -1,19 +1,22 @@
 -- The whole job: from the input's bytes to the line's. Document 01, "The program": "Its plot slice and working list have 4,096 words each. Its own
 -- fields are checked first (10, 11, 18), then the card, then the question."
-use Prim.Native.Nat.{ℕ}
-use mathlib.Core.Bool.{cond}
-use mathlib.Core.List.{List, _++_}
-use lib.ListN.{length, drop, replicate}
+use Prim.Native.Nat.{ℕ, _+_, _*_}
+use mathlib.Core.List.{List}
+use lib.ListN.{length, replicate}
 use lib.Dec.{leb}
 use Rattle.calculus.specs.declared.answer.Answer.{Answer}
 use Rattle.calculus.specs.declared.answer.Answer.the-variants as answer
+use Rattle.calculus.specs.Demand.{demand}
+use Rattle.calculus.specs.Overwrite.{overwrite}
+use Rattle.calculus.specs.Reading.{read, refused}
 use Rattle.instance.specs.declared.header.Header.{Header}
 use Rattle.instance.specs.Header.{maxWords}
-use Rattle.card.specs.Parse.{Parsed, read, refused}
+use Rattle.parse.specs.Parse.{Parsed}
 use Rattle.card.specs.Decode.{Decoded, decoded}
 use Rattle.answer.specs.declared.asked.Asked.{Asked}
 use Rattle.answer.specs.declared.asked.Asked.the-variants.{Verdict, Refused}
 use Rattle.answer.specs.Ask.{ask}
+use Rattle.query.specs.Words.{nodeWords, maxNodes}
 use Rattle.line.specs.Fields.{Fields, readInput}
 use Rattle.line.specs.Text.{verdictLine, refusedLine, maxLine}
 
@@ -21,11 +24,15 @@ use Rattle.line.specs.Text.{verdictLine, refusedLine, maxLine}
 unfoldable pub blank : List ℕ
 blank = replicate maxWords 0
 
+-- One node more than a question may have: no words after these are looked at, since the question is refused for its length.
+abbrev pub lookedAt : ℕ
+lookedAt = (maxNodes + 1) * nodeWords
+
 -- the question, asked of a plot
 abbrev pub askedPlot : Fields → Header → List ℕ → Asked
 askedPlot f h ws = ask h ws (f .words) (f .candidate) blank (f .budget)
 
--- goes on where the card is read
+-- goes on if the card is read
 abbrev pub ifRead : Answer → Asked → Asked
 ifRead (answer.Done used) a = a
 ifRead (answer.Refused r) a = Refused r
@@ -53,7 +60,7 @@ lineOf input = lineFor (answered input)
 
 -- an output that is too short for a line gets none
 unfoldable pub lineLength : List ℕ → List ℕ → ℕ
-lineLength input out = cond (leb maxLine (length out)) (length (lineOf input)) 0
+lineLength input out = demand (leb maxLine (length out)) 0 (length (lineOf input))
 
 unfoldable pub lineOut : List ℕ → List ℕ → List ℕ
-lineOut input out = cond (leb maxLine (length out)) (lineOf input ++ drop (length (lineOf input)) out) out
+lineOut input out = demand (leb maxLine (length out)) out (overwrite (lineOf input) out)

@@ -4,7 +4,7 @@ use Prim.Native.Nat.{ℕ}
 use mathlib.Core.List.{List, [], _∷_, _++_}
 use Rattle.calculus.specs.declared.truth.Truth.{Truth}
 use Rattle.calculus.specs.declared.truth.Truth.the-variants.{True, False, Unknown}
-use Rattle.line.specs.Decimal.{digits}
+use Rattle.decimal.specs.Decimal.{digits}
 
 -- "true", "false" and "unknown", each with its space
 abbrev pub wordOf : Truth → List ℕ

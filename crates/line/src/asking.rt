@@ -2,36 +2,39 @@
 ghost use mathlib.Core.Path.{_≡_};
 ghost use Prim.Native.Nat.{min};
 ghost use Rattle.line.specs.Fields.{Standing, fieldsAt};
-ghost use Rattle.line.specs.Line.{askedPlot, askedCard, answered};
+ghost use Rattle.line.specs.Line.{lookedAt, askedPlot, askedCard, answered};
 use super::fields::Found;
 use super::fields::Places;
 use super::fields::find;
-use super::number::numbers;
 use answer::ask::ask;
 use answer::asked::Asked;
 use calculus::answer::Answer;
 use decode::decode;
 use instance::header::Header;
+use instance::header::WORDS;
+use parse::number::numbers;
 
-// No question may have so many words, so that the first of them stand for a longer one.
+// No question may have as many words, so that these stand for a longer one.
+const LOOKED_AT: usize = 808;
+
 fn looked_at(count: usize) -> usize
-    ensures { λ r. ⌜ r ≡ min count 808 ⌝ }
+    ensures { λ r. ⌜ r ≡ min count lookedAt ⌝ }
 {
-    if count < 808 { count } else { 808 }
+    if count < LOOKED_AT { count } else { LOOKED_AT }
 }
 
-// Asks the question that stands at the places, of a plot.
+// Asks the question that stands at the places of the input, of a plot.
 fn ask_plot(input: &[u8], places: Places, header: Header, plot: &[u32]) -> Asked
     requires { ⌜ Standing (now input) places ⌝ }
     ensures { λ r. ⌜ r ≡ askedPlot (fieldsAt (now (input .entry)) places) header (now (plot .entry)) ⌝ }
 {
-    let mut words = [0u32; 808];
+    let mut words = [0u32; LOOKED_AT];
     let count = looked_at(places.count);
     numbers(&mut words, input, places.words, 4, count);
     let mut cells = [0u32; 255];
     let arity = places.arity;
     numbers(&mut cells, input, places.cells, 3, arity);
-    let mut list = [0u32; 4096];
+    let mut list = [0u32; WORDS];
     ask(
         header,
         plot,
@@ -48,7 +51,7 @@ fn ask_card(input: &[u8], places: Places) -> Asked
     ensures { λ r. ⌜ r ≡ askedCard (fieldsAt (now (input .entry)) places) ⌝ }
 {
     let end = 2 + places.size;
-    let mut plot = [0u32; 4096];
+    let mut plot = [0u32; WORDS];
     let stored = decode(&input[2..end], &mut plot);
     let answer = stored.answer;
     let header = stored.header;

@@ -1,13 +1,11 @@
 // The fields of the input.
 ghost use mathlib.Core.Path.{_≡_};
 ghost use Rattle.line.specs.Fields.{readInput, foundAs, FoundIn};
-use super::number::number;
+use super::INPUT;
 use calculus::refusal::BYTES_LEFT_OVER;
 use calculus::refusal::CUT_SHORT;
 use calculus::refusal::INPUT_TOO_LONG;
-
-// the bytes that an input may have
-const INPUT: usize = 16384;
+use parse::number::number;
 
 // The card starts at byte 2 and has size bytes; the question has count words and the candidate as many cells as its arity.
 pub struct Places {

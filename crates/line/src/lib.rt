@@ -3,17 +3,20 @@ ghost use mathlib.Core.Path.{_≡_};
 ghost use Rattle.line.specs.Line.{lineLength, lineOut};
 use answer::asked::Asked;
 use asking::answer;
-use text::LINE;
 use text::write_refused;
 use text::write_verdict;
 
+// the bytes that an input may have
+pub const INPUT: usize = 16384;
+
+// no line is longer
+pub const LINE: usize = 20;
+
 mod asking;
-mod decimal;
 mod fields;
-mod number;
 mod text;
 
-// Writes the line of an input, and answers its length; nothing is written to fewer bytes than a line may have.
+// Writes the line of an input, and returns its length; nothing is written to fewer bytes than a line may have.
 pub fn line(input: &[u8], out: &mut [u8]) -> usize
     ensures length { λ r. ⌜ r ≡ lineLength (now (input .entry)) (now (out .entry)) ⌝ }
     ensures bytes { λ r. ⌜ now (out .exit) ≡ lineOut (now (input .entry)) (now (out .entry)) ⌝ }

@@ -1,18 +1,16 @@
 // The line's words and its number.
 ghost use mathlib.Core.Path.{_≡_};
-ghost use mathlib.Core.List.{_++_};
 ghost use Prim.Native.Nat.{_+_, _≤_};
-ghost use lib.ListN.{length, drop};
+ghost use lib.ListN.{length};
+ghost use Rattle.calculus.specs.Overwrite.{overwrite};
+ghost use Rattle.decimal.specs.Decimal.{maxDigits};
 ghost use Rattle.line.specs.Text.{lineWith, verdictLine, refusedLine, maxLine};
-use super::decimal::decimal;
 use calculus::truth::Truth;
-
-// no line is longer
-pub const LINE: usize = 20;
+use decimal::decimal;
 
 fn copy(out: &mut [u8], text: &[u8])
     requires { ⌜ length (now text) ≤ length (now out) ⌝ }
-    ensures { λ _. ⌜ now (out .exit) ≡ now (text .entry) ++ drop (length (now (text .entry))) (now (out .entry)) ⌝ }
+    ensures { λ _. ⌜ now (out .exit) ≡ overwrite (now (text .entry)) (now (out .entry)) ⌝ }
 {
     let mut i = 0;
     while i < text.len() {
@@ -21,11 +19,11 @@ fn copy(out: &mut [u8], text: &[u8])
     }
 }
 
-// Writes a word, a number behind it and the line feed, and answers the line's length.
+// Writes a word, a number after it and the line feed, and returns the line's length.
 fn write_line(out: &mut [u8], word: &[u8], n: u32) -> usize
-    requires { ⌜ length (now word) + 11 ≤ length (now out) ⌝ }
+    requires { ⌜ length (now word) + (maxDigits + 1) ≤ length (now out) ⌝ }
     ensures length { λ r. ⌜ r ≡ length (lineWith (now (word .entry)) n) ⌝ }
-    ensures bytes { λ r. ⌜ now (out .exit) ≡ lineWith (now (word .entry)) n ++ drop (length (lineWith (now (word .entry)) n)) (now (out .entry)) ⌝ }
+    ensures bytes { λ r. ⌜ now (out .exit) ≡ overwrite (lineWith (now (word .entry)) n) (now (out .entry)) ⌝ }
 {
     copy(out, word);
     let at = word.len();
@@ -37,7 +35,7 @@ fn write_line(out: &mut [u8], word: &[u8], n: u32) -> usize
 pub fn write_verdict(out: &mut [u8], truth: Truth, looks: u32) -> usize
     requires { ⌜ maxLine ≤ length (now out) ⌝ }
     ensures length { λ r. ⌜ r ≡ length (verdictLine truth looks) ⌝ }
-    ensures bytes { λ r. ⌜ now (out .exit) ≡ verdictLine truth looks ++ drop (length (verdictLine truth looks)) (now (out .entry)) ⌝ }
+    ensures bytes { λ r. ⌜ now (out .exit) ≡ overwrite (verdictLine truth looks) (now (out .entry)) ⌝ }
 {
     match truth {
         Truth::True => write_line(out, b"true ", looks),
@@ -49,7 +47,7 @@ pub fn write_verdict(out: &mut [u8], truth: Truth, looks: u32) -> usize
 pub fn write_refused(out: &mut [u8], why: u32) -> usize
     requires { ⌜ maxLine ≤ length (now out) ⌝ }
     ensures length { λ r. ⌜ r ≡ length (refusedLine why) ⌝ }
-    ensures bytes { λ r. ⌜ now (out .exit) ≡ refusedLine why ++ drop (length (refusedLine why)) (now (out .entry)) ⌝ }
+    ensures bytes { λ r. ⌜ now (out .exit) ≡ overwrite (refusedLine why) (now (out .entry)) ⌝ }
 {
     write_line(out, b"refused ", why)
 }

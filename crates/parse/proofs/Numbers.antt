@@ -96,6 +96,9 @@ pub numbers-whole : (width count : ℕ) (bs : List ℕ) → width * count ≤ le
     → readNumbers width count bs ≡ read (numbersOf width count bs) (drop (width * count) bs)
 numbers-whole width count bs l = got-read [] (takes-numbers width count .whole bs l .1)
 
+pub takes-bytes : (count : ℕ) → Takes count (readBytes count)
+takes-bytes count = let same : 1 * count ≡ count = omega arith in rw same at (takes-numbers 1 count)
+
 pub bytes-whole : (count : ℕ) (bs : List ℕ) → count ≤ length bs → readBytes count bs ≡ read (take count bs) (drop count bs)
 unfolding readEach readDigits
 bytes-whole zero bs l = refl

@@ -1,10 +1,12 @@
 // The program: the input's bytes in, the line's bytes out. One byte more than an input may have is read, so that a longer one is told.
+use line::INPUT;
+use line::LINE;
 use line::line;
 
 fn main() {
-    let mut input = [0u8; 16385];
+    let mut input = [0u8; INPUT + 1];
     let n = io::read_full(0, &mut input);
-    let mut out = [0u8; 20];
+    let mut out = [0u8; LINE];
     let end = line(&input[..n], &mut out);
     io::write_all(1, &out[..end]);
 }

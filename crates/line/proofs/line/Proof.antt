@@ -1,9 +1,22 @@
 -- `line::line` meets its contract: the line is that of the answer. Assumes nothing.
-use mathlib.Core.Path.{sym, _∙_}
+use mathlib.Core.Path.{_≡_, sym, _∙_}
+use lib.ListN.{length}
+use Rattle.calculus.specs.Overwrite.{overwrite}
+use Rattle.answer.specs.declared.asked.Asked.{Asked}
+use Rattle.line.specs.Line.{lineFor, lineLength, lineOut}
 use Rattle.line.proofs.Answering.{no-line, one-line}
 use borrow.Author.Needs.{needs}
 use Rattle.line.proofs.line.Statement.{statement}
 use Rattle.line.proofs.line.Tie as tie
+
+-- the line of the answer
+module _ (c : tie.After-answer) where
+  abbrev start : tie.Start
+  start = c .before .before .before .before
+
+  printed : {a : Asked} → c .answer .result ≡ a
+      → (lineLength (start .args .input .now) (start .args .out .now) ≡ length (lineFor a)) × (lineOut (start .args .input .now) (start .args .out .now) ≡ overwrite (lineFor a) (start .args .out .now))
+  printed is = one-line (start .args .input .now) (start .args .out .now) (sym is ∙ c .answer .ensures) (c .before .if1 .left)
 
 returns : tie.Need-returns
 returns c =
@@ -30,16 +43,20 @@ same-length c = search needs
 
 returns-2 : tie.Need-returns-2
 returns-2 c =
-    let p = one-line (c .before .before .before .before .before .before .before .before .before .before .before .args .input .now) (c .before .before .before .before .before .before .before .before .before .before .before .args .out .now) (sym (c .before .before .before .before .before .truth .given .1) ∙ c .before .before .before .before .before .before .before .answer .ensures) (c .before .before .before .before .before .before .before .before .if1 .left) in
-    (c .before .before .write-verdict .ensures .0 ∙ sym (p .0), c .before .before .write-verdict .ensures .1 ∙ sym (p .1))
+    let w = c .before .before in
+    let told = w .before .before .before in
+    let p = printed (told .before .before) (told .truth .given .1) in
+    (w .write-verdict .ensures .0 ∙ sym (p .0), w .write-verdict .ensures .1 ∙ sym (p .1))
 
 same-length-2 : tie.Need-same-length-2
 same-length-2 c = search needs
 
 returns-3 : tie.Need-returns-3
 returns-3 c =
-    let p = one-line (c .before .before .before .before .before .before .before .before .before .before .before .args .input .now) (c .before .before .before .before .before .before .before .before .before .before .before .args .out .now) (sym (c .before .before .before .before .before .why .given .1) ∙ c .before .before .before .before .before .before .before .answer .ensures) (c .before .before .before .before .before .before .before .before .if1 .left) in
-    (c .before .before .write-refused .ensures .0 ∙ sym (p .0), c .before .before .write-refused .ensures .1 ∙ sym (p .1))
+    let w = c .before .before in
+    let told = w .before .before .before in
+    let p = printed (told .before .before) (told .why .given .1) in
+    (w .write-refused .ensures .0 ∙ sym (p .0), w .write-refused .ensures .1 ∙ sym (p .1))
 
 pub line-spec : {M : Type 1} → statement M
 line-spec =

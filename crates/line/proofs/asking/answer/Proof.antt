@@ -1,6 +1,6 @@
 -- `line::asking::answer` meets its contract: the fields are found, or the input is refused. Assumes nothing.
 use mathlib.Core.Path.{_≡_, _∙_}
-use Rattle.card.specs.Parse.{refused}
+use Rattle.calculus.specs.Reading.{refused}
 use Rattle.line.specs.declared.fields.Found.the-variants as found
 use Rattle.line.specs.Fields.{Standing, readInput, foundAs}
 use Rattle.line.specs.Line.{answered}

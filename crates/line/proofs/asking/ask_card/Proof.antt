@@ -1,6 +1,7 @@
 -- `line::asking::ask_card` meets its contract: a card that is refused says so, and any other is asked. Assumes nothing.
-use Prim.Native.Nat.{_+_, _-_}
+use Prim.Native.Nat.{ℕ, _+_, _-_}
 use mathlib.Core.Path.{_≡_, _∙_}
+use mathlib.Core.List.{List}
 use native.Mathlib.Omega.{arith}
 use lib.ListN.{take, drop}
 use Rattle.card.specs.Decode.{decoded}
@@ -10,6 +11,21 @@ use Rattle.line.proofs.Answering.{card-refused, card-read}
 use borrow.Author.Needs.{needs}
 use Rattle.line.proofs.asking.ask_card.Statement.{statement}
 use Rattle.line.proofs.asking.ask_card.Tie as tie
+
+-- once the card is read
+module _ (c : tie.After-decode) where
+  abbrev start : tie.Start
+  start = c .before .before .before .before .before
+
+  abbrev input : List ℕ
+  input = start .args .input .now
+
+  abbrev size : ℕ
+  size = start .args .places .size
+
+  -- the bytes that were lent
+  lent : 2 + size - 2 ≡ size
+  lent = omega arith
 
 add-end : tie.Need-add-end
 add-end c = search needs
@@ -44,23 +60,15 @@ enum-known-answer c = search needs
 returns : tie.Need-returns
 unfolding blank askedCard
 returns c =
-    let start = c .before .before .before .before .before .before .before .before .before .before .before in
-    let size = start .args .places .size in
-    let input = start .args .input .now in
-    let card = c .before .before .before .before .before .before .decode in
-    let same : 2 + size - 2 ≡ size = omega arith in
+    let b = c .before .before .before .before .before .before in
     c .ask-plot .ensures
-    ∙ rw same at (card-read (fieldsAt input (start .args .places)) (decoded (take (2 + size - 2) (drop 2 input)) blank) (card .ensures .0) (c .before .before .enum-told .given .1) (card .ensures .1 .0) (card .ensures .1 .1 .0))
+    ∙ rw (lent b) at (card-read (fieldsAt (input b) (start b .args .places)) (decoded (take (2 + size b - 2) (drop 2 (input b))) blank) (b .decode .ensures .0) (c .before .before .enum-told .given .1) (b .decode .ensures .1 .0) (b .decode .ensures .1 .1 .0))
 
 returns-2 : tie.Need-returns-2
 unfolding blank askedCard
 returns-2 c =
-    let start = c .before .before .before .before .before .before .before .before .before .before in
-    let size = start .args .places .size in
-    let input = start .args .input .now in
-    let card = c .before .before .before .before .before .decode in
-    let same : 2 + size - 2 ≡ size = omega arith in
-    rw same at (card-refused (fieldsAt input (start .args .places)) (decoded (take (2 + size - 2) (drop 2 input)) blank) (card .ensures .0) (c .before .answer .given .1))
+    let b = c .before .before .before .before .before in
+    rw (lent b) at (card-refused (fieldsAt (input b) (start b .args .places)) (decoded (take (2 + size b - 2) (drop 2 (input b))) blank) (b .decode .ensures .0) (c .before .answer .given .1))
 
 pub ask-card-spec : {M : Type 1} → statement M
 ask-card-spec =

@@ -1,26 +1,53 @@
 -- `line::asking::ask_plot` meets its contract: the words and the cells are read, and a question of more words than are read is refused for its
 -- length. Assumes nothing.
+use Prim.Native.Nat.{ℕ}
 use mathlib.Core.Path.{_≡_, sym, _∙_}
 use mathlib.Core.Bool.{true}
+use mathlib.Core.List.{List}
 use native.Mathlib.Omega.{arith}
-use lib.ListN.{drop}
+use lib.ListN.{take, drop}
 use lib.Seq.{length-take-le}
-use Rattle.card.specs.Parse.{isRead}
-use Rattle.line.specs.Number.{readNumbers, numbersOf}
+use Rattle.parse.specs.Parse.{isRead}
+use Rattle.parse.specs.Number.{readNumber, readNumbers, numbersOf}
+use Rattle.parse.proofs.Each.{each-fewer}
+use Rattle.parse.proofs.Numbers.{numbers-front}
+use Rattle.line.specs.declared.fields.Places.{Places}
 use Rattle.line.specs.Line.{blank}
-use Rattle.line.proofs.Reading.{numbers-fewer, numbers-front}
 use Rattle.line.proofs.Shown.{first-words}
 use borrow.Author.Needs.{needs}
 use Rattle.line.proofs.asking.ask_plot.Statement.{statement}
 use Rattle.line.proofs.asking.ask_plot.Tie as tie
 
 -- the first words are read
-first-read : (c : tie.After-words) →
-    let start = c .before .before .before .before in
-    isRead (readNumbers 4 (c .before .looked-at .result) (drop (start .args .places .words) (start .args .input .now))) ≡ true
-first-read c =
-    let start = c .before .before .before .before in
-    numbers-fewer 4 (c .before .looked-at .result) (start .args .places .count) (drop (start .args .places .words) (start .args .input .now)) (omega arith) (start .pre .words-read)
+module _ (c : tie.After-words) where
+  abbrev start : tie.Start
+  start = c .before .before .before .before
+
+  abbrev input : List ℕ
+  input = start .args .input .now
+
+  abbrev places : Places
+  places = start .args .places
+
+  abbrev count : ℕ
+  count = c .before .looked-at .result
+
+  first-read : isRead (readNumbers 4 count (drop (places .words) input)) ≡ true
+  first-read = each-fewer (readNumber 4) count (places .count) (drop (places .words) input) (omega arith) (start .pre .words-read)
+
+-- once the words and the cells stand in their lists
+module _ (c : tie.After-numbers2) where
+  abbrev worded : tie.After-numbers
+  worded = c .before .before .before
+
+  abbrev first : tie.After-words
+  first = worded .before
+
+  words : take (count first) (worded .numbers .last .0) ≡ numbersOf 4 (count first) (drop (places first .words) (input first))
+  words = numbers-front 4 (count first) (drop (places first .words) (input first)) _ _ (first-read first) (worded .numbers .ensures)
+
+  cells : take (places first .arity) (c .numbers2 .last .0) ≡ numbersOf 3 (places first .arity) (drop (places first .cells) (input first))
+  cells = numbers-front 3 (places first .arity) (drop (places first .cells) (input first)) _ _ (start first .pre .cells-read) (c .numbers2 .ensures)
 
 looked-at-requires : tie.Need-looked-at-requires
 looked-at-requires c κs = search needs
@@ -29,29 +56,31 @@ slice-aggregate-numbers : tie.Need-slice-aggregate-numbers
 slice-aggregate-numbers c = search needs
 
 numbers-requires : tie.Need-numbers-requires
-numbers-requires c κs =
-    let start = c .before .before .before .before in
-    (omega arith, (start .pre .words, (first-read c, omega arith)))
+numbers-requires c κs = (omega arith, (start c .pre .words, (first-read c, omega arith)))
 
 slice-aggregate-numbers-2 : tie.Need-slice-aggregate-numbers-2
 slice-aggregate-numbers-2 c = search needs
 
 numbers-requires-2 : tie.Need-numbers-requires-2
 numbers-requires-2 c κs =
-    let start = c .before .before .before .before .before .before .before in
+    let start = start (c .before .before .before) in
     (omega arith, (start .pre .cells, (start .pre .cells-read, omega arith)))
 
 array-share-prefix-words : tie.Need-array-share-prefix-words
 array-share-prefix-words c = search needs
 
 slice-aggregate-ask : tie.Need-slice-aggregate-ask
-slice-aggregate-ask c = sym (length-take-le (c .before .before .before .before .before .before .before .looked-at .result) (c .before .before .before .before .before .numbers .last .0) (omega (arith, c .before .before .before .before .before .numbers .kept .0)))
+slice-aggregate-ask c =
+    let worded = worded (c .before .before) in
+    sym (length-take-le (count (worded .before)) (worded .numbers .last .0) (omega (arith, worded .numbers .kept .0)))
 
 array-share-prefix-cells : tie.Need-array-share-prefix-cells
 array-share-prefix-cells c = search needs
 
 slice-aggregate-ask-2 : tie.Need-slice-aggregate-ask-2
-slice-aggregate-ask-2 c = sym (length-take-le (c .before .before .before .before .before .before .before .before .before .before .before .args .places .arity) (c .before .before .before .numbers2 .last .0) (omega (arith, c .before .before .before .numbers2 .kept .0)))
+slice-aggregate-ask-2 c =
+    let listed = c .before .before .before in
+    sym (length-take-le (places (first listed) .arity) (listed .numbers2 .last .0) (omega (arith, listed .numbers2 .kept .0)))
 
 slice-aggregate-ask-3 : tie.Need-slice-aggregate-ask-3
 slice-aggregate-ask-3 c = search needs
@@ -62,13 +91,10 @@ ask-requires c κs = search needs
 returns : tie.Need-returns
 unfolding blank
 returns c =
-    let start = c .before .before .before .before .before .before .before .before .before .before .before .before .before .before in
-    let input = start .args .input .now in
-    let places = start .args .places in
-    let words = numbers-front 4 _ (drop (places .words) input) _ _ (first-read (c .before .before .before .before .before .before .before .before .before .before)) (c .before .before .before .before .before .before .before .before .before .numbers .ensures) in
-    let cells = numbers-front 3 _ (drop (places .cells) input) _ _ (start .pre .cells-read) (c .before .before .before .before .before .before .numbers2 .ensures) in
-    c .before .ask .ensures .0 ∙ rw (words, cells, c .before .before .before .before .before .before .before .before .before .before .before .looked-at .ensures)
-    (first-words (start .args .header) (start .args .plot .now) (numbersOf 3 (places .arity) (drop (places .cells) input)) blank (places .budget) (places .count) (drop (places .words) input) (start .pre .words-read))
+    let listed = c .before .before .before .before .before .before in
+    let b = first listed in
+    c .before .ask .ensures .0 ∙ rw (words listed, cells listed)
+    (first-words (start b .args .header) (start b .args .plot .now) (numbersOf 3 (places b .arity) (drop (places b .cells) (input b))) blank (places b .budget) (places b .count) (count b) (drop (places b .words) (input b)) (b .before .looked-at .ensures) (start b .pre .words-read))
 
 pub ask-plot-spec : {M : Type 1} → statement M
 ask-plot-spec =
