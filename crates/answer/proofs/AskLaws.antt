@@ -1,11 +1,11 @@
 -- What a question answers at each of its refusals, and where there is none. Assumes nothing.
-use Prim.Native.Nat.{ℕ, _+_, _-_, _≤_, _<_}
+use Prim.Native.Nat.{ℕ, _+_, _≤_, _<_}
 use mathlib.Core.Path.{_≡_, refl, sym, ap, _∙_}
 use mathlib.Core.Bool.{true, false}
-use mathlib.Core.List.{List, [], _∷_, _++_}
+use mathlib.Core.List.{List, [], _∷_}
 use native.Mathlib.Omega.{arith}
 use lib.ListN.{length, drop, take, length-append}
-use lib.Seq.{length-take-le, take-at}
+use lib.Seq.{take-at}
 use borrow.Author.Tests.{lt-leb}
 use Rattle.calculus.specs.declared.answer.Answer.{Answer}
 use Rattle.calculus.specs.declared.answer.Answer.the-variants as answer
@@ -15,7 +15,6 @@ use Rattle.calculus.specs.Row.{Row, cellsOf}
 use Rattle.calculus.specs.Domain.{domain}
 use Rattle.calculus.specs.Model.{asked}
 use Rattle.calculus.specs.Eval.{eval}
-use Rattle.calculus.specs.Closed.{closed}
 use Rattle.calculus.specs.Formula.{assignment, variables}
 use Rattle.instance.specs.declared.header.Header.{Header}
 use Rattle.instance.specs.Header.{maxRelations}

@@ -1,8 +1,8 @@
 -- Asking. Document 01: "Question: 41, 21, 26, then nodes by number .., then 45, 46"; "Each call answers either a verdict with its looks or a
 -- refusal."
 use Prim.Native.Nat.{ℕ}
-use mathlib.Core.List.{List, _++_}
-use lib.ListN.{length, drop}
+use mathlib.Core.List.{List}
+use lib.ListN.{length}
 use lib.Dec.{leb}
 use Rattle.calculus.specs.declared.answer.Answer.{Answer}
 use Rattle.calculus.specs.declared.answer.Answer.the-variants as answer
@@ -15,7 +15,7 @@ use Rattle.instance.specs.declared.header.Header.{Header}
 use Rattle.instance.specs.Sound.{sound, rows}
 use Rattle.instance.specs.Run.{modelOf}
 use Rattle.query.specs.Tree.{formulaOf}
-use Rattle.query.specs.Check.{Checked, passed, checkQuery}
+use Rattle.query.specs.Check.{Checked, checkQuery}
 use Rattle.calculus.specs.Reading.{refused, read}
 use Rattle.answer.specs.declared.asked.Asked.{Asked}
 use Rattle.answer.specs.declared.asked.Asked.the-variants as ask-answer

@@ -1,7 +1,7 @@
 -- Lists: the rest from a place on, and maps. Assumes nothing.
 use Prim.Native.Nat.{ℕ, zero, suc, _+_, _<_}
 use mathlib.Core.Path.{_≡_, refl, ap}
-use mathlib.Core.List.{List, [], _∷_, _++_, map}
+use mathlib.Core.List.{List, [], _∷_, map}
 use native.Mathlib.Numerals.{add-one}
 use lib.ListN.{length, getD, drop, set}
 use lib.Seq.{drop-cons}

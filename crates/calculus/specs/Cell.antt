@@ -1,7 +1,7 @@
 -- Cells: constants and marked nulls. Document 01, "Plot, cells, marks".
 use Prim.Native.Nat.{ℕ, _+_, _-_}
-use mathlib.Core.Bool.{Bool, true, _&&_, _||_, cond}
-use mathlib.Core.List.{List, [], _∷_}
+use mathlib.Core.Bool.{Bool, _&&_, _||_, cond}
+use mathlib.Core.List.{List}
 use lib.Dec.{leb, ltb, eqb}
 use Rattle.calculus.specs.All.{all}
 

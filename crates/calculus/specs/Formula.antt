@@ -1,7 +1,7 @@
 -- The relational calculus (document 01: questions, as trees). A variable is bound by a quantifier or by the candidate row.
 use Prim.Native.Nat.{ℕ}
 use mathlib.Core.Bool.{Bool, true, _&&_}
-use mathlib.Core.List.{List, [], _∷_, map}
+use mathlib.Core.List.{List, map}
 use lib.ListN.{getD}
 use Rattle.calculus.specs.Cell.{isConstant}
 use Rattle.calculus.specs.Padded.{padded}

@@ -23,7 +23,7 @@ use Rattle.parse.specs.Number.{readNumber}
 use Rattle.parse.proofs.Each.{each-read}
 use Rattle.parse.proofs.Numbers.{takes-number}
 use Rattle.card.specs.Format.{readField, readColumn, readFields}
-use Rattle.card.proofs.Parts.{FieldRead, field-read}
+use Rattle.card.proofs.Parts.{field-read}
 use Rattle.decode.specs.Measure.{readWritten, measuredFields}
 
 -- Fewer leading zeros of 32 bits than the a lowest bits leave: a bit stands above those.

@@ -12,7 +12,7 @@ use lib.Seq.{drop-drop, drop-set-lt}
 use borrow.Author.Tests.{eq-eqb, ne-eqb}
 use Rattle.calculus.specs.Cell.{null}
 use Rattle.calculus.specs.Overwrite.{overwrite}
-use Rattle.calculus.specs.Reading.{read, refused, andThen}
+use Rattle.calculus.specs.Reading.{read, refused}
 use Rattle.calculus.proofs.Bools.{never}
 use Rattle.calculus.proofs.Reading.{then-read}
 use Rattle.calculus.proofs.Stores.{Written, begin, store, anew, finish}
@@ -20,7 +20,7 @@ use Rattle.instance.specs.Blanks.{Field, written, blank, numbered}
 use Rattle.instance.proofs.Blanks.{numbered-length}
 use Rattle.parse.specs.Parse.{Parsed, isRead, got}
 use Rattle.parse.specs.Number.{readNumber}
-use Rattle.parse.proofs.Each.{First, first-read}
+use Rattle.parse.proofs.Each.{first-read}
 use Rattle.card.specs.Format.{readField, readColumn, readFields}
 use Rattle.card.proofs.Parts.{field-read, fields-stand}
 

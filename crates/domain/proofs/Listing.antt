@@ -6,9 +6,9 @@ use native.Mathlib.Omega.{arith}
 use lib.ListN.{length, take, drop, length-map, length-append}
 use lib.Seq.{length-take-le}
 use Rattle.calculus.specs.Row.{Row, cellsOf}
-use Rattle.calculus.specs.Domain.{distinct, listing}
+use Rattle.calculus.specs.Domain.{distinct}
 use Rattle.calculus.specs.Overwrite.{overwrite}
-use Rattle.calculus.proofs.Listing.{listing-append, listing-distinct}
+use Rattle.calculus.proofs.Listing.{listing-distinct}
 use Rattle.domain.specs.Chains.{valueOf, valuesOf, Added}
 use Rattle.domain.proofs.Chains.{added-then, added-none}
 

@@ -2,8 +2,7 @@
 -- place, counted from 1, of the latest value before it in the same bucket, or 0 where there is none. Every cell is below 2^20.
 use Prim.Native.Nat.{ℕ, _+_, _-_, _*_, _/_, _%_, _≤_, _<_}
 use mathlib.Core.Path.{_≡_}
-use mathlib.Core.Bool.{cond}
-use mathlib.Core.List.{List, [], _∷_, _++_, map}
+use mathlib.Core.List.{List, map}
 use lib.ListN.{length, getD, take, drop}
 use Rattle.calculus.specs.Listed.{listed}
 use Rattle.calculus.specs.Domain.{listing}

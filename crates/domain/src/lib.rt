@@ -1,8 +1,7 @@
 // The values of an instance: its cells, each once, in order of first standing.
 ghost use mathlib.Core.Path.{_≡_};
 ghost use Prim.Native.Nat.{_≤_};
-ghost use mathlib.Core.List.{_++_};
-ghost use lib.ListN.{length, drop};
+ghost use lib.ListN.{length};
 ghost use Rattle.calculus.specs.Row.{cellsOf};
 ghost use Rattle.calculus.specs.Domain.{domain};
 ghost use Rattle.instance.specs.Rows.{rowsFrom};

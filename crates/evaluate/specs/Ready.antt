@@ -8,8 +8,8 @@ use Rattle.calculus.specs.Kleene.{Junction, conj, disj}
 use Rattle.calculus.specs.Formula.{variables}
 use Rattle.calculus.specs.Eval.{Outcome, Structure, eval}
 use Rattle.calculus.specs.Closed.{closed, tuples}
-use Rattle.instance.specs.Header.{headerStands, maxRelations, maxColumns, maxWords}
-use Rattle.instance.specs.Rows.{wordsStand, rowsFrom}
+use Rattle.instance.specs.Header.{maxRelations, maxColumns}
+use Rattle.instance.specs.Rows.{rowsFrom}
 use Rattle.query.specs.Words.{nodeCount, nodeWords, maxNodes, wordAt}
 use Rattle.query.specs.Tree.{formulaAt}
 use Rattle.query.specs.Check.{isTerm}

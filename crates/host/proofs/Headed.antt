@@ -9,6 +9,7 @@ use Rattle.calculus.specs.declared.answer.Answer.the-variants.{Refused}
 use Rattle.calculus.specs.Refusal.{unsound}
 use Rattle.instance.specs.declared.header.Header.{Header}
 use Rattle.host.specs.Words.{headerLength, headerOf, headed, ifHeaded}
+use Rattle.calculus.specs.Answer.{numberOf, valueOf}
 
 module _ (hs : List ℕ) where
   pub headed-no : (length hs ≡ headerLength → ⊥) → (a : Answer) → headed hs a ≡ Refused unsound
@@ -31,3 +32,19 @@ module _ (hs : List ℕ) where
 
       pub left : {A : Type 0} (call : Header → A) (old : A) {x : A} → x ≡ call h → x ≡ ifHeaded hs (call (headerOf hs)) old
       left call old e = e ∙ ap call is ∙ sym (kept-yes (call (headerOf hs)) old)
+
+-- a call that returns a number, leaves a slice of type A and stores a count: with a header slice of another length, and with one of ten words
+module _ (hs : List ℕ) {A : Type 0} (call : Header → Answer) (leaves : Header → A) (old : A) (count : ℕ) where
+  abbrev pub Counted : ℕ → A → ℕ → Type 0
+  Counted r x n = (r ≡ numberOf (headed hs (call (headerOf hs)))) × ((x ≡ ifHeaded hs (leaves (headerOf hs)) old) × (n ≡ valueOf (headed hs (call (headerOf hs))) count))
+
+  pub counted-no : (length hs ≡ headerLength → ⊥) → Counted unsound old count
+  counted-no ne =
+      let a = headed-no hs ne (call (headerOf hs)) in
+      (sym (ap numberOf a), (sym (kept-no hs ne (leaves (headerOf hs)) old), sym (ap (λ (x : Answer). valueOf x count) a)))
+
+  pub counted-yes :
+      length hs ≡ headerLength → {h : Header} → h ≡ headerOf hs → {a : Answer} {x : A} {r n : ℕ} → a ≡ call h → x ≡ leaves h → r ≡ numberOf a → n ≡ valueOf a count → Counted r x n
+  counted-yes ten is ea ex er en =
+      let a = answered hs ten is call ea in
+      (er ∙ ap numberOf a, (left hs ten is leaves old ex, en ∙ ap (λ (x : Answer). valueOf x count) a))

@@ -5,7 +5,7 @@ use mathlib.Core.Bool.{true}
 use mathlib.Core.List.{List, [], _∷_, _++_, map}
 use native.Mathlib.Omega.{arith}
 use borrow.Author.Tests.{le-leb}
-use lib.ListN.{length, take, length-append, length-map}
+use lib.ListN.{length, length-append, length-map}
 use lib.Seq.{take-at}
 use Rattle.calculus.specs.Row.{Row, mapRow}
 use Rattle.instance.specs.declared.header.Header.{Header}

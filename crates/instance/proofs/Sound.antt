@@ -1,16 +1,15 @@
 -- What a sound instance gives, and what the answer of a scan says of it. Assumes nothing.
 use Prim.Native.Nat.{ℕ, _≤_}
 use mathlib.Core.Path.{_≡_, refl, ap, _∙_}
-use mathlib.Core.Bool.{Bool, true, false, _&&_}
+use mathlib.Core.Bool.{Bool, true, false}
 use mathlib.Core.List.{List}
 use native.Mathlib.Omega.{arith}
 use borrow.Author.Tests.{leb-true}
 use lib.ListN.{length, take}
 use lib.Seq.{length-take-le}
-use lib.Dec.{leb}
 use Rattle.instance.specs.declared.header.Header.{Header}
 use Rattle.instance.specs.declared.scan.Scanned.the-variants.{Rows, Unsound}
-use Rattle.instance.specs.Header.{headerStands, maxWords}
+use Rattle.instance.specs.Header.{maxWords}
 use Rattle.instance.specs.Rows.{rowsStand, wordsOf, rowsFrom}
 use Rattle.instance.specs.Sound.{sound, rows, headerFor, tally, scanned}
 use Rattle.instance.specs.Standing.{Standing}

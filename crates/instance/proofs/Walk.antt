@@ -1,5 +1,5 @@
 -- Words that stand, walked row by row: what is known at an index where a row starts, and where the next row starts. Assumes nothing.
-use Prim.Native.Nat.{ℕ, zero, suc, _+_, _≤_, _<_}
+use Prim.Native.Nat.{ℕ, zero, suc, _+_, _≤_, _<_, _-_}
 use mathlib.Core.Path.{_≡_, refl, ap, _∙_}
 use mathlib.Core.Bool.{true, false≢true}
 use mathlib.Core.List.{List, [], _∷_}
@@ -64,6 +64,10 @@ module _ (n : ℕ) (ars ws : List ℕ) (i : ℕ) where
         next = record { within = omega (arith, cells-within n ars a (drop (i + 1) ws) (p .1), length-drop (i + 1) ws); stands = rw next at (q .0) };
         rows = ap (rowsFrom ars 0) here ∙ ap (λ (rs : List Row). record { relation = w; cells = take a (drop (i + 1) ws) } ∷ rs) (q .1 ∙ ap (rowsFrom ars 0) next);
       }
+
+-- the cells of a row at index i, as a slice of the words
+pub row-lent : (ws : List ℕ) (i a : ℕ) → take (i + 1 + a - (i + 1)) (drop (i + 1) ws) ≡ take a (drop (i + 1) ws)
+row-lent ws i a = let e : i + 1 + a - (i + 1) ≡ a = omega arith in ap (λ (k : ℕ). take k (drop (i + 1) ws)) e
 
 -- at the end of the words there are no rows
 pub rows-end : (ars ws : List ℕ) (i : ℕ) → i ≡ length ws → rowsFrom ars 0 (drop i ws) ≡ []

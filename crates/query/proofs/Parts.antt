@@ -15,9 +15,7 @@ use Rattle.instance.specs.Header.{arityOf}
 use Rattle.query.specs.Words.{Kind, rowStands, equals, negates, noKind, joins, ranges, kindOf, wordAt, nodeCount, maxNodes}
 use Rattle.query.specs.Scope.{Scopes, naming, binding}
 use Rattle.query.specs.Answers.{Long}
-use Rattle.query.specs.Check.{Checked, passed, restIsZero, isTerm, isBound, isChild, checkTerms, checkChild, checkBy, checkNode, checkNodes}
-use Rattle.calculus.specs.Demand.{demand}
-use Rattle.calculus.specs.Reading.{refused, andThen}
+use Rattle.query.specs.Check.{passed, restIsZero, isTerm, isBound, isChild, checkTerms, checkChild, checkBy, checkNode, checkNodes}
 use Rattle.calculus.proofs.Reading.{demand-read, then-read, refused-read}
 
 -- node i is named, in a scope

@@ -1,13 +1,11 @@
 -- The fills of a run as words, what they leave of the candidate, and their answers as words.
 use Prim.Native.Nat.{ℕ}
 use mathlib.Core.List.{List, [], _∷_, _++_, map}
-use lib.ListN.{length, drop}
 use Rattle.calculus.specs.declared.answer.Answer.{Answer}
 use Rattle.calculus.specs.Answer.{numberOf, valueOf, after}
 use Rattle.calculus.specs.Cell.{put}
 use Rattle.calculus.specs.Model.{Fill, afterFills}
 use Rattle.instance.specs.declared.header.Header.{Header}
-use Rattle.instance.specs.Substitute.{substituted, substitutedWords}
 use Rattle.instance.specs.Run.{fillWords, fillAnswer}
 use Rattle.calculus.specs.Overwrite.{overwrite}
 

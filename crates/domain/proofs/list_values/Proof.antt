@@ -9,7 +9,7 @@ use lib.Seq.{length-take-le, length-front}
 use Rattle.calculus.specs.Row.{Row, cellsOf}
 use Rattle.instance.specs.Header.{arityOf, maxRelations}
 use Rattle.instance.specs.Rows.{rowsFrom}
-use Rattle.instance.proofs.Walk.{Walk, walk-starts, AtRow, row-here, rows-end, relation-few}
+use Rattle.instance.proofs.Walk.{Walk, walk-starts, AtRow, row-here, rows-end, relation-few, row-lent}
 use Rattle.domain.specs.Chains.{valueOf, Chained}
 use Rattle.domain.proofs.Chains.{chained-starts}
 use Rattle.domain.proofs.Listing.{Listing, listing-starts, listing-row, listing-room, listing-fits, listing-number, listing-ends}
@@ -55,10 +55,6 @@ module _ (c : tie.In-loop Inv-loop μ-loop) where
 
   few : getD ws i 0 < maxRelations
   few = relation-few n ars ws (getD ws i 0) (start .pre .0) (here .relation)
-
-  -- its cells, as they are lent
-  lent : take (i + 1 + a - (i + 1)) (drop (i + 1) ws) ≡ row .cells
-  lent = let e : i + 1 + a - (i + 1) ≡ a = omega arith in ap (λ (k : ℕ). take k (drop (i + 1) ws)) e
 
   sum : i + 1 + a ≡ i + (1 + a)
   sum = omega arith
@@ -106,7 +102,7 @@ add-cells-requires : tie.Need-add-cells-requires Inv-loop μ-loop
 add-cells-requires c κs =
     let b = c .before .before .before .before .before in
     let h = here b in
-    rw (lent b) (
+    rw (row-lent (ws b) (i b) (a b)) (
       listing-room (to-come b),
       omega (arith, h .size, h .next .within, start b .pre .0 .few),
       h .cells,
@@ -119,7 +115,7 @@ loop-less c = omega arith
 loop-again : tie.Need-loop-again Inv-loop μ-loop
 loop-again c =
     let b = c .before .before .before .before .before .before .before .before in
-    let added = rw (lent b) at (c .before .before .add-cells .ensures .1) in
+    let added = rw (row-lent (ws b) (i b) (a b)) at (c .before .before .add-cells .ensures .1) in
     rw (sum b) (here b .next, omega (arith, added .most, here b .size), c .before .before .add-cells .ensures .0, listing-row (to-come b) added)
 
 all-listed :

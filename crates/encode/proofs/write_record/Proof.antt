@@ -1,9 +1,8 @@
 -- `encode::write_record` meets its contract: what is left to write are the fields of the cells from index i. Assumes nothing.
-use Prim.Native.Nat.{ℕ, _+_, _-_, _*_, _≤_, _<_}
+use Prim.Native.Nat.{ℕ, _+_, _-_, _*_, _≤_}
 use mathlib.Core.Path.{_≡_, refl, _∙_, ap}
 use mathlib.Core.List.{List, _∷_, _++_, []}
 use native.Mathlib.Omega.{arith}
-use borrow.Author.Needs.{needs}
 use lib.ListN.{length, drop, getD, length-set, set}
 use lib.Seq.{drop-length, drop-set-lt}
 use Rattle.calculus.proofs.Stores.{Written, begin, store, finish, anew}

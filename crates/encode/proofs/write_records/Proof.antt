@@ -1,7 +1,7 @@
 -- `encode::write_records` meets its contract: what is left to write are the records of the rows from index i. Assumes nothing.
-use Prim.Native.Nat.{ℕ, _+_, _-_, _*_, _≤_, _<_}
-use mathlib.Core.Path.{_≡_, ap, _∙_}
-use mathlib.Core.List.{List, _∷_, _++_}
+use Prim.Native.Nat.{ℕ, _+_, _-_, _*_, _≤_}
+use mathlib.Core.Path.{_≡_}
+use mathlib.Core.List.{List, _++_}
 use native.Mathlib.Omega.{arith}
 use borrow.Author.Needs.{needs}
 use lib.ListN.{length, take, drop, getD, length-append, length-drop}
@@ -9,7 +9,7 @@ use Rattle.calculus.specs.Row.{Row}
 use Rattle.calculus.proofs.Stores.{Written, begin, store-part, finish}
 use Rattle.instance.specs.Header.{arityOf, maxRelations, maxColumns}
 use Rattle.instance.specs.Rows.{rowsFrom}
-use Rattle.instance.proofs.Walk.{Walk, walk-starts, AtRow, row-here, rows-end}
+use Rattle.instance.proofs.Walk.{Walk, walk-starts, AtRow, row-here, rows-end, row-lent}
 use Rattle.card.specs.Encode.{recordBytes, recordsBytes}
 use Rattle.encode.proofs.RecordSteps.{fields-size}
 use Rattle.encode.proofs.write_records.Statement.{statement}
@@ -49,10 +49,6 @@ module _ (c : tie.In-loop Inv-loop μ-loop) where
 
   here : AtRow maxRelations ars ws i
   here = row-here maxRelations ars ws i (omega arith) (c .before .loop .inv .0)
-
-  -- its cells, as they are lent
-  lent : take (i + 1 + a - (i + 1)) (drop (i + 1) ws) ≡ row .cells
-  lent = let e : i + 1 + a - (i + 1) ≡ a = omega arith in ap (λ (k : ℕ). take k (drop (i + 1) ws)) e
 
   size : length (recordBytes row) ≡ 2 + 3 * a
   size = omega (arith, fields-size (row .cells), here .size)
@@ -121,7 +117,7 @@ write-record-requires c κs =
     let h = here b in
     let out = b .before .loop .out in
     let at = b .before .loop .at in
-    rw (lent b, part-to-end out at) (
+    rw (row-lent (ws b) (i b) (a b), part-to-end out at) (
       h .relation,
       omega (arith, h .size, width b),
       omega (arith, h .size, fits b, length-drop at out),
@@ -149,7 +145,7 @@ loop-again c =
     let at = b .before .loop .at in
     let sum : i b + 1 + a b ≡ i b + (1 + a b) = omega arith in
     let next : at + (2 + 3 * (i b + 1 + a b - (i b + 1))) ≡ at + length (recordBytes (row b)) = omega (arith, size b) in
-    let part = rw (lent b, part-to-end out at) at (c .before .before .write-record .ensures) in
+    let part = rw (row-lent (ws b) (i b) (a b), part-to-end out at) at (c .before .before .write-record .ensures) in
     rw (next, sum, put-to-end out at _ (omega (arith, fits b)), part) (here b .next, store-part (recordBytes (row b)) (to-come b))
 
 same-length : tie.Need-same-length Inv-loop μ-loop

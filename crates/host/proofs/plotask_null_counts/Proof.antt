@@ -1,9 +1,6 @@
 -- `host::plotask_null_counts` meets its contract: a header slice of another length is refused, and any other makes the library's call. Assumes nothing.
-use mathlib.Core.Path.{sym, ap, _∙_}
-use Rattle.calculus.specs.declared.answer.Answer.{Answer}
-use Rattle.calculus.specs.Answer.{numberOf, valueOf}
 use Rattle.instance.specs.NullCounts.{counted, countedWords}
-use Rattle.host.proofs.Headed.{headed-no, kept-no, answered, left}
+use Rattle.host.proofs.Headed.{left, counted-no, counted-yes}
 use Rattle.host.specs.Calls.{countsAnswer, countsWords}
 use borrow.Author.Needs.{needs}
 use Rattle.host.proofs.plotask_null_counts.Statement.{statement}
@@ -12,9 +9,8 @@ use Rattle.host.proofs.plotask_null_counts.Tie as tie
 returns : tie.Need-returns
 unfolding countsAnswer countsWords
 returns c =
-    let hs = c .before .before .before .before .args .header .now in
-    let a = headed-no hs (c .if1 .taken) _ in
-    (sym (ap numberOf a), (sym (kept-no hs (c .if1 .taken) _ _), sym (ap (λ (x : Answer). valueOf x (c .before .before .before .before .args .count .now)) a)))
+    let args = c .before .before .before .before .args in
+    counted-no (args .header .now) (λ h. counted h (args .plot .now) (args .counts .now)) (λ h. countedWords h (args .plot .now) (args .counts .now)) _ (args .count .now) (c .if1 .taken)
 
 read-header-requires : tie.Need-read-header-requires
 read-header-requires c κs = search needs
@@ -36,14 +32,9 @@ unfolding countsAnswer countsWords
 returns-2 c =
     let tested = c .before .before .before .before .before .before .before .before in
     let args = tested .before .before .before .before .args in
-    let hs = args .header .now in
-    let ten = tested .if1 .left in
-    let is = c .before .before .before .before .before .before .before .read-header .ensures in
     let made = c .before .before .before .before .before .null-counts .ensures in
-    let a = answered hs ten is (λ h. counted h (args .plot .now) (args .counts .now)) (made .0) in (
-      c .number .ensures ∙ ap numberOf a,
-      (left hs ten is (λ h. countedWords h (args .plot .now) (args .counts .now)) _ (made .1 .0), c .before .value .ensures ∙ ap (λ (x : Answer). valueOf x (args .count .now)) a),
-    )
+    counted-yes (args .header .now) (λ h. counted h (args .plot .now) (args .counts .now)) (λ h. countedWords h (args .plot .now) (args .counts .now)) _ (args .count .now) (tested .if1 .left) (c .before .before .before .before .before .before .before .read-header .ensures) (made .0) (made .1 .0)
+    (c .number .ensures) (c .before .value .ensures)
 
 pub plotask-null-counts-spec : {M : Type 1} → statement M
 plotask-null-counts-spec =

@@ -8,8 +8,8 @@ use native.Mathlib.Omega.{arith}
 use Rattle.instance.proofs.Told.{counts-told}
 use borrow.Author.Needs.{needs}
 use borrow.Author.Tests.{le-leb, lt-leb}
-use lib.ListN.{length, getD, set, take, drop, length-take, length-set}
-use lib.Seq.{length-take-le, take-all}
+use lib.ListN.{length, getD, set, take, drop, length-set}
+use lib.Seq.{take-all}
 use Rattle.calculus.specs.Cell.{nulls}
 use Rattle.instance.specs.declared.header.Header.{Header}
 use Rattle.instance.specs.Sound.{sound, rows}
@@ -19,7 +19,7 @@ use Rattle.instance.proofs.Fills.{held-words}
 use Rattle.instance.proofs.Passes.{copy-more}
 use Rattle.null_counts.proofs.null_counts.Statement.{statement}
 use Rattle.null_counts.proofs.null_counts.Tie as tie
-use Rattle.calculus.proofs.Table.{table-same, table-size}
+use Rattle.calculus.proofs.Table.{table-same}
 use Rattle.instance.proofs.Counts.{nulls-size}
 use Rattle.calculus.specs.Row.{cellsOf}
 

@@ -6,8 +6,7 @@ use mathlib.Core.Bool.{true, false}
 use mathlib.Core.List.{List, _++_}
 use native.Mathlib.Omega.{arith}
 use borrow.Author.Tests.{lt-ltb, le-ltb, le-leb, lt-leb, not-true, not-false}
-use lib.ListN.{drop, length-take, take-append-drop}
-use lib.Seq.{length-take-le}
+use lib.ListN.{drop, take-append-drop}
 use Rattle.calculus.specs.declared.answer.Answer.the-variants.{Done}
 use Rattle.calculus.specs.Cell.{isCell, isMark}
 use Rattle.instance.specs.declared.header.Header.{Header}

@@ -1,10 +1,9 @@
 -- `domain::chain::add_cells` meets its contract: the cells before index i are added. Assumes nothing.
 use Prim.Native.Nat.{ℕ, _+_, _-_, _≤_}
-use mathlib.Core.Path.{_≡_, ap, _∙_, subst, refl}
+use mathlib.Core.Path.{_≡_, ap, _∙_, refl}
 use mathlib.Core.List.{List, [], _∷_, _++_}
 use native.Mathlib.Omega.{arith}
 use native.Mathlib.Numerals.{add-one}
-use borrow.Author.Needs.{needs}
 use lib.ListN.{length, take, getD, length-take}
 use lib.Seq.{take-suc, take-length}
 use Rattle.calculus.specs.Cell.{isCell}

@@ -7,7 +7,7 @@ use Rattle.calculus.specs.Closed.{equality}
 use Rattle.query.specs.Words.{equals, nodeCount, wordAt, kindOf}
 use Rattle.evaluate.specs.declared.evaluated.Evaluated.the-variants.{Verdict}
 use Rattle.evaluate.proofs.Budget.{spent, verdict}
-use Rattle.evaluate.proofs.Children.{stands-by, equal-right}
+use Rattle.evaluate.proofs.Children.{equal-right}
 use borrow.Author.Needs.{needs}
 use Rattle.evaluate.proofs.nodes.equality.Statement.{statement}
 use Rattle.evaluate.proofs.nodes.equality.Tie as tie

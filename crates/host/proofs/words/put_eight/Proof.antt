@@ -5,7 +5,7 @@ use mathlib.Core.List.{List}
 use native.Mathlib.Omega.{arith}
 use native.Mathlib.Numerals.{add-one}
 use lib.ListN.{length, getD, set, length-set}
-use lib.Seq.{paste, paste-zero, paste-suc, length-paste}
+use lib.Seq.{paste, paste-zero, paste-suc}
 use Rattle.instance.specs.Header.{maxRelations}
 use Rattle.host.proofs.words.put_eight.Statement.{statement}
 use Rattle.host.proofs.words.put_eight.Tie as tie

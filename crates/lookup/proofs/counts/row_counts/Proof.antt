@@ -1,12 +1,11 @@
 -- `lookup::counts::row_counts` meets its contract: the counts have what the rows from place i on do not add. Assumes nothing.
 use Prim.Native.Nat.{ℕ, _≤_, _<_, _-_}
 use mathlib.Core.Path.{_≡_, refl}
-use mathlib.Core.Bool.{true}
 use mathlib.Core.List.{List}
 use native.Mathlib.Omega.{arith}
 use lib.ListN.{length, drop, getD}
 use Rattle.instance.specs.Header.{maxRelations, maxWords}
-use Rattle.instance.specs.Rows.{wordsStand, rowsFrom}
+use Rattle.instance.specs.Rows.{rowsFrom}
 use Rattle.instance.proofs.Walk.{AtRow, row-here, rows-end, relation-few, tuples-few, Walk, walk-starts}
 use Rattle.instance.proofs.RowCounts.{counted-row, RowsCounted}
 use Rattle.lookup.proofs.counts.row_counts.Statement.{statement}

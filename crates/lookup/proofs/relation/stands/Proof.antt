@@ -11,7 +11,7 @@ use Rattle.calculus.specs.declared.truth.Truth.{Truth}
 use Rattle.calculus.specs.declared.truth.Truth.the-variants.{False, Unknown}
 use Rattle.calculus.specs.Closed.{stands, tuples}
 use Rattle.instance.specs.Header.{arityOf, maxRelations, maxColumns}
-use Rattle.instance.specs.Rows.{wordsStand, rowsFrom}
+use Rattle.instance.specs.Rows.{rowsFrom}
 use Rattle.lookup.specs.declared.row.Match.{Match}
 use Rattle.lookup.specs.declared.row.Match.the-variants.{Identical, Unifies, Apart}
 use Rattle.lookup.specs.Matching.{matching}

@@ -5,12 +5,12 @@ use mathlib.Core.Path.{_≡_, refl, ap, sym, _∙_}
 use mathlib.Core.Bool.{Bool, true, false}
 use mathlib.Core.List.{List}
 use native.Mathlib.Omega.{arith}
-use borrow.Author.Tests.{le-leb, lt-leb, eq-eqb, ne-eqb, not-true, not-false}
+use borrow.Author.Tests.{le-leb, lt-leb, not-true, not-false}
 use lib.ListN.{length}
 use lib.Pow.{pow-pos}
 use Rattle.calculus.specs.Refusal.{bad-candidate}
 use Rattle.instance.specs.Rows.{areCells}
-use Rattle.query.specs.Words.{rightLength, nodeCount}
+use Rattle.query.specs.Words.{nodeCount}
 use Rattle.query.specs.Scope.{atTheTop, candidateScope}
 use Rattle.query.specs.Check.{checkNodes, checkQuery}
 use Rattle.calculus.specs.Demand.{demand}
