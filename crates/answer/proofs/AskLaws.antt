@@ -1,4 +1,4 @@
--- What a question answers at each of its refusals, and where there is none. Assumes nothing.
+-- The answer to a question for each of its refusals, and if there is none. Assumes nothing.
 use Prim.Native.Nat.{ℕ, _+_, _≤_, _<_}
 use mathlib.Core.Path.{_≡_, refl, sym, ap, _∙_}
 use mathlib.Core.Bool.{true, false}
@@ -39,7 +39,7 @@ use Rattle.answer.proofs.RerunLaws.{Asks, askable-done}
 use Rattle.calculus.specs.Overwrite.{overwrite}
 use Rattle.instance.proofs.Sound.{sound-gives}
 
--- a row is one word and its cells
+-- a row takes one word and its cells
 words-cells : (rs : List Row) → length (wordsOf rs) ≡ length rs + length (cellsOf rs)
 unfolding wordsOf cellsOf
 words-cells [] = refl
@@ -49,7 +49,7 @@ words-cells (r ∷ rs) =
     omega (arith, a, b, words-cells rs)
 
 module _ (h : Header) (ws : List ℕ) (e : sound h ws ≡ true) where
-  -- the words in use are as many as rows and cells
+  -- the number of words in use is that of the rows plus that of their cells
   pub cells-count : h .used ≡ length (rows h ws) + length (cellsOf (rows h ws))
   cells-count =
       let g = sound-gives h ws e in sym (g .in-use) ∙ ap length (sym (g .words)) ∙ words-cells (rows h ws)
@@ -137,7 +137,7 @@ module _ (h : Header) (ws qs cs : List ℕ) (e : sound h ws ≡ true) (eight : l
         (within .0, omega (arith, few-cells (h .relations) (h .arities) qs cs right s p)),
       )
 
--- what is answered where nothing is refused before the evaluation
+-- the answer if nothing is refused before the evaluation
 module _ (h : Header) (ws qs cs buffer : List ℕ) (budget : ℕ) (a : Asks h ws qs cs buffer) where
   pub answered :
       (r : Evaluated) → r ≡ within budget (eval (world (h .arities) (take (h .used) ws)) (formulaOf (h .arities) qs) (assignment cs)) →

@@ -1,4 +1,4 @@
--- The candidate's cells are put into an assignment one by one. Assumes nothing.
+-- The candidate's cells are written into an assignment one by one. Assumes nothing.
 use Prim.Native.Nat.{ℕ, _+_, _≤_, _<_}
 use mathlib.Core.Path.{_≡_, sym, ap, _∙_}
 use mathlib.Core.List.{List}
@@ -10,7 +10,7 @@ use Rattle.calculus.specs.Padded.{padded}
 use Rattle.calculus.specs.Formula.{assignment, variables}
 use Rattle.calculus.proofs.Padded.{padded-more}
 
--- the first i cells, and 0 for the other variables
+-- the first i cells, with 0 for the other variables
 abbrev pub partly : List ℕ → ℕ → List ℕ
 partly cs i = padded variables (take i cs)
 

@@ -1,4 +1,4 @@
--- A row that equals an earlier one of its relation may be left out, and put back: no verdict changes. Assumes nothing.
+-- A row that equals an earlier row of its relation may be left out or put back: no verdict changes. Assumes nothing.
 use Prim.Native.Nat.{ℕ, _≤_}
 use mathlib.Core.Path.{_≡_, refl, sym, ap, ap₂, _∙_}
 use mathlib.Core.Bool.{Bool, true, false}
@@ -39,7 +39,7 @@ module _ (h h′ : Header) (ws ws′ qs candidate buffer : List ℕ) (budget : �
   fewer : length (cellsOf (rows h′ ws′)) ≤ length (cellsOf (rows h ws))
   fewer = rw (r .twice, r .once) (repeat-cells (r .before) (r .row) (r .between) (r .behind))
 
-  -- the second plot asks as the first did
+  -- the second instance gives the first one's verdict
   without-it : (t : Truth) (n : ℕ) → ask h ws qs candidate buffer budget ≡ Verdict t n → SameVerdict (ask h′ ws′ qs candidate buffer budget) t n
   without-it t n e =
       let a = verdict-asked h ws qs candidate buffer budget t n e in
@@ -54,7 +54,7 @@ module _ (h h′ : Header) (ws ws′ qs candidate buffer : List ℕ) (budget : �
             ap (λ (x : Truth). Verdict x (once .cost)) (sym (kept .same) ∙ was .truth);
       }
 
-  -- and the first as the second did, where nothing runs short
+  -- the first instance gives the second one's verdict, if the buffer is long enough and the budget suffices
   with-it :
       (t : Truth) (n : ℕ) → ask h′ ws′ qs candidate buffer budget ≡ Verdict t n → length (cellsOf (rows h ws)) ≤ length buffer →
       SameOrSpent (ask h ws qs candidate buffer budget) t n

@@ -1,4 +1,4 @@
--- Demand 3: what run B answers. Assumes nothing.
+-- Demand 3: the answer of run B. Assumes nothing.
 use Prim.Native.Nat.{ℕ, _≤_}
 use mathlib.Core.Path.{_≡_, refl, sym, ap, _∙_, subst}
 use mathlib.Core.Bool.{true}
@@ -39,7 +39,7 @@ use Rattle.answer.specs.Rerun.{DemandThree}
 use Rattle.evaluate.proofs.Budget.{verdict, was-verdict}
 use Rattle.calculus.proofs.Bools.{zero-not-one}
 
--- what a verdict says of the refusals before it
+-- what follows from a verdict: nothing before it was refused
 pub record Asks (h : Header) (ws qs candidate buffer : List ℕ) : Type 0 where
   pub stands : sound h ws ≡ true
   pub right : rightLength qs ≡ true
@@ -88,7 +88,7 @@ verdict-asked h ws qs candidate buffer budget t n =
     go (answer.Done k) p evaluated.Spent q r = let z : _≡_ {A = ℕ} 0 1 = cc in absurd (zero-not-one z)
     go (answer.Refused k) p e q r = let z : _≡_ {A = ℕ} 0 1 = cc in absurd (zero-not-one z)
 
--- and back: where nothing is refused and the cost fits, the question gets its verdict
+-- conversely, if nothing is refused and the cost is within the budget, the question gets its verdict
 pub asked-verdict :
     (h : Header) (ws qs candidate buffer : List ℕ) (budget : ℕ) → Asks h ws qs candidate buffer →
     asked (modelOf h ws candidate) (formulaOf (h .arities) qs) .cost ≤ budget →
@@ -99,11 +99,11 @@ asked-verdict h ws qs candidate buffer budget a fits =
     let o = asked (modelOf h ws candidate) (formulaOf (h .arities) qs) in
     ap (λ (x : Answer). answeredBy x (within budget o)) (askable-done h ws qs candidate buffer a) ∙ ap evaluatedAs (verdict budget o fits)
 
--- no refusal is a verdict
+-- a refusal is not a verdict
 pub not-refused : {t : Truth} {n r : ℕ} → Refused r ≡ Verdict t n → ⊥
 not-refused e = let z : _≡_ {A = ℕ} 0 1 = cc in omega arith
 
--- the checks of run B are those of run A: a check turns on the candidate's length and cells alone, and fills keep both
+-- run B passes the checks of run A: of the candidate they use only the length and that its words are cells, and fills keep both
 pub demand-three : DemandThree
 demand-three h ws qs candidate buffer budget fs buffer′ budget′ longer larger t n e =
     let a = verdict-asked h ws qs candidate buffer budget t n e in

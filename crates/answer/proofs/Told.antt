@@ -1,4 +1,4 @@
--- What a question tells, in the paper's numbers, where its answer is the definition's. Assumes nothing.
+-- The answer to a question in the paper's numbers, if it is the definition's answer. Assumes nothing.
 use Prim.Native.Nat.{ℕ}
 use mathlib.Core.Path.{_≡_, refl, sym, ap, _∙_}
 use mathlib.Core.List.{List}
@@ -17,7 +17,7 @@ use Rattle.answer.specs.Numbers.{askedAs, askedNumber, verdictOf, looksO
 use Rattle.evaluate.proofs.Budget.{was-verdict}
 use Rattle.answer.proofs.RerunLaws.{verdict-asked}
 
--- a verdict is that of the outcome
+-- if the answer is a verdict, it is the outcome's
 abbrev pub Of : Outcome → Asked → Type 0
 Of o a = (t : Truth) (n : ℕ) → a ≡ Verdict t n → (o .truth ≡ t) × (o .cost ≡ n)
 

@@ -26,7 +26,7 @@ use Rattle.calculus.specs.Demand.{demand}
 use Rattle.calculus.specs.Overwrite.{overwrite}
 use Rattle.query.specs.Words.{rightLength}
 
--- goes on if the question passed its check
+-- goes on only if the question passed its check
 abbrev pub ifPassed : Checked → Answer → Answer
 ifPassed (read done s) a = a
 ifPassed (refused r) a = answer.Refused r
@@ -36,13 +36,13 @@ abbrev pub evaluatedAs : Evaluated → Asked
 evaluatedAs (evaluated.Verdict t n) = ask-answer.Verdict t n
 evaluatedAs evaluated.Spent = ask-answer.Refused budget-spent
 
--- the evaluation is answered if nothing is refused before it
+-- the answer of the evaluation, if nothing is refused before it
 abbrev pub answeredBy : Answer → Evaluated → Asked
 answeredBy (answer.Done n) e = evaluatedAs e
 answeredBy (answer.Refused r) e = ask-answer.Refused r
 
 module _ (h : Header) (ws qs candidate buffer : List ℕ) where
-  -- the refusals that come before the evaluation
+  -- the refusals before the evaluation
   unfoldable pub askable : Answer
   askable =
       demand (sound h ws) (answer.Refused unsound)

@@ -13,18 +13,18 @@ use Rattle.answer.specs.declared.asked.Asked.{Asked}
 use Rattle.answer.specs.declared.asked.Asked.the-variants.{Verdict, Refused}
 use Rattle.answer.specs.Ask.{ask}
 
--- the same verdict, with at most n looks
+-- the verdict t, with a cost of at most n
 pub record SameVerdict (a : Asked) (t : Truth) (n : ℕ) : Type 0 where
   pub looks : ℕ
   pub no-more : looks ≤ n
   pub is : a ≡ Verdict t looks
 
--- the same verdict, with at least n looks, or more looks than the allowance has
+-- the verdict t, with a cost of at least n; or the budget is spent
 pub data SameOrSpent (a : Asked) (t : Truth) (n : ℕ) : Type 0 where
   same : (looks : ℕ) → n ≤ looks → a ≡ Verdict t looks → SameOrSpent a t n
   spent : a ≡ Refused budget-spent → SameOrSpent a t n
 
--- Two sound plots with the same sheets: the rows of the second are those of the first without one that equals an earlier row of its sheet.
+-- Two sound instances with the same relations: the second has the rows of the first without one that equals an earlier row of its relation.
 pub record Repeat (h h′ : Header) (ws ws′ : List ℕ) : Type 0 where
   pub relations : h′ .relations ≡ h .relations
   pub arities : h′ .arities ≡ h .arities
@@ -37,8 +37,8 @@ pub record Repeat (h h′ : Header) (ws ws′ : List ℕ) : Type 0 where
   pub twice : rows h ws ≡ before ++ (row ∷ (between ++ (row ∷ behind)))
   pub once : rows h′ ws′ ≡ before ++ (row ∷ (between ++ behind))
 
--- A question that gets a verdict from the first plot gets the same from the second, with the same candidate, working list and allowance; and one that
--- gets a verdict from the second gets the same from the first, where the list is long enough for it and the allowance suffices.
+-- A verdict of the first instance is also the second's, with the same question, candidate, buffer and budget. A verdict of the second is also the
+-- first's, if the buffer is long enough for the first and the budget suffices.
 pub record MeansOne (h h′ : Header) (ws ws′ qs candidate buffer : List ℕ) (budget : ℕ) (t : Truth) (n : ℕ) : Type 0 where
   pub without : ask h ws qs candidate buffer budget ≡ Verdict t n → SameVerdict (ask h′ ws′ qs candidate buffer budget) t n
   pub with-it :

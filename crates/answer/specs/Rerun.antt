@@ -14,8 +14,8 @@ use Rattle.answer.specs.declared.asked.Asked.{Asked}
 use Rattle.answer.specs.declared.asked.Asked.the-variants.{Verdict}
 use Rattle.answer.specs.Ask.{ask}
 
--- What run B answers, after the fills, where run A answered the verdict t with n looks: it is not refused; it says at least what A said; it costs
--- no more; and where no null is left, it is two-valued logic's.
+-- The answer b of run B after the fills, if run A got the verdict t with cost n: b is not refused; it is t if t is true or false; it costs no
+-- more; and if no null is left, it is the verdict of two-valued logic.
 pub record Rerun (h : Header) (ws qs candidate : List ℕ) (fs : List Fill) (t : Truth) (n : ℕ) (b : Asked) : Type 0 where
   pub ran : Ran h fs ws candidate
   pub truth : Truth
@@ -27,7 +27,7 @@ pub record Rerun (h : Header) (ws qs candidate : List ℕ) (fs : List Fill) (t :
       plain (run fs (modelOf h ws candidate)) ≡ true →
       truth ≡ ofBool (saysYes (run fs (modelOf h ws candidate)) (formulaOf (h .arities) qs))
 
--- the whole of demand 3: every plot, question, candidate, budget, working list and list of fills
+-- the whole of demand 3: every instance, question, candidate, budget, buffer and list of fills
 abbrev pub DemandThree : Type 0
 DemandThree =
     (h : Header) (ws qs candidate buffer : List ℕ) (budget : ℕ) (fs : List Fill) (buffer′ : List ℕ) (budget′ : ℕ) →

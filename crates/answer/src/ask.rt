@@ -27,7 +27,7 @@ use lookup::counts::row_counts;
 use query::check::check;
 use query::words::right_length;
 
-// The candidate's cells for the first variables, 0 for the others.
+// The values of the variables: the candidate's cells for the first ones, 0 for the others.
 fn assigned(candidate: &[u32]) -> [u32; 16]
     requires { ⌜ length (now candidate) ≤ variables ⌝ }
     ensures { λ r. ⌜ r ≡ assignment (now (candidate .entry)) ⌝ }
@@ -41,7 +41,7 @@ fn assigned(candidate: &[u32]) -> [u32; 16]
     env
 }
 
-// The top node.
+// Evaluates the top node.
 fn evaluate_top(
     relations: u32,
     arities: &[u32; 8],

@@ -1,4 +1,4 @@
--- Bytes are read from the front under rules of a table, or refused with 11. Assumes nothing.
+-- If a table has 11 and the numbers of the rules, it has every refusal of reading bytes. Assumes nothing.
 use Prim.Native.Nat.{ℕ, zero, suc, _+_, _*_}
 use mathlib.Core.Path.{_≡_, refl}
 use mathlib.Core.Bool.{Bool, true}

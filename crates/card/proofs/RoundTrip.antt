@@ -1,4 +1,4 @@
--- A card that was written from a sound instance reads back to its header and its words. Assumes nothing.
+-- A card that was written from a sound instance reads back to the instance's header and words. Assumes nothing.
 use Prim.Native.Nat.{ℕ, suc, _+_, _^_, _≤_, _<_}
 use mathlib.Core.Path.{_≡_, ap, _∙_}
 use mathlib.Core.Bool.{true}
@@ -27,7 +27,7 @@ use Rattle.card.specs.Encode.{recordsBytes, cardBytes, encoded, encodedB
 use Rattle.card.specs.Decode.{accepted, decodedFrom, decoded}
 use Rattle.card.proofs.Bytes.{read-records, read-head}
 
--- a row takes a word at least
+-- a row takes at least one word
 rows-at-most : (rs : List Row) → length rs ≤ length (wordsOf rs)
 unfolding wordsOf
 rows-at-most [] = omega arith
@@ -35,7 +35,7 @@ rows-at-most (r ∷ rs) =
     let l : length rs ≤ length (wordsOf rs) = rows-at-most rs in
     simp length-append (omega arith)
 
--- the card that is read from the bytes of rows
+-- the card that has a full record for each row
 abbrev pub fullCard : Header → List Row → Card
 fullCard h rs = record {
   head = record { relations = h .relations; arities = h .arities; count = length rs };
@@ -78,7 +78,7 @@ decode-encode h ws slice e eight room =
     let whole = decode-rows h (rows h ws) (s .standing .header) eight (s .rows-stand) (omega arith) slice (omega arith) in
     rw (s .header, size, s .words) at whole
 
--- what an accepted call of the writer has
+-- if encode is accepted, the instance is sound and the card has n bytes
 encoded-told : (h : Header) (ws out : List ℕ) (n : ℕ) → encoded h ws out ≡ Done n → (sound h ws ≡ true) × (length (cardBytes h (rows h ws)) ≡ n)
 unfolding encoded
 encoded-told h ws out n e =
@@ -87,7 +87,7 @@ encoded-told h ws out n e =
     let q = demand-done (leb size (length out)) output-too-short (Done size) n (p .1) in
     (p .0, cc (q .1))
 
--- the bytes that it fills read back
+-- the bytes that encode wrote read back
 pub read-back : (h : Header) (ws out slice : List ℕ) (n : ℕ) → length (h .arities) ≡ maxRelations → encoded h ws out ≡ Done n → h .used ≤ length slice
     → decoded (take n (encodedBytes h ws out)) slice ≡ record {
       answer = Done (h .used);

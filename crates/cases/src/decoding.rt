@@ -2,7 +2,7 @@
 use decode::decode;
 use worked::show;
 
-// Decodes into eight words, and shows the answer, and the header and the words afterwards.
+// Decodes into eight words, and shows the answer, then the header and the words afterwards.
 fn show_decode(name: &[u8], bytes: &[u8]) {
     let mut plot = [7u32; 8];
     let stored = decode(bytes, &mut plot);

@@ -5,7 +5,7 @@ use encode::encode;
 use worked::plots::one_sheet;
 use worked::show;
 
-// Decodes the first bytes, as many as a card took.
+// Decodes the first `size` bytes, to which a card was written.
 fn decode_first(bytes: &[u8], size: usize) {
     let mut plot = [8u32; 12];
     if bytes.len() < size {
@@ -17,7 +17,7 @@ fn decode_first(bytes: &[u8], size: usize) {
     show::words(&plot);
 }
 
-// Decodes a card, encodes what it gave, and decodes that again.
+// Decodes a card, encodes the result, and decodes that again.
 fn there_and_back(name: &[u8], bytes: &[u8]) {
     let mut plot = [7u32; 12];
     let first = decode(bytes, &mut plot);

@@ -40,7 +40,7 @@ pub fn rows() {
     show::plot(last, &plot);
 }
 
-// Enters a row into two empty sheets that refuse it, and shows the words afterwards.
+// Enters a row that a plot of two empty sheets refuses, and shows the words afterwards.
 fn turned_away(name: &[u8], relation: u32, cells: &[u32]) {
     let mut plot = [7u32; 4];
     enter(name, two_sheets(1, 2, 0), &mut plot, relation, cells);
@@ -59,7 +59,7 @@ pub fn refused() {
     turned_away(b"1,000,201 entered", 0, &high);
 }
 
-// Enters a row that fits, into a plot with the given header and words.
+// Enters a row of one cell into a plot with the given header and words.
 fn unsound(name: &[u8], relations: u32, arities: [u32; 8], used: u32, words: [u32; 4]) {
     let mut plot = words;
     enter_cell(name, sheets(relations, arities, used), &mut plot, 5);
@@ -131,7 +131,7 @@ fn repeat(header: Header, plot: &mut [u32], cells: &[u32], n: u32) -> Header {
     now
 }
 
-// Rows of two words until 4,096 are in use, and one more.
+// Enters rows of two words until 4,096 words are in use, and then one more.
 pub fn until_full() {
     let mut plot = [0u32; 4098];
     let nearly = repeat(one_sheet(1, 0), &mut plot, &[5], 2047);

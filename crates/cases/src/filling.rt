@@ -1,4 +1,4 @@
-// Fills, and what the census says of them.
+// Fills, and the census after them.
 use calculus::answer::Answer;
 use instance::header::Header;
 use null_counts::null_counts;
@@ -7,10 +7,10 @@ use worked::plots::one_sheet;
 use worked::plots::sheets;
 use worked::show;
 
-// The rows (m200, m1) and (m1, 5), and two words after them.
+// The rows (m200, m1) and (m1, 5), and two words that are not in use.
 const ROWS: [u32; 8] = [0, 1_000_200, 1_000_001, 0, 1_000_001, 5, 1_000_001, 7];
 
-// Fills in a fresh copy of the rows, and shows the words and the counts of marks 1, 2 and 200 afterwards.
+// Fills in a fresh copy of the rows, and shows the answer; if accepted, also the words, the counts of marks 1, 2 and 200, and the word after the counts.
 fn fill(name: &[u8], mark: u32, cell: u32) {
     let mut plot = ROWS;
     let header = one_sheet(2, 6);
@@ -50,7 +50,7 @@ fn unsound() {
     show::words(&plot);
 }
 
-// A census of the rows.
+// Takes a census of the rows.
 fn count(name: &[u8], header: Header, counts: &mut [u32]) {
     let plot = ROWS;
     let answer = null_counts(header, &plot, counts);

@@ -1,4 +1,4 @@
--- Decimal digits: how those of a number are made of its tenth's, and how many there are. Assumes nothing.
+-- Decimal digits: the digits of a number from those of its tenth, and how many there are. Assumes nothing.
 use Prim.Native.Nat.{ℕ, zero, suc, _+_, _*_, _/_, _%_, _^_, _≤_, _<_}
 use mathlib.Core.Path.{_≡_, refl, ap, _∙_}
 use mathlib.Core.Bool.{Bool, true, false}
@@ -12,7 +12,7 @@ use Rattle.calculus.specs.Overwrite.{overwrite}
 use Rattle.calculus.proofs.Stores.{overwrite-next}
 use Rattle.decimal.specs.Decimal.{digit, digitsIn, digits, maxDigits}
 
--- any number of steps that suffices gives the same digits
+-- any number of steps that is at least n gives the same digits
 same-digits : (f g n : ℕ) → n ≤ f → n ≤ g → digitsIn f n ≡ digitsIn g n
 unfolding digitsIn
 same-digits zero zero n l m = refl
@@ -44,7 +44,7 @@ digits-within (suc k) n l = go (ltb n 10) refl (digits-within k (n / 10))
 pub digits-few : (n : ℕ) → n < 2 ^ 32 → length (digits n) ≤ maxDigits
 digits-few n l = digits-within 9 n (omega arith)
 
--- the digits in front of a list, the last of them written last
+-- the digits are written at the front of a list, the last one last
 pub write-one : (n : ℕ) (out : List ℕ) → n < 10 → length (digits n) ≤ length out → set out 0 (digit n) ≡ overwrite (digits n) out
 write-one n out l room = go out (rw (digits-one n l) at room) ∙ rw (digits-one n l)
   where

@@ -5,7 +5,7 @@ ghost use lib.ListN.{length};
 ghost use Rattle.calculus.specs.Overwrite.{overwrite};
 ghost use Rattle.decimal.specs.Decimal.{digits};
 
-// Writes a number's digits, without leading zeros, and returns how many they are.
+// Writes the digits of a number, without leading zeros, and returns how many there are.
 pub fn decimal(out: &mut [u8], n: u32) -> usize
     requires { ⌜ length (digits n) ≤ length (now out) ⌝ }
     ensures count { λ r. ⌜ r ≡ length (digits n) ⌝ }

@@ -1,4 +1,4 @@
--- Reading a card: what it returns if a test fails, and if all hold. Assumes nothing.
+-- Decoding a card: the result if a test fails, and the result if all tests pass. Assumes nothing.
 use Prim.Native.Nat.{ℕ, suc, _+_, _-_, _*_, _≤_, _<_}
 use mathlib.Core.Path.{_≡_, refl, ap, _∙_}
 use mathlib.Core.Bool.{true, false}
@@ -35,7 +35,7 @@ use Rattle.decode.proofs.Fields.{written-or-blank}
 use Rattle.decode.proofs.Records.{record-read}
 use Rattle.decode.proofs.Opening.{Opened}
 
--- the words of records, whatever the blanks get
+-- the number of words of records does not depend on the nulls that blanks get
 words-count : (m : ℕ) (rs : List Record) → length (wordsOf (numberedRows m rs)) ≡ wordsIn rs
 unfolding wordsOf numberedRows wordsIn
 words-count m [] = refl
@@ -45,7 +45,7 @@ words-count m (r ∷ rs) =
     let joined = length-append (numbered m (r .fields)) (wordsOf (numberedRows (m + blanksIn (r .fields)) rs)) in
     omega arith
 
--- what records that were read have
+-- what holds of records that were read
 pub record RecordsRead (n : ℕ) (bs : List ℕ) (rs : List Record) (rest : List ℕ) : Type 0 where
   pub shorter : length rest ≤ length bs
   pub low : highest rs ≤ nulls
@@ -69,12 +69,12 @@ module _ (n : ℕ) (ars : List ℕ) (stand : aritiesStand n ars ≡ true) where
   records-read : (k : ℕ) (bs : List ℕ) {rs : List Record} {rest : List ℕ} → readRecords n ars k bs ≡ read rs rest → RecordsRead k bs rs rest
   records-read = each-read (readRecord n ars) RecordsRead records-none one-more
 
--- what a refusal returns and leaves
+-- what a refused call returns, and the slice that it leaves
 abbrev pub turnedDown : ℕ → List ℕ → Decoded
 turnedDown why slice = record { answer = Refused why; header = noHeader; words = slice }
 
 module _ (card slice : List ℕ) where
-  -- a refusal's answer and header are those of the definition, and the slice stays
+  -- if a call is refused, its answer and header are those of the definition, and the slice keeps its content
   pub down : {a : Answer} {header : Header} (why : ℕ) → a ≡ Refused why → header ≡ noHeader → decoded card slice ≡ turnedDown why slice
       → (a ≡ decoded card slice .answer) × ((header ≡ decoded card slice .header) × (slice ≡ decoded card slice .words))
   down why p q e = rw (p, q, e) (refl, (refl, refl))
@@ -104,7 +104,7 @@ module _ (card slice : List ℕ) where
         go (read rs rest) a = let z : _≡_ {A = ℕ} 0 1 = cc in absurd (zero-not-one z)
         go (refused r) a = cc
 
-    -- a card whose every record was read
+    -- a card all of whose records were read
     pub record CardRead (t : Total) : Type 0 where
       pub records : List Record
       pub rest : List ℕ

@@ -1,4 +1,4 @@
--- Reading the fields of a record: the bits of its map that stand are counted, and so many fields are read, one after the other. Assumes nothing.
+-- Reading the fields of a record: n is the number of set bits in its map, and n fields are read, one after the other. Assumes nothing.
 use Prim.Native.Nat.{ℕ, zero, suc, _+_, _-_, _*_, _/_, _%_, _^_, _≤_, _<_, max}
 use mathlib.Core.Path.{_≡_, refl, ap, _∙_}
 use mathlib.Core.Bool.{Bool, true, false}
@@ -26,7 +26,7 @@ use Rattle.card.specs.Format.{readField, readColumn, readFields}
 use Rattle.card.proofs.Parts.{field-read}
 use Rattle.decode.specs.Measure.{readWritten, measuredFields}
 
--- Fewer leading zeros of 32 bits than the a lowest bits leave: a bit stands above those.
+-- A 32-bit number is below 2^a exactly if it has at least 32 - a leading zeros.
 
 pub leading-within : (a x : ℕ) → x < 2 ^ 32 → 32 - a ≤ leadingZeros 32 x → x < 2 ^ a
 leading-within a x f l = let s = leading-length 32 x f in lt-of-lt-of-le (s .2) (pow-mono (omega arith))
@@ -69,7 +69,7 @@ written-read = each-read readField WrittenRead written-none written-more
 
 -- ---- the first pass over fields
 
--- what it returns of fields that follow others whose highest null is m
+-- what it returns for fields after others whose highest null is m
 abbrev pub raised : ℕ → Answer → Answer
 raised m (Done h) = Done (max m h)
 raised m (Refused why) = Refused why
@@ -82,7 +82,7 @@ raised-more : (m n : ℕ) (x : Answer) → raised m (raised n x) ≡ raised (max
 raised-more m n (Done h) = let e : max m (max n h) ≡ max (max m n) h = omega arith in rw e
 raised-more m n (Refused why) = refl
 
--- At least one field, from index `at`: it refuses, or goes on after the field.
+-- At least one field is left, from index `at`: the pass refuses it, or goes on after it.
 module _ (left at : ℕ) (bs : List ℕ) (some : 0 < left) where
   one : left ≡ suc (left - 1)
   one = omega arith
@@ -110,7 +110,7 @@ module _ (left at : ℕ) (bs : List ℕ) (some : 0 < left) where
 
 -- ---- written and blank columns
 
--- the written fields alone
+-- the written fields only
 abbrev pub onlyWritten : Parsed (List Field) → Parsed (List ℕ)
 onlyWritten (read fs bs) = read (writtenOf fs) bs
 onlyWritten (refused r) = refused r
@@ -120,7 +120,7 @@ unfolding readFields readEach writtenOf
 fields-written zero bits bs h = let e : ones bits ≡ 0 = omega (arith, ones-le 0 bits h) in rw e
 fields-written (suc a) bits bs h = go (λ bs. fields-written a (bits / 2) bs (omega arith)) (eqb (bits % 2) 1) refl
   where
-    -- of the fields after a column
+    -- for the fields after a column
     Rest : Type 0
     Rest = (bs : List ℕ) → onlyWritten (readFields a (bits / 2) bs) ≡ readWritten (ones (bits / 2)) bs
 

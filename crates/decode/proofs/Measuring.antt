@@ -17,7 +17,7 @@ use Rattle.instance.proofs.Rows.{arity-low}
 use Rattle.decode.proofs.Records.{record-read, step, added, added-none, added-more, records-more, records-refused}
 
 module _ (card : List ℕ) (start n : ℕ) (ars : List ℕ) (count : ℕ) where
-  -- the answer of the whole is that of what is left, with what was counted so far added
+  -- the answer for all records is the answer for those that are left, with what was counted so far added
   pub record Measuring (words blank top at left : ℕ) : Type 0 where
     pub within : at ≤ length card
     pub fewer : left ≤ count
@@ -36,7 +36,7 @@ module _ (card : List ℕ) (start n : ℕ) (ars : List ℕ) (count : ℕ) where
     sum = sym (added-none (measuredRecords (length card) (readRecords n ars count (drop start card))));
   }
 
-  -- a record at index `at`, and the turn after it
+  -- a record at index `at`, and the state after it
   pub record Turn (words blank top at left arity written h : ℕ) : Type 0 where
     pub narrow : arity ≤ maxColumns
     pub fewer : written ≤ arity

@@ -1,4 +1,4 @@
--- Reading the head of a card: the arities one after the other, and the head from them. Assumes nothing.
+-- Reading the head of a card: first the arities, one after the other, and then the head from them. Assumes nothing.
 use Prim.Native.Nat.{ℕ, suc, _+_, _-_, _^_, _≤_, _<_}
 use mathlib.Core.Path.{_≡_, refl, sym, ap, _∙_}
 use mathlib.Core.Bool.{true, false}
@@ -33,14 +33,14 @@ pub refused-head : (card : List ℕ) {r : declared-head.Head} (why : ℕ) → r 
     → (r ≡ openedHead (readHead card)) × ((n : ℕ) → r .answer ≡ Done n → n < 256 ^ 2)
 refused-head card why p e = rw (p, e) (refl, none-counted why)
 
--- ---- the loop over the arities, which stand from byte 1
+-- ---- the loop over the arities, which start at byte 1
 
--- what is returned of n arities
+-- what is returned for n arities
 abbrev opening : List ℕ → ℕ → declared-arities.Arities
 opening card n = openedArities [] (readArities n (drop 1 card))
 
 module _ (card : List ℕ) (n : ℕ) where
-  -- those that are read stand in the array, with zeros after them, and the others are still to be read
+  -- the arities that were read are in the array, with zeros after them, and the others are still to be read
   pub record OpeningArities (ars : List ℕ) (i : ℕ) : Type 0 where
     pub before : List ℕ
     pub within : i ≤ n
@@ -86,7 +86,7 @@ module _ (card : List ℕ) (n : ℕ) where
       let none : n - i ≡ 0 = omega arith in
       sym (o .whole ∙ rw (none, append-nil (o .before), o .array))
 
--- the arities that an accepted answer stands for
+-- the arities of an accepted answer
 pub arities-opened : (card : List ℕ) (n k : ℕ) → opening card n .answer ≡ Done k
     → (ars : List ℕ) × (rest : List ℕ) × (readArities n (drop 1 card) ≡ read ars rest) × (opening card n .arities ≡ padded maxRelations ars)
 unfolding openedArities
@@ -109,7 +109,7 @@ module _ (card : List ℕ) (n : ℕ) (some : 1 ≤ length card) (is : n ≡ getD
   unfolding readHead openedHead
   head-bad e = rw (byte-at isCount bad-relation-count card 0 some, ← is, e)
 
-  -- what is read after it
+  -- what is read after the first byte
   after : Parsed (List ℕ) → Parsed Head
   after p = andThen p (λ ars bs. andThen (readNumber 2 bs) (λ count bs. read (record { relations = n; arities = padded maxRelations ars; count = count }) bs))
 
@@ -144,14 +144,14 @@ module _ (card : List ℕ) (n : ℕ) (some : 1 ≤ length card) (is : n ≡ getD
       unfolding openedHead after
       head-answer counted = rw (first, e, place, counted)
 
--- A head that was read: where its records start, and that its arities stand.
+-- A head that was read: where its records start, and that its arities are well formed.
 pub record Opened (card : List ℕ) (n : ℕ) (ars : List ℕ) (count : ℕ) : Type 0 where
   pub was-read : readHead card ≡ read (record { relations = n; arities = ars; count = count }) (drop (n + 3) card)
   pub few : n ≤ maxRelations
   pub stand : aritiesStand n ars ≡ true
   pub long : n + 3 ≤ length card
 
--- the same of an answer that is known to be that of the head
+-- the same for an answer that is known to be the head's
 pub head-opened : (card : List ℕ) (r : declared-head.Head) (k : ℕ) → r ≡ openedHead (readHead card) → r .answer ≡ Done k
     → Opened card (r .relations) (r .arities) k
 unfolding openedHead

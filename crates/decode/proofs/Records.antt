@@ -1,4 +1,4 @@
--- Reading records: what a record that was read says of its bytes, and what the first pass returns of one record and of the records after it.
+-- Reading records: what a record that was read says of its bytes, and what the first pass returns for one record and for the records after it.
 -- Assumes nothing.
 use Prim.Native.Nat.{ℕ, suc, _+_, _-_, _*_, _^_, _≤_, _<_, max}
 use mathlib.Core.Path.{_≡_, refl, sym, ap, _∙_}
@@ -28,7 +28,7 @@ use Rattle.decode.specs.declared.measure.Needed.the-variants as needed
 use Rattle.decode.specs.Measure.{readWritten, measuredFields, measuredRecord, measuredRecords, wordsIn}
 use Rattle.decode.proofs.Fields.{WrittenRead, written-read, onlyWritten, fields-written, written-or-blank}
 
--- the fields of a map that is within the columns
+-- the fields of a map that has no bit beyond the columns
 record FieldsRead (columns bits : ℕ) (bs : List ℕ) (fs : List Field) (rest : List ℕ) : Type 0 where
   columns-are : length fs ≡ columns
   were : WrittenRead (ones bits) bs (writtenOf fs) rest
@@ -69,12 +69,12 @@ record-read n ars bs {r} {rest} e =
     let whole : x ∷ p .map ∷ p .body ≡ bs = sym (p .bytes) in
     rw whole at made
 
--- what the first pass returns of a record, from what it returns of the fields
+-- what the first pass returns for a record, from what it returns for the fields
 abbrev pub measuredAs : ℕ → ℕ → Answer → Measured
 measuredAs arity count (Done h) = measured.Record arity count h
 measuredAs arity count (Refused why) = measured.Refused why
 
--- What the first pass returns of one record, test by test.
+-- What the first pass returns for one record, test by test.
 module _ (n : ℕ) (ars bs : List ℕ) where
   pub record-none : length bs < 1 → measuredRecord (readRecord n ars bs) ≡ measured.Refused cut-short
   unfolding readRecord measuredRecord
@@ -111,7 +111,7 @@ module _ (n : ℕ) (ars bs : List ℕ) where
               cc (fields-written (arityOf ars x) bits (drop 2 bs) h, ap onlyWritten e, f .columns-are, f .were .count)
           go (refused r) e = cc (fields-written (arityOf ars x) bits (drop 2 bs) h, ap onlyWritten e)
 
--- what the first pass returns once some records' words, blanks and highest null are added to the rest's
+-- the first pass's answer for the remaining records, with the words, blanks and highest null of earlier records added
 abbrev pub added : ℕ → ℕ → ℕ → Needed → Needed
 added w b h (needed.Records t) = needed.Records (record { words = w + t .words; blanks = b + t .blanks; highest = max h (t .highest); end = t .end })
 added w b h (needed.Refused why) = needed.Refused why
@@ -168,7 +168,7 @@ step n ars bs arity count h = go (readRecord n ars bs) refl
         }
     go (refused r) e m = let z : _≡_ {A = ℕ} 0 1 = cc in absurd (zero-not-one z)
 
--- the first pass over a record and those after it
+-- the first pass over a record and the records after it
 records-joined : (size : ℕ) (r : Record) (p : Parsed (List Record))
     → measuredRecords size (andThen p (λ rs bs. read (r ∷ rs) bs))
     ≡ added (1 + length (r .fields)) (blanksIn (r .fields)) (highestIn (r .fields)) (measuredRecords size p)

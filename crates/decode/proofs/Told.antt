@@ -1,4 +1,4 @@
--- What each pass over a card tells, in the paper's numbers, if its answer is the definition's. Assumes nothing.
+-- What each pass over a card returns, as the paper's numbers, if its answer is the definition's. Assumes nothing.
 use Prim.Native.Nat.{ℕ}
 use mathlib.Core.Path.{_≡_, refl, sym}
 use mathlib.Core.List.{List}

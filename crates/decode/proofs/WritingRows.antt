@@ -1,4 +1,4 @@
--- Writing the rows of a card, one record a turn. Assumes nothing.
+-- Writing the rows of a card, one record in each iteration. Assumes nothing.
 use Prim.Native.Nat.{ℕ, suc, _+_, _-_, _*_, _≤_, _<_}
 use mathlib.Core.Path.{_≡_, sym, ap, subst, _∙_}
 use mathlib.Core.Bool.{true}
@@ -23,7 +23,7 @@ use Rattle.decode.proofs.Records.{record-read}
 use Rattle.decode.proofs.Written.{allRead, cellsRead, cells-long}
 
 module _ (n : ℕ) (ars : List ℕ) where
-  -- The first of several records, if the next blank gets null m: its words stand before those of the others. b is its relation, and a its arity.
+  -- The first of several records, if the next blank gets null m: its words come before those of the others. b is its relation, and a its arity.
   pub record Turn (k m : ℕ) (bs : List ℕ) (b map a : ℕ) : Type 0 where
     pub known : b < n
     pub fields : allRead a map (drop 2 bs)
@@ -68,7 +68,7 @@ module _ (n : ℕ) (ars : List ℕ) where
       }
 
 module _ (start card : List ℕ) (n : ℕ) (ars : List ℕ) (count next : ℕ) where
-  -- the words of the card's rows, all of which are to be written
+  -- the words of all the card's rows
   abbrev whole : List ℕ
   whole = wordsRead n ars count next (drop (n + 3) card)
 
@@ -77,7 +77,7 @@ module _ (start card : List ℕ) (n : ℕ) (ars : List ℕ) (count next : ℕ) w
     pub low : free + blanks (got [] (readRecords n ars left (drop at card))) ≤ nulls + 1
     pub stored : Written whole (wordsRead n ars left free (drop at card)) start plot used
 
-  -- what a turn of the loop finds at its record, after which k records are left
+  -- what an iteration finds at its record; k records are left after it
   pub record Found (plot : List ℕ) (used free at k b map a : ℕ) : Type 0 where
     pub known : b < n
     pub in-card : at + 2 + 3 * ones map ≤ length card
@@ -85,7 +85,7 @@ module _ (start card : List ℕ) (n : ℕ) (ars : List ℕ) (count next : ℕ) w
     pub fields : allRead a map (drop (at + 2) card)
     pub low : free + (a - ones map) ≤ nulls + 1
     pub room : used + (1 + a) ≤ length plot
-    -- the row is written to the part from the words in use
+    -- the row is written to the part of `plot` from index `used`
     pub next-rows :
         (part : List ℕ) → part ≡ overwrite (b ∷ cellsRead free a map (drop (at + 2) card)) (drop used plot) →
         WritingRows (take used plot ++ part) (used + (1 + a)) (free + (a - ones map)) (at + 2 + 3 * ones map) k

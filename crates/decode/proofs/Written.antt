@@ -1,4 +1,4 @@
--- What a row's written and blank columns come to, one column at a time, while the row is being written. Assumes nothing.
+-- The cells of a row's written and blank columns, one column at a time, while the row is being written. Assumes nothing.
 use Prim.Native.Nat.{ℕ, suc, _+_, _-_, _/_, _%_, _≤_, _<_}
 use mathlib.Core.Path.{_≡_, refl, sym, ap, _∙_}
 use mathlib.Core.Bool.{true}
@@ -85,7 +85,7 @@ module _ (start : List ℕ) (relation arity map : ℕ) (fields : List ℕ) (next
   abbrev row : List ℕ
   row = relation ∷ cellsRead next arity map fields
 
-  -- `column` columns of the row stand in the part, and the cells of the others are still to be read
+  -- the first `column` columns of the row are in the part, and the cells of the others are still to be read
   pub record WritingRow (part : List ℕ) (bits free at column : ℕ) : Type 0 where
     pub within : column ≤ arity
     pub small : free ≤ next + column
@@ -100,7 +100,7 @@ module _ (start : List ℕ) (relation arity map : ℕ) (fields : List ℕ) (next
       pub row-room : column + 1 < length part
       row-room = omega (arith, w .stored .same, w .stored .room, cells-long free (arity - column) bits (drop at fields) (w .reads))
 
-      -- the next column's field is written in the card
+      -- the next column is written in the card
       here : bits % 2 ≡ 1 → WrittenColumn (arity - (column + 1)) bits free (drop at fields) (rw left at (w .reads))
       here = written-column (arity - (column + 1)) bits free (drop at fields) (rw left at (w .reads))
 
@@ -120,7 +120,7 @@ module _ (start : List ℕ) (relation arity map : ℕ) (fields : List ℕ) (next
             stored = store (column + 1 + 1) refl stored;
           }
 
-      -- it is blank
+      -- the next column is blank
       pub blank-step : (bits % 2 ≡ 1 → ⊥) → WritingRow (set part (column + 1) (null free)) (bits / 2) (free + 1) at (column + 1)
       blank-step even =
           let col = blank-column (arity - (column + 1)) bits free (drop at fields) (rw left at (w .reads)) even in

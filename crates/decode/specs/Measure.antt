@@ -19,14 +19,14 @@ use Rattle.decode.specs.declared.measure.Needed.the-variants as needed
 use Rattle.parse.specs.Parse.{Parsed, readEach}
 use Rattle.card.specs.Format.{Head, readField, readRecords}
 
--- what a refusal leaves
+-- what is returned with a refusal
 abbrev pub noArities : ℕ → declared-arities.Arities
 noArities why = record { answer = Refused why; arities = replicate maxRelations 0 }
 
 abbrev pub noHead : ℕ → declared-head.Head
 noHead why = record { answer = Refused why; relations = 0; arities = replicate maxRelations 0 }
 
--- an arity for each of the 8 relations; before them stand those that were read already
+-- an arity for each of the 8 relations; `before` has the arities that were read already
 unfoldable pub openedArities : List ℕ → Parsed (List ℕ) → declared-arities.Arities
 openedArities before (read ars bs) = record { answer = Done 0; arities = padded maxRelations (before ++ ars) }
 openedArities before (refused r) = noArities r
@@ -48,7 +48,7 @@ unfoldable pub measuredRecord : Parsed Record → Measured
 measuredRecord (read r bs) = measured.Record (length (r .fields)) (length (writtenOf (r .fields))) (highestIn (r .fields))
 measuredRecord (refused why) = measured.Refused why
 
--- what is returned of a record, as the paper's number and values: its columns, how many of them are written, and the highest null
+-- the answer for a record, as the paper's number and values: its arity, how many columns are written, and the highest null
 abbrev pub measuredNumber : Measured → ℕ
 measuredNumber (measured.Record arity count top) = 0
 measuredNumber (measured.Refused why) = why
@@ -61,12 +61,12 @@ pub record TellsRecord (m : Measured) (p : Parsed Record) : Type 0 where
   pub number : measuredNumber m ≡ readingNumber p
   pub values : (r : Record) (bs : List ℕ) → p ≡ read r bs → measuredValues m ≡ length (r .fields) ∷ length (writtenOf (r .fields)) ∷ highestIn (r .fields) ∷ []
 
--- the words of records
+-- how many words records need
 unfoldable pub wordsIn : List Record → ℕ
 wordsIn [] = 0
 wordsIn (r ∷ rs) = 1 + length (r .fields) + wordsIn rs
 
--- what records of a card of size bytes need, and where the last of them ends
+-- what the records of a card of `size` bytes need, and where the last one ends; bs are the bytes after it
 abbrev pub total : ℕ → List Record → List ℕ → Total
 total size rs bs = record { words = wordsIn rs; blanks = blanks rs; highest = highest rs; end = size - length bs }
 
@@ -74,7 +74,7 @@ unfoldable pub measuredRecords : ℕ → Parsed (List Record) → Needed
 measuredRecords size (read rs bs) = needed.Records (total size rs bs)
 measuredRecords size (refused why) = needed.Refused why
 
--- what is returned of all records, as the paper's number and what they need
+-- the answer for all records, as the paper's number and what the records need
 abbrev pub neededNumber : Needed → ℕ
 neededNumber (needed.Records t) = 0
 neededNumber (needed.Refused why) = why
@@ -87,6 +87,6 @@ pub record TellsRecords (n : Needed) (size : ℕ) (p : Parsed (List Record)) : T
   pub number : neededNumber n ≡ readingNumber p
   pub needs : (rs : List Record) (bs : List ℕ) → p ≡ read rs bs → neededTotal n ≡ total size rs bs ∷ []
 
--- the first pass over count records, from index start of the card
+-- the first pass over count records, from index `start` of the card
 abbrev pub measuredFrom : List ℕ → ℕ → ℕ → List ℕ → ℕ → Needed
 measuredFrom card start n ars count = measuredRecords (length card) (readRecords n ars count (drop start card))

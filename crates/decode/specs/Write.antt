@@ -1,4 +1,4 @@
--- What the second pass over a card's bytes writes, and what the first pass has shown for it.
+-- What the second pass over a card's bytes writes, and what the first pass has established for it.
 use Prim.Native.Nat.{ℕ, _+_, _≤_, _<_}
 use mathlib.Core.Path.{_≡_}
 use mathlib.Core.Bool.{true}

@@ -1,4 +1,4 @@
-// What stands before a card's records: the number of relations, their arities and the number of rows.
+// What comes before a card's records: the number of relations, their arities and the number of rows.
 ghost use mathlib.Core.Path.{_≡_};
 ghost use mathlib.Core.List.{[]};
 ghost use Prim.Native.Nat.{ℕ, _^_, _≤_, _<_};

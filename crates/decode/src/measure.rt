@@ -38,7 +38,7 @@ pub enum Needed {
     Refused(u32),
 }
 
-// The highest null of n fields, all of them written.
+// The highest null in the given number of written fields, 0 if there is none.
 fn measure_fields(bytes: &[u8], written: u32) -> Answer
     ensures { λ r. ⌜ r ≡ measuredFields (readWritten written (now (bytes .entry))) ⌝ }
 {
@@ -62,7 +62,7 @@ fn measure_fields(bytes: &[u8], written: u32) -> Answer
     Answer::Done(highest)
 }
 
-// One record, at the start of the bytes.
+// Measures one record, at the start of the bytes.
 fn measure_record(bytes: &[u8], relations: u32, arities: &[u32; 8]) -> Measured
     requires few { ⌜ relations ≤ maxRelations ⌝ }
     requires stand { ⌜ aritiesStand relations (now arities) ≡ true ⌝ }
@@ -95,7 +95,7 @@ fn measure_record(bytes: &[u8], relations: u32, arities: &[u32; 8]) -> Measured
     }
 }
 
-// Measures count records, from index start of the card.
+// Measures `count` records, from index `start` of the card.
 pub fn measure(card: &[u8], start: usize, relations: u32, arities: &[u32; 8], count: u32) -> Needed
     requires within { ⌜ start ≤ length (now card) ⌝ }
     requires few { ⌜ relations ≤ maxRelations ⌝ }

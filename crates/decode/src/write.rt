@@ -1,4 +1,4 @@
-// The second pass over a card's records, all of them checked: the rows are written.
+// The second pass over a card's records, which the first pass has checked: the rows are written.
 ghost use mathlib.Core.Path.{_≡_};
 ghost use mathlib.Core.Bool.{true};
 ghost use mathlib.Core.List.{[], _∷_};
@@ -15,7 +15,7 @@ use calculus::cell::CONSTANTS;
 use parse::number::byte;
 use parse::number::number;
 
-// Writes one row at the start of a part of the plot; the next blank gets the given null.
+// Writes one row at the start of a part of `plot`; the row's first blank gets null `next`.
 fn write_row(part: &mut [u32], relation: u32, arity: usize, map: u32, fields: &[u8], next: u32)
     requires { ⌜ 1 + arity ≤ length (now part) ⌝ }
     requires { ⌜ arity ≤ maxColumns ⌝ }
@@ -41,7 +41,7 @@ fn write_row(part: &mut [u32], relation: u32, arity: usize, map: u32, fields: &[
     }
 }
 
-// Writes count rows from the plot's first word; the records are read already.
+// Writes `count` rows from the first word of `plot`; the first pass has checked the records.
 pub fn write_rows(
     plot: &mut [u32],
     card: &[u8],

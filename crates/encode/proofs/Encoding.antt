@@ -1,4 +1,4 @@
--- What the writer's answer says: the size of a card, and the card as its head and its records. Assumes nothing.
+-- The answer of encode: the size of a card, and the card as its head and its records. Assumes nothing.
 use Prim.Native.Nat.{ℕ, _+_, _-_, _*_, _/_, _%_, _≤_, _<_}
 use mathlib.Core.Path.{_≡_, sym, _∙_, ap}
 use mathlib.Core.Bool.{true, false}
@@ -24,7 +24,7 @@ use Rattle.encode.proofs.RecordSteps.{records-size}
 use Rattle.instance.proofs.Sound.{sound-gives}
 use Rattle.calculus.specs.Overwrite.{overwrite}
 
--- a head, and then records in the part after it, over the first elements of a list
+-- a head and then, in the part after it, records are written to the front of a list
 pub joined : (head records out : List ℕ) (start : ℕ) (lent back : List ℕ) → length head ≡ start → start + length records ≤ length out
     → lent ≡ head ++ drop start out → back ≡ overwrite records (take (length lent - start) (drop start lent))
     → putMid start (length lent - start) lent back ≡ overwrite (head ++ records) out
@@ -42,7 +42,7 @@ module _ (h : Header) (ws : List ℕ) (s : sound h ws ≡ true) (eight : length 
       let few = sound-gives h ws s .headed .few in
       simp (length-append, length-take) (omega arith)
 
-  -- three bytes for each word in use, and one less for each row
+  -- three bytes for each word in use, but one fewer for each row
   pub record-size : length (recordsBytes (rows h ws)) + length (rows h ws) ≡ 3 * h .used
   record-size = let g = sound-gives h ws s in omega (arith, records-size (rows h ws), ap length (g .words), g .in-use)
 
@@ -50,7 +50,7 @@ module _ (h : Header) (ws : List ℕ) (s : sound h ws ≡ true) (eight : length 
   unfolding cardBytes
   card-size = rw length-append (omega (arith, head-size, record-size))
 
-  -- the head, and then the records in the part after it, are the card
+  -- the head and then, in the part after it, the records are the card
   pub all-written : (out lent back : List ℕ) (count : ℕ) → length (rows h ws) ≡ count → length (cardBytes h (rows h ws)) ≤ length out
       → lent ≡ h .relations ∷ take (h .relations) (h .arities) ++ count / 256 % 256 ∷ count % 256 ∷ drop (h .relations + 3) out
       → back ≡ overwrite (recordsBytes (rows h ws)) (take (length lent - (h .relations + 3)) (drop (h .relations + 3) lent))
@@ -82,7 +82,7 @@ module _ (h : Header) (ws out : List ℕ) where
   unfolding encoded encodedBytes
   done e l = let t = le-leb (length (cardBytes h (rows h ws))) (length out) l in (simp (e, t), simp (e, t))
 
-  -- and what it tells: the number of the card's bytes
+  -- the answer in the paper's numbers: the number of the card's bytes
   pub encode-told :
       {r : Answer} {P : Type 0} → (r ≡ encoded h ws out) × P → (r ≡ encoded h ws out) × (P × Tells r (encoded h ws out) (length (cardBytes h (rows h ws))))
   unfolding encoded

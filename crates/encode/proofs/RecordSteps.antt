@@ -1,4 +1,4 @@
--- The bytes of records: how many they are, and one cell after another. Assumes nothing.
+-- The bytes of records: how many there are, and the bytes of one cell after another. Assumes nothing.
 use Prim.Native.Nat.{ℕ, zero, suc, _+_, _*_, _≤_, _<_}
 use mathlib.Core.Path.{_≡_, refl}
 use mathlib.Core.Bool.{true}
@@ -24,14 +24,14 @@ pub fields-rest : (cs : List ℕ) (i : ℕ) → i < length cs → fieldsBytes (d
 unfolding fieldsBytes
 fields-rest cs i l = rw (rest cs i l)
 
--- three bytes for each word, and one less for the first of a row
+-- three bytes for each word, but two for the first word of a row
 pub records-size : (rs : List Row) → length (recordsBytes rs) + length rs ≡ 3 * length (wordsOf rs)
 unfolding recordsBytes wordsOf
 records-size [] = refl
 records-size (r ∷ rs) =
     omega (arith, length-append (fieldsBytes (r .cells)) (recordsBytes rs), fields-size (r .cells), length-append (r .cells) (wordsOf rs), records-size rs)
 
--- words that stand under n relations stand under more
+-- words that are well formed for n relations are well formed for more
 pub more-stand : (n m : ℕ) (ars : List ℕ) → n ≤ m → (left : ℕ) (ws : List ℕ) → wordsStand n ars left ws ≡ true → wordsStand m ars left ws ≡ true
 unfolding wordsStand
 more-stand n m ars l zero [] e = refl

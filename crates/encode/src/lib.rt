@@ -17,10 +17,10 @@ use instance::header::Header;
 use instance::scan::Scanned;
 use instance::scan::scan;
 
-// the map of a record with every column written, by its number of columns
+// the map of a record with every column written, indexed by the number of columns
 const FULL_MAPS: [u8; 7] = [0, 1, 3, 7, 15, 31, 63];
 
-// The bytes before the records.
+// Writes the bytes before the records.
 fn write_head(out: &mut [u8], relations: u32, arities: &[u32; 8], count: u32)
     requires { ⌜ (headerStands relations (now arities) ≡ true) × (length (now arities) ≡ maxRelations) × (relations + 3 ≤ length (now out)) ⌝ }
     ensures { λ _. ⌜ now (out .exit) ≡ relations ∷ take relations (now (arities .entry)) ++ count / 256 % 256 ∷ count % 256 ∷ drop (relations + 3) (now (out .entry)) ⌝ }
@@ -36,7 +36,7 @@ fn write_head(out: &mut [u8], relations: u32, arities: &[u32; 8], count: u32)
     out[n + 2] = (count % 256) as u8;
 }
 
-// The record of one row.
+// Writes the record of one row.
 fn write_record(out: &mut [u8], relation: u32, cells: &[u32])
     requires { ⌜ (relation < maxRelations) × (length (now cells) ≤ maxColumns) × (2 + 3 * length (now cells) ≤ length (now out)) ⌝ }
     ensures { λ _. ⌜ now (out .exit) ≡ overwrite (relation ∷ fullMap (length (now (cells .entry))) ∷ fieldsBytes (now (cells .entry))) (now (out .entry)) ⌝ }
@@ -55,7 +55,7 @@ fn write_record(out: &mut [u8], relation: u32, cells: &[u32])
     }
 }
 
-// The records of the rows that the words stand for, row by row.
+// Writes the records of the rows in the words, row by row.
 fn write_records(out: &mut [u8], arities: &[u32; 8], words: &[u32])
     requires { ⌜ ((r : ℕ) → arityOf (now arities) r ≤ maxColumns) ⌝ }
     requires { ⌜ wordsStand maxRelations (now arities) 0 (now words) ≡ true ⌝ }
@@ -74,7 +74,7 @@ fn write_records(out: &mut [u8], arities: &[u32; 8], words: &[u32])
     }
 }
 
-// Writes the card of an instance from the first byte, and returns its number of bytes.
+// Writes the card of an instance from the first byte, and returns the number of its bytes.
 pub fn encode(header: Header, plot: &[u32], out: &mut [u8]) -> Answer
     ensures answer { λ r. ⌜ r ≡ encoded header (now (plot .entry)) (now (out .entry)) ⌝ }
     ensures bytes { λ r. ⌜ now (out .exit) ≡ encodedBytes header (now (plot .entry)) (now (out .entry)) ⌝ }

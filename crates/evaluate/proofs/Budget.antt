@@ -1,4 +1,4 @@
--- What an outcome within a budget says. Assumes nothing.
+-- What follows from an outcome within a budget. Assumes nothing.
 use Prim.Native.Nat.{ℕ, _≤_, _<_}
 use mathlib.Core.Path.{_≡_, refl}
 use mathlib.Core.Bool.{Bool, true, false, cond}

@@ -1,4 +1,4 @@
--- What a node's answer has to be, from its children's. Assumes nothing.
+-- The right answer for a node, from the answers for its children. Assumes nothing.
 use Prim.Native.Nat.{ℕ, zero, suc, _+_, _-_, _≤_, _<_}
 use mathlib.Core.Path.{_≡_, refl, sym, ap, _∙_, subst}
 use mathlib.Core.Bool.{true, false}
@@ -54,13 +54,13 @@ pub none-above : (w : ℕ) → 8 ≤ w → kindOf w ≡ noKind
 unfolding kindOf
 none-above w h = List·getD-eq-default kinds noKind h
 
--- what a node that stands says of its children, by its kind
+-- what a well-formed node says of its children, by its kind
 pub stands-by :
     (n : ℕ) (ars ws qs counts : List ℕ) (i : ℕ) (kind : Kind) →
     Ready n ars ws qs counts → i < nodeCount qs → kindOf (wordAt qs i 0) ≡ kind → NodeBy n ars qs i kind
 stands-by n ars ws qs counts i kind r known is = subst (NodeBy n ars qs i) is (r .nodes i known)
 
--- what an atom's node says: its relation, how many rows that has, and its arity
+-- what an atom's node says: its relation, the number of rows of that relation, and its arity
 pub record AtomStands (n : ℕ) (ars ws qs counts : List ℕ) (i : ℕ) : Type 0 where
   pub relation : wordAt qs i 1 < n
   pub eight : wordAt qs i 1 < maxRelations
@@ -85,13 +85,13 @@ atom-stands n ars ws qs counts i r known is =
       terms = by .1;
     }
 
--- ---- what a walk over values keeps
+-- ---- the invariant of a walk over values
 
--- what the child says of a value
+-- the child's outcome for a value
 abbrev pub one : Structure → List ℕ → List ℕ → ℕ → List ℕ → ℕ → ℕ → Outcome
 one S ars qs i e k c = outcomeAt S ars qs k (wordAt qs i 2) (set e (wordAt qs i 1) c)
 
--- t said and n paid for the first x values, and the others are left
+-- t is the verdict so far and n the cost of the first x values; the other values are left
 pub record Walking (S : Structure) (ars qs : List ℕ) (i : ℕ) (j : Junction) (e values : List ℕ) (b : ℕ) (t : Truth) (n x : ℕ) : Type 0 where
   pub low : n ≤ b
   pub within-values : x ≤ length values
@@ -100,7 +100,7 @@ pub record Walking (S : Structure) (ars qs : List ℕ) (i : ℕ) (j : Junction) 
       (k : ℕ) → nodeCount qs ≤ i + suc k →
       within b (over (S .start j) j (one S ars qs i e k) values) ≡ within b (sofar j t n (over (S .start j) j (one S ars qs i e k) (drop x values)))
 
--- an assignment that differs from e in variable v alone, where old stands in e
+-- an assignment that differs from e only in variable v, which has the value old in e
 pub set-again : (e env : List ℕ) (v old c : ℕ) → set env v old ≡ e → set env v c ≡ set e v c
 set-again e env v old c back = sym (set-set env v old c) ∙ ap (λ (l : List ℕ). set l v c) back
 
@@ -116,13 +116,13 @@ module _ (S : Structure) (ars qs : List ℕ) (i : ℕ) (known : i < nodeCount qs
   outcome-by : (kind : Kind) → kindOf (wordAt qs i 0) ≡ kind → (k : ℕ) (e : List ℕ) → outcomeAt S ars qs (suc k) i e ≡ eval S (formulaBy ars qs (formulaAt ars qs k) i kind) e
   outcome-by kind h k e = ap (λ (f : Formula). eval S f e) (by-kind kind h k)
 
-  -- a node has one node left at least, and its children, whose numbers are greater, have one fewer
+  -- a node has at least one node left, and its children, whose numbers are greater, have one fewer
   right-of : (e : List ℕ) (b : ℕ) (r : Evaluated) → ((k : ℕ) → nodeCount qs ≤ i + suc k → r ≡ within b (outcomeAt S ars qs (suc k) i e)) → RightIn S ars qs i e b r
   right-of e b r f k h =
       let one : k ≡ suc (k - 1) = omega arith in
       subst (λ (x : ℕ). r ≡ within b (outcomeAt S ars qs x i e)) (sym one) (f (k - 1) (omega arith))
 
-  -- a node with no children: its outcome does not turn on the nodes left
+  -- a node without children: its outcome does not depend on the number of nodes left
   leaf-right : (e : List ℕ) (b : ℕ) (o : Outcome) → ((k : ℕ) → outcomeAt S ars qs (suc k) i e ≡ o) → RightIn S ars qs i e b (within b o)
   leaf-right e b o f = right-of e b (within b o) (λ k h. ap (within b) (sym (f k)))
 
@@ -132,7 +132,7 @@ module _ (S : Structure) (ars qs : List ℕ) (i : ℕ) (known : i < nodeCount qs
   unfolding eval
   equal-right is e b = leaf-right e b _ (λ k. outcome-by equals is k e)
 
-  -- an atom is what the structure says
+  -- the outcome of an atom is the structure's
   pub atom-right : kindOf (wordAt qs i 0) ≡ rowStands → (e : List ℕ) (b : ℕ) →
       RightIn S ars qs i e b
       (within b (S .holds (wordAt qs i 1) (values e (termsAt qs i 2 (arityOf ars (wordAt qs i 1))))))
@@ -164,7 +164,7 @@ module _ (S : Structure) (ars qs : List ℕ) (i : ℕ) (known : i < nodeCount qs
     pair : (k : ℕ) → Outcome
     pair k = joined j (outcomeAt S ars qs k (wordAt qs i 1) e) (outcomeAt S ars qs k (wordAt qs i 2) e)
 
-    -- the pair is its first outcome with nothing said and paid before
+    -- the node's outcome is the pair's, with no verdict and no cost before it
     pair-is : (k : ℕ) → outcomeAt S ars qs (suc k) i e ≡ sofar j (unit j) 0 (pair k)
     unfolding eval pair
     pair-is k = outcome-by (joins j) is k e ∙ sym (start j (pair k))
@@ -196,7 +196,7 @@ module _ (S : Structure) (ars qs : List ℕ) (i : ℕ) (known : i < nodeCount qs
       both-low = was-verdict b _ a n (sym (r (nodeCount qs) (omega arith))) .fits
 
       module _ (more : settles j a ≡ false) where
-        -- the left one said and paid, the right one is left
+        -- the left child has its verdict and cost, and the right child is left
         then : (k : ℕ) → nodeCount qs ≤ i + suc k → sofar j (unit j) 0 (pair k) ≡ sofar j a n (outcomeAt S ars qs k (wordAt qs i 2) e)
         unfolding pair
         then k h =

@@ -1,4 +1,4 @@
--- Asking one thing after another within a budget: what was said and paid so far, and what the next answer makes of it. A junction is two
+-- Evaluating one thing after another within a budget: the verdict and cost so far, and what the next answer adds. A junction is a walk over two
 -- values, so the same laws serve it. Assumes nothing.
 use Prim.Native.Nat.{ℕ, _+_, _-_, _≤_}
 use mathlib.Core.Path.{_≡_, refl, ap, _∙_}
@@ -16,7 +16,7 @@ use Rattle.evaluate.specs.declared.evaluated.Evaluated.the-variants.{Ver
 use Rattle.evaluate.specs.Within.{within}
 use Rattle.evaluate.proofs.Budget.{spent, verdict, was-spent, was-verdict}
 
--- what is said and paid, once o follows
+-- the verdict and the cost so far, with outcome o added
 abbrev pub sofar : Junction → Truth → ℕ → Outcome → Outcome
 sofar j t n o = record { truth = join j t (o .truth); cost = n + o .cost }
 
@@ -80,7 +80,7 @@ module _ (j : Junction) (b : ℕ) (t : Truth) (n : ℕ) (low : n ≤ b) (o p : O
         let pays : n + (o .cost + asked j (o .truth) (p .cost)) ≡ n + m + p .cost = omega (arith, w .cost, asks) in
         alike says pays
 
--- a walk says what it starts from
+-- the verdict of a walk includes the truth value that it starts from
 over-says : (s : Truth) (j : Junction) (f : ℕ → Outcome) (cs : List ℕ) → join j s (over s j f cs .truth) ≡ over s j f cs .truth
 over-says s j f [] = join-same j s
 over-says s j f (c ∷ cs) = join-swap j s (f c .truth) (over s j f cs .truth) ∙ ap (join j (f c .truth)) (over-says s j f cs)
@@ -93,7 +93,7 @@ end j b t s n said low =
     let pays : n + 0 ≡ n = omega arith in
     ap (within b) (alike said pays) ∙ verdict b (record { truth = t; cost = n }) low
 
--- the last thing asked
+-- the last thing that is evaluated
 module _ (j : Junction) (b : ℕ) (t : Truth) (n : ℕ) (low : n ≤ b) (o : Outcome) where
   pub last-spent : within (b - n) o ≡ Spent → within b (sofar j t n o) ≡ Spent
   last-spent e = spent b (sofar j t n o) (omega (arith, was-spent (b - n) o e))

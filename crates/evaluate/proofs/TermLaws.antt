@@ -27,7 +27,7 @@ pub from-base : (w : ℕ) → variableBase ≤ w → termOf w ≡ var (w - varia
 unfolding termOf
 from-base w h = rw (le-leb variableBase w h)
 
--- a term that is no constant is one of 16 variables
+-- a term that is not a constant is one of 16 variables
 pub few-variables : (w : ℕ) → isTerm w ≡ true → variableBase ≤ w → w - variableBase < variables
 few-variables w t h =
     let rest : (leb variableBase w && ltb w (variableBase + variables)) ≡ true = rw (le-ltb w constants (omega arith)) at t in
@@ -49,7 +49,7 @@ unfolding termsAt
 terms-long qs i j zero e = refl
 terms-long qs i j (suc k) e = ap suc (terms-long qs i (suc j) k e)
 
--- one term more of a row
+-- one more term of a row
 pub row-more :
     (qs : List ℕ) (i : ℕ) (e row : List ℕ) (j v : ℕ) → j < maxColumns → row ≡ padded maxColumns (values e (termsAt qs i 2 j)) →
     v ≡ value e (termOf (wordAt qs i (2 + j))) → set row j v ≡ padded maxColumns (values e (termsAt qs i 2 (j + 1)))
@@ -60,7 +60,7 @@ row-more qs i e row j v room so-far is =
     sym (values-more e (termsAt qs i 2 j) (termOf (wordAt qs i (2 + j)))) ∙ ap (values e) (sym (terms-more qs i 2 j)) ∙
     ap (λ (n : ℕ). values e (termsAt qs i 2 n)) (sym (add-one j)))
 
--- the row that a node asks about has six words, and begins with its terms' cells
+-- the row that a node asks about has six words, and begins with the values of its terms
 module _ (qs : List ℕ) (i : ℕ) (e row : List ℕ) (arity : ℕ) (is : row ≡ padded maxColumns (values e (termsAt qs i 2 arity))) where
   pub row-six : arity ≤ maxColumns → length row ≡ maxColumns
   row-six narrow = ap length is ∙ padded-length maxColumns (values e (termsAt qs i 2 arity)) (omega (arith, terms-long qs i 2 arity e))

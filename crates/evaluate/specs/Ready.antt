@@ -1,4 +1,4 @@
--- What evaluation is given: a sound instance's words, a question that passed its check, the number of rows of each relation, and the instance's values.
+-- What evaluation is given: a sound instance's words, a question that passed its check, the number of rows of each relation, and the active domain.
 use Prim.Native.Nat.{ℕ, _+_, _*_, _<_, _≤_}
 use mathlib.Core.Path.{_≡_}
 use mathlib.Core.Bool.{Bool, true, false}
@@ -18,7 +18,7 @@ use Rattle.evaluate.specs.declared.evaluated.Evaluated.{Evaluated}
 use Rattle.evaluate.specs.Within.{within}
 use Rattle.instance.specs.Standing.{Standing}
 
--- the structure that words stand for
+-- the structure of the rows in the words
 abbrev pub world : List ℕ → List ℕ → Structure
 world ars ws = closed (rowsFrom ars 0 ws)
 
@@ -41,19 +41,19 @@ pub record Evaluable (n : ℕ) (ars ws qs counts values : List ℕ) (i : ℕ) (e
   pub known : i < nodeCount qs
   pub sixteen : length e ≡ variables
 
--- an answer is right for node i: with as many nodes left as there are, the outcome within the budget
+-- answer r is right for node i: for every k that suffices for the nodes from i, it is the outcome within the budget
 abbrev pub RightIn : Structure → List ℕ → List ℕ → ℕ → List ℕ → ℕ → Evaluated → Type 0
 RightIn S ars qs i e budget r = (k : ℕ) → nodeCount qs ≤ i + k → r ≡ within budget (outcomeAt S ars qs k i e)
 
 abbrev pub Right : List ℕ → List ℕ → List ℕ → ℕ → List ℕ → ℕ → Evaluated → Type 0
 Right ars ws qs i e budget r = RightIn (world ars ws) ars qs i e budget r
 
--- every is and, some is or
+-- `and` for every, `or` for some
 abbrev pub junctionOf : Bool → Junction
 junctionOf true = conj
 junctionOf false = disj
 
--- the terms in so many words of node i, from word 2 on, stand
+-- the `arity` words of node i from word 2 are terms
 pub record TermsStand (qs : List ℕ) (i arity : ℕ) (e : List ℕ) : Type 0 where
   pub known : i < nodeCount qs
   pub narrow : arity ≤ maxColumns

@@ -1,4 +1,4 @@
-// Evaluation of a question's nodes. The stack grows with the question's depth alone: the walk over values is a loop.
+// Evaluation of a question's nodes. The stack grows only with the question's depth, since the walk over values is a loop.
 ghost use mathlib.Core.Path.{_≡_};
 ghost use Rattle.calculus.specs.Eval.{settles as settlesOf, Structure};
 ghost use Rattle.calculus.specs.Kleene.{join as joinOf, unit as unitOf};
@@ -30,7 +30,7 @@ fn word(query: &[u32], node: usize, j: usize) -> usize
     query[node * NODE_WORDS + j] as usize
 }
 
-// Gives a variable a cell.
+// Gives a variable the value `cell`.
 fn assign(env: &mut [u32; 16], variable: usize, cell: u32)
     requires { ⌜ (variable < variables) × (length (now env) ≡ variables) ⌝ }
     ensures { λ _. ⌜ now (env .exit) ≡ set (now (env .entry)) variable cell ⌝ }
@@ -38,7 +38,7 @@ fn assign(env: &mut [u32; 16], variable: usize, cell: u32)
     env[variable] = cell;
 }
 
-// An atom.
+// Evaluates an atom.
 fn atom(
     query: &[u32],
     node: usize,
@@ -67,7 +67,7 @@ fn atom(
     )
 }
 
-// An equality.
+// Evaluates an equality.
 fn equality(query: &[u32], node: usize, env: &[u32; 16], budget: u32) -> Evaluated
     requires { ⌜ (node < nodeCount (now query)) × (length (now env) ≡ variables) ⌝ }
     requires { ⌜ (isTerm (wordAt (now query) node 1) ≡ true) × (isTerm (wordAt (now query) node 2) ≡ true) ⌝ }
@@ -99,7 +99,7 @@ fn settles(every: bool, a: Truth) -> bool
     }
 }
 
-// What joining none gives.
+// What joining no verdicts gives.
 fn unit(every: bool) -> Truth
     ensures { λ r. ⌜ r ≡ unitOf (junctionOf every) ⌝ }
 {

@@ -1,4 +1,4 @@
-// Terms, and what an equality says.
+// Terms, and the verdict of an equality.
 ghost use mathlib.Core.Path.{_≡_};
 ghost use mathlib.Core.Bool.{true};
 ghost use Prim.Native.Nat.{_+_, _<_};
@@ -16,7 +16,7 @@ use calculus::truth::Truth;
 use query::words::NODE_WORDS;
 use query::words::VARIABLE_BASE;
 
-// Whether two cells are the same: true, false for two different constants, else unknown.
+// Whether two cells are equal: true if they are the same, false if they are two different constants, otherwise unknown.
 pub fn same(a: u32, b: u32) -> Truth
     ensures { λ r. ⌜ r ≡ equalityOf a b ⌝ }
 {
@@ -32,7 +32,7 @@ pub fn same(a: u32, b: u32) -> Truth
     Truth::False
 }
 
-// The cell that a term in word j of a node stands for.
+// The value of the term in word j of a node.
 pub fn term(query: &[u32], node: usize, j: usize, env: &[u32; 16]) -> u32
     requires { ⌜ (node < nodeCount (now query)) × (j < nodeWords) ⌝ }
     requires { ⌜ (isTerm (wordAt (now query) node j) ≡ true) × (length (now env) ≡ variables) ⌝ }
@@ -46,7 +46,7 @@ pub fn term(query: &[u32], node: usize, j: usize, env: &[u32; 16]) -> u32
     env[v]
 }
 
-// The cells that a node's terms stand for, padded with 0; an atom's terms begin at word 2.
+// The values of a node's terms, padded with 0; an atom's terms begin at word 2.
 pub fn asked_row(query: &[u32], node: usize, arity: usize, env: &[u32; 16]) -> [u32; 6]
     requires { ⌜ TermsStand (now query) node arity (now env) ⌝ }
     ensures { λ r. ⌜ r ≡ padded maxColumns (values (now (env .entry)) (termsAt (now (query .entry)) node 2 arity)) ⌝ }

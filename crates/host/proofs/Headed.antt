@@ -1,4 +1,4 @@
--- What a header slice of ten words, or of another number, makes of an answer and of what is lent. Assumes nothing.
+-- What the length of the header slice, ten words or not, makes of an answer and of what is lent. Assumes nothing.
 use Prim.Native.Nat.{ℕ}
 use mathlib.Core.Path.{_≡_, sym, ap, _∙_}
 use mathlib.Core.List.{List}
@@ -25,7 +25,7 @@ module _ (hs : List ℕ) where
     pub kept-yes : {A : Type 0} → (new old : A) → ifHeaded hs new old ≡ new
     kept-yes new old = rw (eq-eqb (length hs) headerLength ten)
 
-    -- a call that was handed the header of the slice
+    -- a call that was given the header in the slice
     module _ {h : Header} (is : h ≡ headerOf hs) where
       pub answered : (call : Header → Answer) {a : Answer} → a ≡ call h → a ≡ headed hs (call (headerOf hs))
       answered call e = e ∙ ap call is ∙ sym (headed-yes (call (headerOf hs)))

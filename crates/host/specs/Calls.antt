@@ -1,4 +1,4 @@
--- The exported calls: those of `instance`, `card` and `answer`, of a header that is ten words of a slice.
+-- The exported calls: those that `instance`, `card` and `answer` define, with a header that is a slice of ten words.
 use Prim.Native.Nat.{ℕ}
 use mathlib.Core.List.{List}
 use Rattle.calculus.specs.declared.answer.Answer.{Answer}

@@ -20,10 +20,10 @@ headerOf hs = headerWith (getD hs 0 0) (take maxRelations (drop 1 hs)) (getD hs 
 unfoldable pub headerWords : Header → List ℕ
 headerWords h = h .relations ∷ h .arities ++ h .used ∷ []
 
--- a slice of another length is no header, and so the plot breaks a rule of its section: 41, before all else
+-- a slice of another length is no header, and so the plot breaks a rule of its section: 41, before any other refusal
 abbrev pub headed : List ℕ → Answer → Answer
 headed hs a = demand (eqb (length hs) headerLength) (Refused unsound) a
 
--- what such a slice leaves of the rest that is lent: all of it
+-- the new content if the header slice has ten words, otherwise the old
 abbrev pub ifHeaded : {A : Type 0} → List ℕ → A → A → A
 ifHeaded hs new old = cond (eqb (length hs) headerLength) new old

@@ -1,4 +1,4 @@
-// The calls for a host in C, on numbers and slices: each returns 0 if it is accepted, and otherwise the number of the refusal.
+// The calls for a host in C, on numbers and slices: each returns 0 if it is accepted, otherwise the number of the refusal.
 ghost use mathlib.Core.Path.{_≡_};
 ghost use Rattle.calculus.specs.Answer.{numberOf, valueOf};
 ghost use Rattle.answer.specs.Numbers.{askedNumber, verdictOf, looksOf};
@@ -19,7 +19,7 @@ use words::read_header;
 use words::value;
 use words::verdict;
 
-// Reading a card.
+// Reads a card.
 #[no_mangle]
 pub extern "C" fn plotask_decode(card: &[u8], header: &mut [u32], plot: &mut [u32]) -> u32
     ensures number { λ r. ⌜ r ≡ numberOf (decodeAnswer (now (card .entry)) (now (header .entry)) (now (plot .entry))) ⌝ }
@@ -36,7 +36,7 @@ pub extern "C" fn plotask_decode(card: &[u8], header: &mut [u32], plot: &mut [u3
     number(answer)
 }
 
-// Entering a row.
+// Enters a row.
 #[no_mangle]
 pub extern "C" fn plotask_insert(
     header: &mut [u32],
@@ -58,7 +58,7 @@ pub extern "C" fn plotask_insert(
     number(answer)
 }
 
-// A fill; count is the number of cells that held the mark.
+// Makes a fill; count gets the number of cells that held the mark.
 #[no_mangle]
 pub extern "C" fn plotask_substitute(
     header: &[u32],
@@ -79,7 +79,7 @@ pub extern "C" fn plotask_substitute(
     number(answer)
 }
 
-// The census; count is 200.
+// Takes a census; count gets 200.
 #[no_mangle]
 pub extern "C" fn plotask_null_counts(
     header: &[u32],
@@ -99,7 +99,7 @@ pub extern "C" fn plotask_null_counts(
     number(counted)
 }
 
-// Writing a card; count is the number of its bytes.
+// Writes a card; count gets the number of its bytes.
 #[no_mangle]
 pub extern "C" fn plotask_encode(
     header: &[u32],
@@ -119,7 +119,7 @@ pub extern "C" fn plotask_encode(
     number(written)
 }
 
-// Asking; truth is 0 for false, 1 for unknown and 2 for true, and cost the looks.
+// Asks a question; truth gets 0 for false, 1 for unknown or 2 for true, and cost gets the looks.
 #[no_mangle]
 pub extern "C" fn plotask_ask(
     header: &[u32],

@@ -14,10 +14,10 @@ use calculus::truth::Truth;
 use instance::header::Header;
 use instance::header::header_with;
 
-// the words of a header
+// the number of words of a header
 pub const HEADER: usize = 10;
 
-// Eight words of a slice, from word `at`.
+// Eight words of a slice, from index `at`.
 fn eight(words: &[u32], at: usize) -> [u32; 8]
     requires { ⌜ (at + maxRelations ≤ length (now words)) × (at ≤ headerLength) ⌝ }
     ensures { λ r. ⌜ r ≡ take maxRelations (drop at (now (words .entry))) ⌝ }
@@ -31,7 +31,7 @@ fn eight(words: &[u32], at: usize) -> [u32; 8]
     values
 }
 
-// Writes eight words into a slice, from word `at`.
+// Writes eight words into a slice, from index `at`.
 fn put_eight(words: &mut [u32], at: usize, values: &[u32; 8])
     requires { ⌜ (at + maxRelations ≤ length (now words)) × (at ≤ headerLength) × (length (now values) ≡ maxRelations) ⌝ }
     ensures { λ _. ⌜ now (words .exit) ≡ paste (now (words .entry)) at (now (values .entry)) maxRelations ⌝ }
@@ -61,7 +61,7 @@ fn write_header(words: &mut [u32], header: Header)
     words[9] = header.used;
 }
 
-// The header that an accepted call leaves; a refused one leaves the words as they are.
+// Writes the header that an accepted call leaves; a refused call leaves the words as they are.
 pub fn put_header(words: &mut [u32], answer: Answer, header: Header)
     requires { ⌜ length (now words) ≡ headerLength ⌝ }
     ensures { λ _. ⌜ now (words .exit) ≡ after answer (headerWords header) (now (words .entry)) ⌝ }

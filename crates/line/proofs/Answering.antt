@@ -1,4 +1,4 @@
--- What is asked of a card that is read or refused, and the line of an answer. Assumes nothing.
+-- The answer for a card that is accepted or refused, and the line of an answer. Assumes nothing.
 use Prim.Native.Nat.{ℕ, _≤_, _<_}
 use mathlib.Core.Path.{_≡_}
 use mathlib.Core.List.{List}

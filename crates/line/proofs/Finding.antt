@@ -1,4 +1,4 @@
--- The fields of an input, found one after the other: what stands so far says what the whole input reads as. Assumes nothing.
+-- The fields of an input, found one after the other: the fields so far determine what the whole input is read as. Assumes nothing.
 use Prim.Native.Nat.{ℕ, _+_, _-_, _*_, _≤_, _<_}
 use mathlib.Core.Path.{_≡_, ap, _∙_}
 use mathlib.Core.List.{List, []}
@@ -16,7 +16,7 @@ use Rattle.line.specs.Fields.{Fields, readFields, wholly, maxInput, read
 abbrev fields : List ℕ → List ℕ → List ℕ → ℕ → Fields
 fields card words candidate budget = record { card = card; words = words; candidate = candidate; budget = budget }
 
--- what is left to read after the number of cells, after the count of words, after the card's length
+-- what is left to read after the number of cells, after the count of words, and after the card's length
 abbrev pub fromCells : List ℕ → List ℕ → ℕ → List ℕ → Parsed Fields
 fromCells card words k bs =
     andThen (readNumbers 3 k bs)
@@ -29,7 +29,7 @@ fromWords card count bs = andThen (readNumbers 4 count bs) (λ words bs. andThen
 abbrev pub fromCard : ℕ → List ℕ → Parsed Fields
 fromCard size bs = andThen (readBytes size bs) (λ card bs. andThen (readNumber 2 bs) (λ count bs. fromWords card count bs))
 
--- Items and the next field's number after them, whatever follows: too few bytes are refused, and enough are read.
+-- Items, then a number, then whatever follows: too few bytes are refused, and enough are read.
 cuts-items : {A B : Type 0} {m : ℕ} (n : ℕ) {p : List ℕ → Parsed A} (f : A → ℕ → List ℕ → Parsed B) → Takes m p
     → Cuts (m + n) (λ bs. andThen (p bs) (λ a bs. andThen (readNumber n bs) (λ x bs. f a x bs)))
 cuts-items n f t = cuts-then t (λ a bs l. rw (takes-number n .cut bs l))
@@ -57,7 +57,7 @@ module _ (input : List ℕ) (fits : length input ≤ maxInput) where
   unfolding readFields
   to-card number = starts ∙ rw number
 
--- what is known of an input whose bytes before index `at` are read
+-- what is known of an input whose bytes before index `at` were read
 module _ (input : List ℕ) (at : ℕ) where
   cut-after : (n : ℕ) {p : List ℕ → Parsed Fields} → readInput input ≡ wholly (p (drop at input)) → Cuts n p → at ≤ length input → length input < at + n
       → readInput input ≡ refused cut-short

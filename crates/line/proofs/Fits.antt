@@ -1,4 +1,4 @@
--- A line is no longer than the bytes that it was written to. Assumes nothing.
+-- A line is no longer than the bytes that it is written to. Assumes nothing.
 use Prim.Native.Nat.{ℕ, _≤_}
 use mathlib.Core.Path.{_≡_, ap}
 use mathlib.Core.Bool.{Bool, true, false}

@@ -12,7 +12,7 @@ use Rattle.calculus.proofs.Stores.{overwrite-length, overwrite-next}
 use Rattle.decimal.specs.Decimal.{digits}
 use Rattle.line.specs.Text.{lineWith, lineFeed}
 
--- a list with a word in front, whose part after the word was lent and came back
+-- a list with a word at the front, if the part after the word was lent and returned
 pub with-word : (word ds out front part : List ℕ) → length word ≤ length out → front ≡ overwrite word out
     → part ≡ overwrite ds (take (length front - length word) (drop (length word) front))
     → putMid (length word) (length front - length word) front part ≡ overwrite (word ++ ds) out

@@ -1,4 +1,4 @@
--- A question of too many words is refused by its length alone, so that its first words stand for all of them. Assumes nothing.
+-- A question of too many words is refused for its length alone, so its first words get the same answer as all of them. Assumes nothing.
 use Prim.Native.Nat.{ℕ, _*_, _%_, _<_, min}
 use mathlib.Core.Path.{_≡_, refl}
 use mathlib.Core.Bool.{Bool, true, false, _&&_}

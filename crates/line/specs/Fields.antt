@@ -44,7 +44,7 @@ maxInput = 16384
 unfoldable pub readInput : List ℕ → Parsed Fields
 readInput bs = demand (leb (length bs) maxInput) (refused input-too-long) (wholly (readFields bs))
 
--- the fields that stand at places of the input
+-- the fields at the given places of the input
 abbrev pub fieldsAt : List ℕ → Places → Fields
 fieldsAt input p = record {
   card = take (p .size) (drop 2 input);
@@ -53,7 +53,7 @@ fieldsAt input p = record {
   budget = p .budget;
 }
 
--- the places of fields, all of them within the input
+-- places that are within the input
 pub record Standing (input : List ℕ) (p : Places) : Type 0 where
   pub card : 2 + p .size ≤ length input
   pub words : p .words ≤ length input
@@ -62,12 +62,12 @@ pub record Standing (input : List ℕ) (p : Places) : Type 0 where
   pub cells-read : isRead (readNumbers 3 (p .arity) (drop (p .cells) input)) ≡ true
   pub few : p .arity < 256
 
--- what is found, as the paper's number and values: the number of a refusal, or the fields at their places
+-- what was found, as the paper's number and values: the number of a refusal, or the fields at their places
 abbrev pub foundAs : List ℕ → Found → Parsed Fields
 foundAs input (found.Fields p) = read (fieldsAt input p) []
 foundAs input (found.Refused r) = refused r
 
--- places that are found are within the input
+-- the places that were found are within the input
 abbrev pub FoundIn : List ℕ → Found → Type 0
 FoundIn input (found.Fields p) = Standing input p
 FoundIn input (found.Refused r) = Unit

@@ -20,19 +20,19 @@ use Rattle.query.specs.Words.{nodeWords, maxNodes}
 use Rattle.line.specs.Fields.{Fields, readInput}
 use Rattle.line.specs.Text.{verdictLine, refusedLine, maxLine}
 
--- the plot slice before the card is read, and the working list
+-- the plot slice before the card is read, and also the working list
 unfoldable pub blank : List ℕ
 blank = replicate maxWords 0
 
--- One node more than a question may have: no words after these are looked at, since the question is refused for its length.
+-- One node more than a question may have. A question with more words is refused for its length, so its other words are not read.
 abbrev pub lookedAt : ℕ
 lookedAt = (maxNodes + 1) * nodeWords
 
--- the question, asked of a plot
+-- the answer to the question about a plot
 abbrev pub askedPlot : Fields → Header → List ℕ → Asked
 askedPlot f h ws = ask h ws (f .words) (f .candidate) blank (f .budget)
 
--- goes on if the card is read
+-- goes on only if the card is accepted
 abbrev pub ifRead : Answer → Asked → Asked
 ifRead (answer.Done used) a = a
 ifRead (answer.Refused r) a = Refused r
@@ -58,7 +58,7 @@ lineFor (Refused r) = refusedLine r
 unfoldable pub lineOf : List ℕ → List ℕ
 lineOf input = lineFor (answered input)
 
--- an output that is too short for a line gets none
+-- an output of fewer than maxLine bytes gets no line
 unfoldable pub lineLength : List ℕ → List ℕ → ℕ
 lineLength input out = demand (leb maxLine (length out)) 0 (length (lineOf input))
 

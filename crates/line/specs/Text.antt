@@ -28,6 +28,6 @@ verdictLine t looks = lineWith (wordOf t) looks
 abbrev pub refusedLine : ℕ → List ℕ
 refusedLine number = lineWith refusedWord number
 
--- no line is longer
+-- no line has more bytes
 abbrev pub maxLine : ℕ
 maxLine = 20

@@ -1,4 +1,4 @@
-// Asking what the input asks.
+// Asks the question of the input.
 ghost use mathlib.Core.Path.{_≡_};
 ghost use Prim.Native.Nat.{min};
 ghost use Rattle.line.specs.Fields.{Standing, fieldsAt};
@@ -14,7 +14,7 @@ use instance::header::Header;
 use instance::header::WORDS;
 use parse::number::numbers;
 
-// No question may have as many words, so that these stand for a longer one.
+// No question may have this many words, so the first 808 words of a longer one get the same refusal.
 const LOOKED_AT: usize = 808;
 
 fn looked_at(count: usize) -> usize
@@ -23,7 +23,7 @@ fn looked_at(count: usize) -> usize
     if count < LOOKED_AT { count } else { LOOKED_AT }
 }
 
-// Asks the question that stands at the places of the input, of a plot.
+// Asks the question at the given places of the input about a plot.
 fn ask_plot(input: &[u8], places: Places, header: Header, plot: &[u32]) -> Asked
     requires { ⌜ Standing (now input) places ⌝ }
     ensures { λ r. ⌜ r ≡ askedPlot (fieldsAt (now (input .entry)) places) header (now (plot .entry)) ⌝ }
@@ -45,7 +45,7 @@ fn ask_plot(input: &[u8], places: Places, header: Header, plot: &[u32]) -> Asked
     )
 }
 
-// Reads the card that stands at its place, and asks.
+// Decodes the card in the input, and asks the question.
 fn ask_card(input: &[u8], places: Places) -> Asked
     requires { ⌜ Standing (now input) places ⌝ }
     ensures { λ r. ⌜ r ≡ askedCard (fieldsAt (now (input .entry)) places) ⌝ }

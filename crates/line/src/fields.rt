@@ -7,7 +7,7 @@ use calculus::refusal::CUT_SHORT;
 use calculus::refusal::INPUT_TOO_LONG;
 use parse::number::number;
 
-// The card starts at byte 2 and has size bytes; the question has count words and the candidate as many cells as its arity.
+// Where the fields are: the card starts at byte 2 and has `size` bytes, the question has `count` words, and the candidate `arity` cells.
 pub struct Places {
     pub size: usize,
     pub words: usize,

@@ -6,17 +6,17 @@ use asking::answer;
 use text::write_refused;
 use text::write_verdict;
 
-// the bytes that an input may have
+// how many bytes an input may have
 pub const INPUT: usize = 16384;
 
-// no line is longer
+// no line has more bytes
 pub const LINE: usize = 20;
 
 mod asking;
 mod fields;
 mod text;
 
-// Writes the line of an input, and returns its length; nothing is written to fewer bytes than a line may have.
+// Writes the line for an input, and returns its length; if `out` has fewer than LINE bytes, nothing is written and 0 is returned.
 pub fn line(input: &[u8], out: &mut [u8]) -> usize
     ensures length { λ r. ⌜ r ≡ lineLength (now (input .entry)) (now (out .entry)) ⌝ }
     ensures bytes { λ r. ⌜ now (out .exit) ≡ lineOut (now (input .entry)) (now (out .entry)) ⌝ }

@@ -1,4 +1,4 @@
-// The line's words and its number.
+// The text of the line: its word and its number.
 ghost use mathlib.Core.Path.{_≡_};
 ghost use Prim.Native.Nat.{_+_, _≤_};
 ghost use lib.ListN.{length};
@@ -19,7 +19,7 @@ fn copy(out: &mut [u8], text: &[u8])
     }
 }
 
-// Writes a word, a number after it and the line feed, and returns the line's length.
+// Writes a word, then a number and a line feed, and returns the line's length.
 fn write_line(out: &mut [u8], word: &[u8], n: u32) -> usize
     requires { ⌜ length (now word) + (maxDigits + 1) ≤ length (now out) ⌝ }
     ensures length { λ r. ⌜ r ≡ length (lineWith (now (word .entry)) n) ⌝ }

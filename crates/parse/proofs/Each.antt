@@ -11,7 +11,7 @@ use Rattle.calculus.proofs.Reading.{then-read}
 use Rattle.parse.specs.Parse.{Parsed, readEach, isRead, got}
 
 module _ {A : Type 0} where
-  -- one item before others
+  -- an item before other items
   abbrev consed : A → Parsed (List A) → Parsed (List A)
   consed x p = andThen p (λ xs bs. read (x ∷ xs) bs)
 
@@ -19,7 +19,7 @@ module _ {A : Type 0} where
   read-consed x (read xs bs) e = refl
   read-consed x (refused r) e = e
 
-  -- items that are read by p and then by `next`: the first of them, and the others
+  -- items, the first of which p reads and the others `next`
   pub record First (p : Parsed A) (next : List ℕ → Parsed (List A)) (items : Parsed (List A)) : Type 0 where
     pub one : A
     pub between : List ℕ
@@ -39,8 +39,8 @@ module _ {A : Type 0} where
   first-read (refused r) next h = never h
 
 module _ {A : Type 0} (item : List ℕ → Parsed A) where
-  -- What holds of no items, and of an item before others of which it holds, holds of all that are read: P of their number, the bytes, the items and the
-  -- bytes after them.
+  -- What holds of no items, and of an item before others if it holds of those, holds of all items that are read. P is about their number, the bytes, the
+  -- items and the bytes after them.
   pub each-read :
       (P : ℕ → List ℕ → List A → List ℕ → Type 0) → ((bs : List ℕ) → P 0 bs [] bs) →
       ((n : ℕ) (bs : List ℕ) (x : A) (between : List ℕ) (xs : List A) (rest : List ℕ) → item bs ≡ read x between → P n between xs rest → P (suc n) bs (x ∷ xs) rest) →
@@ -66,7 +66,7 @@ module _ {A : Type 0} (item : List ℕ → Parsed A) where
   each-length zero bs e = refl
   each-length (suc n) bs e = let f = each-first n bs e in ap length (f .all) ∙ ap suc (each-length n (f .between) (f .reads))
 
-  -- if items are read, so are fewer
+  -- if n items are read, so are fewer
   pub each-fewer : (few n : ℕ) (bs : List ℕ) → few ≤ n → isRead (readEach item n bs) ≡ true → isRead (readEach item few bs) ≡ true
   unfolding readEach
   each-fewer zero n bs l e = refl

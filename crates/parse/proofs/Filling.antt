@@ -14,7 +14,7 @@ use Rattle.parse.specs.Number.{readNumber, readNumbers, numbersOf}
 use Rattle.parse.proofs.Each.{each-length}
 use Rattle.parse.proofs.Numbers.{numbers-room, numbers-more}
 
--- the first i numbers stand in `out`, which was `out₀`, and the next is read at index `next`
+-- the first i numbers are in `out`, which was `out₀` before, and the next number is read at index `next`
 pub record Filling (width count at : ℕ) (bytes out₀ out : List ℕ) (next i : ℕ) : Type 0 where
   pub few : i ≤ count
   pub within : next ≤ length bytes

@@ -1,4 +1,4 @@
--- Reading numbers and bytes: bytes that suffice are read, and too few are refused. Assumes nothing.
+-- Reading numbers and bytes: they are read if there are enough bytes, and otherwise refused. Assumes nothing.
 use Prim.Native.Nat.{ℕ, zero, suc, _+_, _*_, _≤_, _<_}
 use mathlib.Core.Path.{_≡_, refl, ap, _∙_}
 use mathlib.Core.Bool.{Bool, true, false}
@@ -17,7 +17,7 @@ use Rattle.parse.specs.Parse.{Parsed, readEach, isRead, got}
 use Rattle.parse.specs.Number.{readDigits, readNumber, readNumbers, readBytes, numbersOf}
 use Rattle.parse.proofs.Each.{each-first, each-length}
 
--- a byte more of a number
+-- one more byte of a number
 pub digit-more : (high left : ℕ) {width : ℕ} (bytes : List ℕ) (at : ℕ) → width ≡ suc left → at < length bytes
     → readDigits high width (drop at bytes) ≡ readDigits (high * 256 + getD bytes at 0) left (drop (at + 1) bytes)
 unfolding readDigits
@@ -27,12 +27,12 @@ digit-more high left bytes at one l = rw (one, rest bytes at l)
 abbrev pub Cuts : {A : Type 0} → ℕ → (List ℕ → Parsed A) → Type 0
 Cuts n p = (bs : List ℕ) → length bs < n → p bs ≡ refused cut-short
 
--- n bytes are read, whatever they are
+-- n bytes are read, whatever they are; fewer are refused
 pub record Takes {A : Type 0} (n : ℕ) (p : List ℕ → Parsed A) : Type 0 where
   pub whole : (bs : List ℕ) → n ≤ length bs → (a : A) × (p bs ≡ read a (drop n bs))
   pub cut : Cuts n p
 
--- if something was read, its bytes were there
+-- if something was read, there were enough bytes for it
 pub took : {A : Type 0} {n : ℕ} {p : List ℕ → Parsed A} → Takes n p → (bs : List ℕ) {a : A} {rest : List ℕ} → p bs ≡ read a rest
     → (n ≤ length bs) × (rest ≡ drop n bs)
 took {n = n} {p = p} t bs {a} {rest} e = go (leb n (length bs)) refl
@@ -88,7 +88,7 @@ takes-number width = record { whole = digits-whole width 0; cut = digits-cut wid
 pub takes-numbers : (width count : ℕ) → Takes (width * count) (readNumbers width count)
 takes-numbers width = takes-each (takes-number width)
 
--- what was read is what stands there
+-- the value that was read is the one that `got` gives
 got-read : {A : Type 0} (none : A) {a : A} {p : Parsed A} {bs : List ℕ} → p ≡ read a bs → p ≡ read (got none p) bs
 got-read none e = rw e
 
@@ -110,7 +110,7 @@ module _ (width : ℕ) where
   pub numbers-room : (count : ℕ) (bs : List ℕ) → isRead (readNumbers width (suc count) bs) ≡ true → width ≤ length bs
   numbers-room count bs e = took (takes-number width) bs (each-first (readNumber width) count bs e .was-read) .0
 
-  -- the first number, and the others after it
+  -- the first number, and the numbers after it
   pub numbers-more : (count x : ℕ) (bs rest : List ℕ) → readNumber width bs ≡ read x rest → isRead (readNumbers width (suc count) bs) ≡ true
       → (isRead (readNumbers width count rest) ≡ true) × (numbersOf width (suc count) bs ≡ x ∷ numbersOf width count rest)
   numbers-more count x bs rest first e =
@@ -119,7 +119,7 @@ module _ (width : ℕ) where
       let after : f .between ≡ rest = cc (f .was-read) in
       (rw after at (f .reads), rw (same, after) at (f .all))
 
-  -- the numbers in front of a list
+  -- the numbers are at the front of a list
   pub numbers-front : (count : ℕ) (bs rest list : List ℕ) → isRead (readNumbers width count bs) ≡ true → list ≡ numbersOf width count bs ++ rest
       → take count list ≡ numbersOf width count bs
   numbers-front count bs rest list e stands = rw stands (take-at (numbersOf width count bs) rest count (each-length (readNumber width) count bs e))

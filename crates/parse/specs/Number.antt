@@ -5,7 +5,7 @@ use Rattle.calculus.specs.Reading.{read, refused}
 use Rattle.calculus.specs.Refusal.{cut-short}
 use Rattle.parse.specs.Parse.{Parsed, readEach, got}
 
--- n bytes more of a number whose higher bytes are read
+-- n more bytes of a number whose higher bytes are read already
 unfoldable pub readDigits : ℕ → ℕ → List ℕ → Parsed ℕ
 readDigits high zero bs = read high bs
 readDigits high (suc n) [] = refused cut-short
@@ -15,14 +15,14 @@ readDigits high (suc n) (b ∷ bs) = readDigits (high * 256 + b) n bs
 abbrev pub readNumber : ℕ → List ℕ → Parsed ℕ
 readNumber n bs = readDigits 0 n bs
 
--- as many numbers of n bytes each
+-- `count` numbers of n bytes each
 abbrev pub readNumbers : ℕ → ℕ → List ℕ → Parsed (List ℕ)
 readNumbers n count bs = readEach (readNumber n) count bs
 
--- the numbers that were read
+-- the numbers that were read; none if the bytes are too few
 abbrev pub numbersOf : ℕ → ℕ → List ℕ → List ℕ
 numbersOf n count bs = got [] (readNumbers n count bs)
 
--- n bytes as they stand
+-- the next n bytes
 abbrev pub readBytes : ℕ → List ℕ → Parsed (List ℕ)
 readBytes n bs = readNumbers 1 n bs

@@ -24,7 +24,7 @@ abbrev pub isRead : {A : Type 0} → Parsed A → Bool
 isRead (read a bs) = true
 isRead (refused r) = false
 
--- what was read; the given value if nothing was
+-- what was read, or the given value if nothing was
 abbrev pub got : {A : Type 0} → A → Parsed A → A
 got none (read a bs) = a
 got none (refused r) = none

@@ -15,7 +15,7 @@ pub fn byte(bytes: &[u8], at: usize) -> u32
     bytes[at] as u32
 }
 
-// The number in width bytes from index at.
+// The number in `width` bytes from index `at`.
 pub fn number(bytes: &[u8], at: usize, width: usize) -> u32
     requires narrow { ⌜ width ≤ 4 ⌝ }
     requires within { ⌜ at + width ≤ length (now bytes) ⌝ }
@@ -31,7 +31,7 @@ pub fn number(bytes: &[u8], at: usize, width: usize) -> u32
     number
 }
 
-// Writes count numbers of width bytes each, which stand from index at, to the front of a list.
+// Reads `count` numbers of `width` bytes each, from index `at`, and writes them to the front of a list.
 pub fn numbers(out: &mut [u32], bytes: &[u8], at: usize, width: usize, count: usize)
     requires narrow { ⌜ width ≤ 4 ⌝ }
     requires within { ⌜ at ≤ length (now bytes) ⌝ }

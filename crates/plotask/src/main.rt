@@ -1,4 +1,4 @@
-// The program: the input's bytes in, the line's bytes out. One byte more than an input may have is read, so that a longer one is told.
+// The program: the input's bytes in, the line's bytes out. Reads one byte past the limit, to detect input that is too long.
 use line::INPUT;
 use line::LINE;
 use line::line;

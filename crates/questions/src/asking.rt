@@ -1,4 +1,4 @@
-// Questions: the readings, what a wrong program would say instead, and the refusals.
+// Questions: the readings, cases in which a wrong program would say something else, and the refusals.
 ghost use Prim.Native.Nat.{_≤_};
 use super::question::NONE;
 use super::question::flat;
@@ -13,7 +13,7 @@ const SOME: u32 = 6;
 
 const EVERY: u32 = 7;
 
-// Asks, and shows the answer and the working list that is left.
+// Asks a question, and shows the answer and the working list afterwards.
 fn listed(
     name: &[u8],
     header: Header,
@@ -28,13 +28,13 @@ fn listed(
     show::words(list);
 }
 
-// The same with a list that no question here fills.
+// The same, with a list that is longer than any plot here needs.
 fn asked(name: &[u8], header: Header, plot: &[u32], query: &[u32], candidate: &[u32], budget: u32) {
     let mut list = [9u32; 4];
     listed(name, header, plot, query, candidate, &mut list, budget);
 }
 
-// A question of n nodes.
+// Asks a question of n nodes.
 fn one(
     name: &[u8],
     header: Header,
@@ -50,7 +50,7 @@ fn one(
     asked(name, header, plot, &words[..n * 8], candidate, budget);
 }
 
-// Some or every x is the term: a question of two nodes.
+// Asks whether some or every x equals the term: a question of two nodes.
 fn quantified(
     name: &[u8],
     header: Header,
@@ -75,7 +75,7 @@ fn channels(name: &[u8], query: &[u32], candidate: &[u32]) {
     asked(name, two_sheets(1, 1, 4), &CHANNELS, query, candidate, 0);
 }
 
-// The candidate stands in sheet 0 and not in sheet 1.
+// The candidate is in sheet 0 and not in sheet 1.
 const WITHOUT: [[u32; 8]; 7] = [
     [4, 1, 2, 0, 0, 0, 0, 0],
     [1, 0, 2_000_000, 0, 0, 0, 0, 0],
@@ -90,12 +90,12 @@ fn without(name: &[u8], plot: &[u32], budget: u32) {
     one(name, two_sheets(1, 1, 4), plot, WITHOUT, 4, &[201], budget);
 }
 
-// The same within a budget.
+// Asks that question within a budget.
 fn within(name: &[u8], budget: u32) {
     without(name, &CHANNELS, budget);
 }
 
-// The same after a fill of mark 1.
+// Asks that question after a fill of mark 1.
 fn filled(name: &[u8], cell: u32) {
     let mut plot = CHANNELS;
     substitute(two_sheets(1, 1, 4), &mut plot, 1, cell);
@@ -155,7 +155,7 @@ pub fn excluded_middle() {
     );
 }
 
-// x3 = x3 of no rows, with no look to spend.
+// Asks whether x3 = x3 for some or every x3 of no rows, with an allowance of 0.
 fn of_no_rows(name: &[u8], kind: u32) {
     quantified(name, one_sheet(1, 0), &[], kind, 3, 2_000_003, &[], 0);
 }
@@ -166,12 +166,12 @@ pub fn no_rows() {
     of_no_rows(b"no rows: every x, x = x", EVERY);
 }
 
-// Every x is 7, of two rows of one cell.
+// Asks whether every x is 7, in a sheet of two rows of one cell.
 fn sevens(name: &[u8], plot: &[u32]) {
     quantified(name, one_sheet(1, 4), plot, EVERY, 0, 7, &[], 100);
 }
 
-// Reading 10: the values stand in their order, each once.
+// Reading 10: the values come in their order, each once.
 pub fn every_is_seven() {
     let mut plot = [0u32, 1_000_001, 0, 8];
     sevens(b"rows (m1), (8): every x, x = 7", &plot);
@@ -179,14 +179,14 @@ pub fn every_is_seven() {
     sevens(b"after m1 by 8", &plot);
 }
 
-// The candidate, asked of a sheet of two columns with one row.
+// Asks whether the candidate is in a sheet of two columns with one row.
 fn pair(name: &[u8], row: [u32; 2], candidate: [u32; 2]) {
     let plot = [0u32, row[0], row[1]];
     let query = [1u32, 0, 2_000_000, 2_000_001, 0, 0, 0, 0];
     asked(name, one_sheet(2, 3), &plot, &query, &candidate, 100);
 }
 
-// Rows are unified as a whole: (1, m1) and (m1, 2) are not one row.
+// Rows are unified as a whole: (1, m1) and (m1, 2) cannot be the same row.
 pub fn whole_rows() {
     pair(
         b"(1, m1) where (m1, 2) stands",
@@ -206,7 +206,7 @@ pub fn whole_rows() {
     pair(b"(m7, 2) where (1, 2) stands", [1, 2], [1_000_007, 2]);
 }
 
-// The nearest quantifier binds, also before the candidate.
+// The nearest quantifier binds, even if the candidate has the variable.
 pub fn bound_again() {
     let header = one_sheet(1, 4);
     let plot = [0u32, 1, 0, 2];
@@ -240,7 +240,7 @@ pub fn bound_again() {
     );
 }
 
-// Asks n words that are no nodes, with a candidate whose cells are all the same.
+// Asks n words that are no valid question, with a candidate whose cells are all the same.
 fn misfit(name: &[u8], n: usize, cells: usize, cell: u32)
     requires { ⌜ (n ≤ 8) × (cells ≤ 7) ⌝ }
 {
@@ -249,7 +249,7 @@ fn misfit(name: &[u8], n: usize, cells: usize, cell: u32)
     channels(name, &words[..n], &candidate[..cells]);
 }
 
-// Refusals that come before the nodes.
+// Refusals before the nodes.
 pub fn refused() {
     asked(
         b"an unsound plot and no question",
@@ -265,7 +265,7 @@ pub fn refused() {
     misfit(b"a candidate that is no cell", 8, 1, 1_000_000);
 }
 
-// A question of one node.
+// Asks a question of one node.
 fn node(name: &[u8], words: [u32; 8]) {
     channels(name, &words, &[201]);
 }

@@ -6,7 +6,7 @@ use answer::ask::ask;
 use worked::plots::one_sheet;
 use worked::show;
 
-// n nodes "every x0", each with the next node as its child, and then a node that starts with the given words.
+// n nodes "every x0", each with the next node as its child, and then a node that begins with the given words.
 fn chain(n: usize, last: [u32; 3]) -> [u32; 808]
     requires { ⌜ n ≤ 100 ⌝ }
     ensures { λ r. ⌜ length r ≡ 808 ⌝ }
@@ -26,7 +26,7 @@ fn chain(n: usize, last: [u32; 3]) -> [u32; 808]
     query
 }
 
-// Asks that question of a sheet of one column, and shows the answer.
+// Asks that question about a sheet of one column, and shows the answer.
 fn chained(
     name: &[u8],
     n: usize,
@@ -53,7 +53,7 @@ fn chained(
 // x0 = x0
 const EQUAL: [u32; 3] = [2, 2_000_000, 2_000_000];
 
-// 99 quantifiers over one value make the deepest question; with one more it is too long.
+// 99 quantifiers over one value make the deepest question; one more makes it too long.
 pub fn deepest() {
     let plot = [0u32, 5];
     let mut list = [9u32; 1];
@@ -61,12 +61,12 @@ pub fn deepest() {
     chained(b"808 words", 100, EQUAL, 2, &plot, &mut list, 1);
 }
 
-// The row (0) stands in sheet 0.
+// The row (0) is in sheet 0.
 const ATOM: [u32; 3] = [1, 0, 0];
 
 const MOST: u32 = 4_294_967_295;
 
-// A full plot with the values 0 and 1, each of the 2,048 rows a look.
+// A full plot of 2,048 rows with the values 0 and 1, so that an atom takes 2,049 looks.
 pub fn full() {
     let mut plot = [0u32; 4096];
     plot[4095] = 1;

@@ -1,4 +1,4 @@
-// Worked questions, and worked reruns; the file stdout has what this prints.
+// Worked questions and worked reruns; the file stdout has what this prints.
 mod asking;
 mod limits;
 mod question;

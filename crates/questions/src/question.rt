@@ -2,10 +2,10 @@
 ghost use mathlib.Core.Path.{_≡_};
 ghost use lib.ListN.{length};
 
-// Words after the last node.
+// Fills up an array of nodes; asked as a node, it has kind 0.
 pub const NONE: [u32; 8] = [0u32; 8];
 
-// The words of at most seven nodes, in their order.
+// The words of seven nodes, in their order.
 pub fn flat(nodes: [[u32; 8]; 7]) -> [u32; 56]
     ensures { λ r. ⌜ length r ≡ 56 ⌝ }
 {

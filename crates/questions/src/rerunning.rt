@@ -1,4 +1,4 @@
-// Run A, fills, run B: both verdicts, and what is left of the plot, the candidate, the list and the answers to the fills.
+// Run A, fills, run B: shows both verdicts, and the plot, the candidate, the list and the answers to the fills afterwards.
 use rerun::rerun::rerun;
 use worked::plots::one_sheet;
 use worked::show;
@@ -6,10 +6,10 @@ use worked::show;
 // Every x: x = 7.
 const ALL_SEVEN: [u32; 16] = [7, 0, 1, 0, 0, 0, 0, 0, 2, 2_000_000, 7, 0, 0, 0, 0, 0];
 
-// The candidate stands in the sheet.
+// The candidate is in the sheet.
 const STANDS: [u32; 8] = [1, 0, 2_000_000, 0, 0, 0, 0, 0];
 
-// The rows (m1) and (8), and two words after them.
+// Reruns a question on the rows (m1) and (8), with two words after them that are not in use.
 fn one(name: &[u8], query: &[u32], cell: u32, fills: &[u32], budget: u32) {
     let mut plot = [0u32, 1_000_001, 0, 8, 1_000_001, 5];
     let mut candidate = [cell];
@@ -32,7 +32,7 @@ fn one(name: &[u8], query: &[u32], cell: u32, fills: &[u32], budget: u32) {
     show::words(&answers);
 }
 
-// Whether the cell stands in the sheet, with the looks that both rows take.
+// Asks whether the cell is in the sheet, with an allowance that just suffices for both rows.
 fn stands(name: &[u8], cell: u32, fills: &[u32]) {
     one(name, &STANDS, cell, fills, 3);
 }
@@ -41,7 +41,7 @@ fn by_eight(name: &[u8], cell: u32) {
     stands(name, cell, &[1, 8]);
 }
 
-// Reading 10, and a candidate whose mark is filled with the plot's.
+// Reading 10, and candidates with and without the mark that is filled.
 pub fn settled() {
     one(b"every x: x = 7, m1 by 8", &ALL_SEVEN, 0, &[1, 8], 100);
     by_eight(b"m1 in the sheet, m1 by 8", 1_000_001);
@@ -49,7 +49,7 @@ pub fn settled() {
     by_eight(b"5 in the sheet, m1 by 8", 5);
 }
 
-// Fills that are refused with 29, 16 and 43, and then m1 by m2; no fill at all; a last word that has no pair.
+// Fills that are refused with 29, 16 and 43, and then m1 by m2; no fill at all; one word that is only half a fill.
 pub fn lists_of_fills() {
     let mixed = [0u32, 8, 1, 1_000_000, 2, 8, 1, 1_000_002];
     stands(b"m1 in the sheet, four fills", 1_000_001, &mixed);
@@ -57,7 +57,7 @@ pub fn lists_of_fills() {
     stands(b"m1 in the sheet, half a fill", 1_000_001, &[1]);
 }
 
-// 44, and what run A refuses; the list alone is written under 46.
+// 44, and refusals of run A; under 46 only the list is written.
 pub fn refused() {
     let many = [1u32, 8, 1, 8, 1, 8, 1, 8, 1, 8];
     stands(b"no place for five answers", 5, &many);

@@ -1,4 +1,4 @@
--- The bytes of the whole case, for which the program prints "unknown 4", are those of reading 6. Assumes nothing.
+-- The bytes of the whole case, for which the program prints "unknown 4", are read as those of reading 6. Assumes nothing.
 use mathlib.Core.Path.{refl}
 use Rattle.calculus.specs.Cell.{isCell}
 use Rattle.instance.specs.Rows.{wordsOf}

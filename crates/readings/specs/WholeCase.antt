@@ -1,5 +1,5 @@
--- Document 01, "The program": the whole case, and reading 6, "The plotask case". The bytes that the program reads are the reading's plot, question,
--- candidate and allowance.
+-- Document 01, "The program": the whole case, and reading 6, "The plotask case". The bytes that the program reads are the reading's instance, question,
+-- candidate and budget.
 use Prim.Native.Nat.{ℕ}
 use mathlib.Core.Path.{_≡_}
 use mathlib.Core.List.{List, [], _∷_}

@@ -1,4 +1,4 @@
--- What the fills leave of the candidate is the book's candidate. Assumes nothing.
+-- After the fills of a run, the candidate is the model's candidate. Assumes nothing.
 use Prim.Native.Nat.{ℕ}
 use mathlib.Core.Path.{_≡_, refl, ap, _∙_}
 use mathlib.Core.Bool.{true}

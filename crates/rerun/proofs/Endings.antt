@@ -1,4 +1,4 @@
--- The three ends of a rerun: the answers have no place, run A is refused, or both runs get a verdict. Assumes nothing.
+-- The three ends of a rerun: there is no room for the answers, run A is refused, or both runs get a verdict. Assumes nothing.
 use Prim.Native.Nat.{ℕ, _≤_, _<_}
 use mathlib.Core.Path.{_≡_, refl, sym, ap, _∙_}
 use mathlib.Core.Bool.{Bool, true, false, cond}
@@ -32,7 +32,7 @@ use Rattle.rerun.specs.Fills.{fillsOf, filledCandidate, stored}
 use Rattle.rerun.specs.Rerun.{bothRuns, firstOf, secondOf, bookWords, runA, runB, listA, hasPlace, begun, reran, reranWords, reranCandidate, reranAnswers, reranBuffer, Claim, TellsRuns}
 use Rattle.rerun.proofs.BookLaws.{candidate-run}
 
--- an ask leaves no shorter list
+-- asking does not shorten the buffer
 longer : (h : Header) (ws qs candidate buffer : List ℕ) → length buffer ≤ length (askedBuffer h ws qs candidate buffer)
 unfolding askedBuffer
 longer h ws qs candidate buffer = go (askable h ws qs candidate buffer)
@@ -49,7 +49,7 @@ second-both : (t : Truth) (n : ℕ) (b : Asked) → secondOf (bothRuns (asked.Ve
 second-both t n (asked.Verdict u k) = refl
 second-both t n (asked.Refused r) = refl
 
--- a verdict that a rerun tells is that of the run
+-- a verdict in a rerun's answer is that of the run's outcome
 first-of : {o : Outcome} (b : Bool) (p q : Asked) → Of o p → Of o (firstOf (cond b (bothRuns p q) (Refused output-too-short)))
 first-of true (asked.Verdict u k) (asked.Verdict v l) of t n e = of t n e
 first-of true (asked.Verdict u k) (asked.Refused r) of t n e = absurd (not-refused e)
@@ -63,7 +63,7 @@ second-of true (asked.Refused r) q of t n e = absurd (not-refused e)
 second-of false p q of t n e = absurd (not-refused e)
 
 module _ (h : Header) (ws qs candidate buffer : List ℕ) (budget : ℕ) (fills out : List ℕ) where
-  -- what a call with these arguments answers and leaves
+  -- the answer of a call with these arguments, and what it leaves
   abbrev pub Ends : Reran → List ℕ → List ℕ → List ℕ → List ℕ → Type 0
   Ends r ws′ candidate′ buffer′ out′ =
       (r ≡ reran h ws qs candidate buffer budget fills out) ×
@@ -73,7 +73,7 @@ module _ (h : Header) (ws qs candidate buffer : List ℕ) (budget : ℕ) (fills 
       ((out′ ≡ reranAnswers h ws qs candidate buffer budget fills out) ×
       (Claim h ws qs candidate buffer budget fills out r × TellsRuns h ws qs candidate buffer budget fills out r)))))
 
-  -- an answer that is the definition's tells both runs by their outcomes
+  -- if the answer is the definition's, it has the outcomes of both runs
   told : {r : Reran} → r ≡ reran h ws qs candidate buffer budget fills out → TellsRuns h ws qs candidate buffer budget fills out r
   unfolding reran
   told e =
@@ -106,7 +106,7 @@ module _ (h : Header) (ws qs candidate buffer : List ℕ) (budget : ℕ) (fills 
       let a = verdict-asked h ws qs candidate buffer budget t n (sym e) .0 in
       passed.few-cells (h .relations) (h .arities) qs candidate (a .right) (a .scopes) (a .passes)
 
-  -- both runs, with what run A left of the list, and the fills of the rest
+  -- both runs, run B with the buffer that run A left and with what the fills left of the rest
   module _
       (l : length fills ≤ length out) (t : Truth) (n : ℕ) (e : asked.Verdict t n ≡ ask h ws qs candidate buffer budget)
       (list ws′ candidate′ buffer′ out′ : List ℕ) (b : Asked) (is-list : list ≡ askedBuffer h ws qs candidate buffer)

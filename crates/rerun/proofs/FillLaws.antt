@@ -1,4 +1,4 @@
--- The loop over a run's fills: what is left to do gives the same end. Assumes nothing.
+-- The loop over the fills of a run: the fills that are left lead to the same end. Assumes nothing.
 use Prim.Native.Nat.{ℕ, suc, _+_, _≤_, _<_}
 use mathlib.Core.Path.{_≡_, refl, sym, ap, _∙_}
 use mathlib.Core.List.{List, [], _∷_, _++_, map, append-assoc}
@@ -19,7 +19,7 @@ use Rattle.rerun.specs.Fills.{fillsOf, filledCandidate, answerPair, answ
 plus-two : (n : ℕ) → n + 2 ≡ suc (suc n)
 plus-two n = omega arith
 
--- two words are left, or not
+-- at least two words are left, or fewer
 pub fill-here :
     (fills : List ℕ) (i : ℕ) → i + 1 < length fills →
     fillsOf (drop i fills) ≡ record { mark = getD fills i 0; cell = getD fills (i + 1) 0 } ∷ fillsOf (drop (i + 2) fills)
@@ -49,7 +49,7 @@ unfolding answerWords
 stored-cons (Done n) more out = ap (λ (l : List ℕ). 0 ∷ n ∷ answerWords more ++ l) (dropped (length (answerWords more)) out)
 stored-cons (Refused r) more out = ap (λ (l : List ℕ). r ∷ 0 ∷ answerWords more ++ l) (dropped (length (answerWords more)) out)
 
--- an answer stored at place i stands before those still to come
+-- an answer stored at index i comes before those that follow
 stored-here :
     (i : ℕ) (a : Answer) (more : List Answer) (out out′ : List ℕ) → i ≤ length out → out′ ≡ take i out ++ (answerPair a ++ drop 2 (drop i out)) →
     take (i + 2) out′ ++ stored more (drop (i + 2) out′) ≡ take i out ++ stored (a ∷ more) (drop i out)
@@ -64,7 +64,7 @@ stored-here i a more out out′ l e =
     append-assoc (take i out) (answerPair a) (stored more back) ∙
     ap (λ (o : List ℕ). take i out ++ o) (sym (stored-cons a more (drop i out)))
 
--- the loop at place i: what is left to do, from here, ends as all of it from the start
+-- the loop at index i: the fills that are left lead from here to the same end as all fills from the start
 pub record Going (h : Header) (fills ws₀ cs₀ out₀ ws cs out : List ℕ) (i : ℕ) : Type 0 where
   pub words : filledWords h (fillsOf (drop i fills)) ws ≡ filledWords h (fillsOf fills) ws₀
   pub candidate : filledCandidate h (fillsOf (drop i fills)) ws cs ≡ filledCandidate h (fillsOf fills) ws₀ cs₀
@@ -75,7 +75,7 @@ module _ (h : Header) (fills ws₀ cs₀ out₀ : List ℕ) where
   begin = record { words = refl; candidate = refl; answers = refl }
 
   module _ (ws cs out : List ℕ) (i : ℕ) (g : Going h fills ws₀ cs₀ out₀ ws cs out i) where
-    -- one fill more
+    -- one more fill
     pub step :
         i + 1 < length fills → i ≤ length out → (ws′ cs′ out′ : List ℕ) (a : Answer) →
         a ≡ substituted h ws (getD fills i 0) (getD fills (i + 1) 0) →
@@ -100,7 +100,7 @@ module _ (h : Header) (fills ws₀ cs₀ out₀ : List ℕ) where
               ap (λ (x : List Fill). take i out ++ stored (filledAnswers h x ws) (drop i out)) (sym here) ∙ g .answers;
         }
 
-    -- none left
+    -- no fill is left
     pub finish :
         length fills ≤ i + 1 →
         (ws ≡ filledWords h (fillsOf fills) ws₀) × ((cs ≡ filledCandidate h (fillsOf fills) ws₀ cs₀) × (out ≡ stored (filledAnswers h (fillsOf fills) ws₀) out₀))

@@ -1,4 +1,4 @@
--- The fills of a run as words, what they leave of the candidate, and their answers as words.
+-- The fills of a run as words, the candidate that they leave, and their answers as words.
 use Prim.Native.Nat.{ℕ}
 use mathlib.Core.List.{List, [], _∷_, _++_, map}
 use Rattle.calculus.specs.declared.answer.Answer.{Answer}
@@ -9,7 +9,7 @@ use Rattle.instance.specs.declared.header.Header.{Header}
 use Rattle.instance.specs.Run.{fillWords, fillAnswer}
 use Rattle.calculus.specs.Overwrite.{overwrite}
 
--- "each one's mark and cell alone": two words for each fill; a last word without its pair is no fill
+-- "each one's mark and cell alone": two words for each fill; a last word without a second one is no fill
 unfoldable pub fillsOf : List ℕ → List Fill
 fillsOf [] = []
 fillsOf (m ∷ []) = []
@@ -31,7 +31,7 @@ fillBoth h f s = record {
 abbrev pub filledCandidate : Header → List Fill → List ℕ → List ℕ → List ℕ
 filledCandidate h fs ws candidate = afterFills (fillBoth h) fs (record { words = ws; candidate = candidate }) .candidate
 
--- what a fill answers, in two words: the refusal's number or 0, and the count or 0
+-- the answer of a fill in two words: the refusal's number or 0, and the count or 0
 abbrev pub answerPair : Answer → List ℕ
 answerPair a = numberOf a ∷ valueOf a 0 ∷ []
 
@@ -39,6 +39,6 @@ unfoldable pub answerWords : List Answer → List ℕ
 answerWords [] = []
 answerWords (a ∷ answers) = answerPair a ++ answerWords answers
 
--- a slice with the answers in front; its other words stay
+-- a slice with the answers at the front; its other words keep their content
 abbrev pub stored : List Answer → List ℕ → List ℕ
 stored answers out = overwrite (answerWords answers) out

@@ -31,7 +31,7 @@ bothRuns (asked.Verdict a n) (asked.Verdict b k) = Verdicts a n b k
 bothRuns (asked.Verdict a n) (asked.Refused r) = Refused r
 bothRuns (asked.Refused r) b = Refused r
 
--- What a rerun's answer says of run A, and of run B; `answer/specs/Numbers.antt` has the paper's number and values of each.
+-- What a rerun's answer says of run A and of run B; `answer/specs/Numbers.antt` gives each as the paper's numbers.
 abbrev pub firstOf : Reran → Asked
 firstOf (Verdicts a n b k) = asked.Verdict a n
 firstOf (Refused r) = asked.Refused r
@@ -40,7 +40,7 @@ abbrev pub secondOf : Reran → Asked
 secondOf (Verdicts a n b k) = asked.Verdict b k
 secondOf (Refused r) = asked.Refused r
 
--- the fills are made where run A got a verdict
+-- the fills are made only if run A got a verdict
 abbrev pub goesOn : Asked → Answer
 goesOn (asked.Verdict t n) = answer.Done 0
 goesOn (asked.Refused r) = answer.Refused r
@@ -57,7 +57,7 @@ module _ (h : Header) (ws qs candidate buffer : List ℕ) (budget : ℕ) (fills 
   abbrev pub bookWords : List ℕ
   bookWords = wordsOf (book .rows) ++ drop (h .used) ws
 
-  -- "B asks with the book's candidate", and with the working list that A left
+  -- "B asks with the book's candidate", and with the buffer that A left
   abbrev pub runA : Asked
   runA = ask h ws qs candidate buffer budget
 
@@ -67,7 +67,7 @@ module _ (h : Header) (ws qs candidate buffer : List ℕ) (budget : ℕ) (fills 
   abbrev pub runB : Asked
   runB = ask h bookWords qs (book .candidate) listA budget
 
-  -- the answers' slice is as long as that of the fills
+  -- the slice for the answers is at least as long as the slice of the fills
   abbrev pub hasPlace : Bool
   hasPlace = leb (length fills) (length out)
 
@@ -78,7 +78,7 @@ module _ (h : Header) (ws qs candidate buffer : List ℕ) (budget : ℕ) (fills 
   unfoldable pub reran : Reran
   reran = cond hasPlace (bothRuns runA runB) (Refused output-too-short)
 
-  -- what is left of the instance's words, the candidate, the answers' slice and the working list
+  -- what is left of the instance's words, the candidate, the slice for the answers and the buffer
   unfoldable pub reranWords : List ℕ
   reranWords = after begun bookWords ws
 
@@ -91,14 +91,14 @@ module _ (h : Header) (ws qs candidate buffer : List ℕ) (budget : ℕ) (fills 
   unfoldable pub reranBuffer : List ℕ
   reranBuffer = cond hasPlace (after begun (askedBuffer h bookWords qs (book .candidate) listA) listA) buffer
 
-  -- demand 3, of the answer: where A gets a verdict, the answer says so, B is not refused, says at least what A said, costs no more, and is
-  -- two-valued logic's where no null is left
+  -- demand 3 for the answer, if there is room for the fills' answers and A gets a verdict: r has it, and B is not refused, keeps it if it is true or
+  -- false, costs no more, and is the verdict of two-valued logic if no null is left
   abbrev pub Claim : Reran → Type 0
   Claim r =
       length fills ≤ length out → (t : Truth) (n : ℕ) → runA ≡ asked.Verdict t n →
       (firstOf r ≡ asked.Verdict t n) × Rerun h ws qs candidate (fillsOf fills) t n (secondOf r)
 
-  -- the answer in the paper's numbers: run A's, and run B's of what the fills left
+  -- the answer in the paper's numbers: that of run A, and that of run B on what the fills left
   pub record TellsRuns (r : Reran) : Type 0 where
     pub first : TellsVerdict (firstOf r) (firstOf reran) (outcome start (formulaOf (h .arities) qs))
     pub second : TellsVerdict (secondOf r) (secondOf reran) (outcome (modelOf h bookWords (book .candidate)) (formulaOf (h .arities) qs))

@@ -28,7 +28,7 @@ fn fill(header: Header, plot: &mut [u32], candidate: &mut [u32], mark: u32, cell
     answer
 }
 
-// An answer in the first two words of a slice.
+// Writes an answer to the first two words of a slice.
 fn store(answers: &mut [u32], answer: Answer)
     requires { ⌜ 2 ≤ length (now answers) ⌝ }
     ensures { λ _. ⌜ now (answers .exit) ≡ answerPair answer ++ drop 2 (now (answers .entry)) ⌝ }
@@ -45,7 +45,7 @@ fn store(answers: &mut [u32], answer: Answer)
     }
 }
 
-// Fill by fill; each gets instance and candidate as the last one left them.
+// Makes the fills one by one; each gets the instance and the candidate as the last one left them.
 pub fn fill_all(
     header: Header,
     plot: &mut [u32],

@@ -1,4 +1,4 @@
-// Run A, a list of fills, run B: demand 3 as one call.
+// Run A, a list of fills and run B: demand 3 as one call.
 mod fills;
 pub mod reran;
 pub mod rerun;

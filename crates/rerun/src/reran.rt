@@ -1,4 +1,4 @@
-// What a rerun answers: run A's verdict and cost and then run B's, or a refusal.
+// The answer of a rerun: the verdict and cost of run A and then of run B, or a refusal.
 use calculus::truth::Truth;
 
 pub enum Reran {

@@ -8,7 +8,7 @@ use answer::asked::Asked;
 use calculus::refusal::OUTPUT_TOO_SHORT;
 use instance::header::Header;
 
-// Two words of `fills` are a fill, its mark and its cell; its answer goes to the same two places of `answers`. Where run A is refused, no fill is made.
+// Two words of `fills` are a fill: a null's number and a cell; its answer goes to the same indices of `answers`. No fill is made if run A is refused.
 pub fn rerun(
     header: Header,
     plot: &mut [u32],

@@ -1,3 +1,3 @@
-// What the programs with worked inputs share: the headers of their plots, and printing.
+// What the worked programs share: the headers of their plots, and printing.
 pub mod plots;
 pub mod show;

@@ -1,4 +1,4 @@
-// What the calls return, as lines of text.
+// Prints what the calls return, as lines of text.
 use answer::asked::Asked;
 use calculus::answer::Answer;
 use calculus::truth::Truth;
@@ -43,7 +43,7 @@ fn end() {
     text(b"\n");
 }
 
-// The start of an answer's line.
+// Prints the start of an answer's line.
 fn named(name: &[u8]) {
     text(name);
     text(b":");

@@ -1,4 +1,4 @@
--- `decimal::decimal` meets its contract: the digits of a number's tenth stand in front of its last digit. The measure is the number.
+-- `decimal::decimal` meets its contract: the digits of a number's tenth come before its last digit. The measure is the number.
 -- Assumes nothing.
 use mathlib.Core.Path.{sym, ap}
 use native.Mathlib.Omega.{arith}

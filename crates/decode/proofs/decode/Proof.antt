@@ -1,4 +1,4 @@
--- `decode::decode` meets its contract: each refusal is a law of reading a card, and so is what is accepted. Assumes nothing.
+-- `decode::decode` meets its contract: a law of decoding covers each refusal and the accepted case. Assumes nothing.
 use Prim.Native.Nat.{_^_, _<_}
 use mathlib.Core.Path.{_≡_, sym, ap, _∙_}
 use mathlib.Core.Bool.{true}

@@ -1,5 +1,5 @@
--- `encode::encode` meets its contract: the scan tells whether the instance is sound and how many rows it has, which gives the card's
--- size; the head and the records are written one after the other. Assumes nothing.
+-- `encode::encode` meets its contract: the scan finds whether the instance is sound and how many rows it has, which gives the card's
+-- size; the head is written, and then the records. Assumes nothing.
 use Prim.Native.Nat.{ℕ, _+_, _-_, _*_, _≤_}
 use mathlib.Core.Path.{_≡_, sym, _∙_}
 use mathlib.Core.Bool.{true}

@@ -1,4 +1,4 @@
--- `encode::write_head` meets its contract: the loop writes the arities from the second byte on. Assumes nothing.
+-- `encode::write_head` meets its contract: the loop writes the arities from the second byte. Assumes nothing.
 use Prim.Native.Nat.{ℕ, _+_, _-_, _/_, _%_, _≤_, _<_}
 use mathlib.Core.Path.{_≡_, refl, sym, ap, _∙_}
 use mathlib.Core.List.{List, [], _∷_, _++_, append-assoc}
@@ -11,7 +11,7 @@ use Rattle.calculus.proofs.Stores.{Written, begin, store, anew, finish}
 use Rattle.encode.proofs.write_head.Statement.{statement}
 use Rattle.encode.proofs.write_head.Tie as tie
 
--- the number of rows, and the whole of the head
+-- the number of rows, and the whole head
 abbrev counted : ℕ → List ℕ
 counted count = count / 256 % 256 ∷ count % 256 ∷ []
 
@@ -42,7 +42,7 @@ next n i ars vs l long =
     let within : i < length (take n ars) = simp length-take (omega arith) in
     rw (rest (take n ars) i within, getD-take n ars i 0 l)
 
--- the whole, before the bytes that stay
+-- the whole head, before the bytes that keep their content
 closing : (n count : ℕ) (ars out : List ℕ) → n ≤ length ars
     → whole n ars count ++ drop (length (whole n ars count)) (set out 0 n) ≡ n ∷ take n ars ++ count / 256 % 256 ∷ count % 256 ∷ drop (n + 3) out
 closing n count ars out long =

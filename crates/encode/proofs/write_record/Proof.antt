@@ -1,4 +1,4 @@
--- `encode::write_record` meets its contract: what is left to write are the fields of the cells from index i. Assumes nothing.
+-- `encode::write_record` meets its contract: the fields of the cells from index i are left to write. Assumes nothing.
 use Prim.Native.Nat.{ℕ, _+_, _-_, _*_, _≤_}
 use mathlib.Core.Path.{_≡_, refl, _∙_, ap}
 use mathlib.Core.List.{List, _∷_, _++_, []}

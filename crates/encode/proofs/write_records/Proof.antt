@@ -1,4 +1,4 @@
--- `encode::write_records` meets its contract: what is left to write are the records of the rows from index i. Assumes nothing.
+-- `encode::write_records` meets its contract: the records of the rows from index i are left to write. Assumes nothing.
 use Prim.Native.Nat.{ℕ, _+_, _-_, _*_, _≤_}
 use mathlib.Core.Path.{_≡_}
 use mathlib.Core.List.{List, _++_}

@@ -1,4 +1,4 @@
--- `host::plotask_ask` meets its contract: a header slice of another length is refused, and any other makes the library's call. Assumes nothing.
+-- `host::plotask_ask` meets its contract: 41 if the header slice does not have ten words, otherwise the library's call. Assumes nothing.
 use mathlib.Core.Path.{sym, ap, _∙_}
 use Rattle.answer.specs.declared.asked.Asked.{Asked}
 use Rattle.answer.specs.declared.asked.Asked.the-variants.{Refused}

@@ -1,4 +1,4 @@
--- `line::line` meets its contract: the line is that of the answer. Assumes nothing.
+-- `line::line` meets its contract: it writes the line of the answer. Assumes nothing.
 use mathlib.Core.Path.{_≡_, sym, _∙_}
 use lib.ListN.{length}
 use Rattle.calculus.specs.Overwrite.{overwrite}

@@ -1,4 +1,4 @@
--- `plotask::main` is safe and ends: the line fits into the bytes that it is written to. Assumes nothing.
+-- `plotask::main` is safe and ends: the line fits the bytes that it is written to. Assumes nothing.
 use Prim.Native.Nat.{_≤_}
 use mathlib.Core.Path.{sym}
 use native.Mathlib.Omega.{arith}

@@ -1,5 +1,5 @@
--- `answer::ask::ask` meets its contract: the scan and the check answer the first refusals, and where there is none the values are listed, the
--- rows counted and the top node evaluated. Assumes nothing.
+-- `answer::ask::ask` meets its contract: the scan and the check give the first refusals; if there is none, the values are listed, the rows
+-- counted and the top node evaluated. Assumes nothing.
 use Prim.Native.Nat.{ℕ, _+_, _≤_}
 use mathlib.Core.Path.{_≡_, sym, _∙_}
 use mathlib.Core.Bool.{true}
@@ -74,7 +74,7 @@ module _ (c : tie.After-struct-known) where
   eight : length (h .arities) ≡ maxRelations
   eight = search needs
 
-  -- what is told of a refusal, or of a verdict
+  -- a refusal or a verdict, in the paper's numbers
   told :
       {r : Asked} {left : List ℕ} → (r ≡ ask h ws qs cs buffer budget) × (left ≡ askedBuffer h ws qs cs buffer) →
       (r ≡ ask h ws qs cs buffer budget) ×

@@ -1,4 +1,4 @@
--- `cases::encoding::decode_first` is safe: the part is within the bytes. Assumes nothing.
+-- `cases::encoding::decode_first` is safe: the part that is decoded is within the bytes. Assumes nothing.
 use mathlib.Core.Path.{sym}
 use lib.Seq.{length-take-le}
 use borrow.Author.Needs.{needs}

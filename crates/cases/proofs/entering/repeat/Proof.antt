@@ -1,4 +1,4 @@
--- `cases::entering::repeat` is safe and ends: the slice keeps its length, and the rows that are left fall. Assumes nothing.
+-- `cases::entering::repeat` is safe and ends: the slice keeps its length, and the number of rows left falls. Assumes nothing.
 use Prim.Native.Nat.{_≤_, _-_}
 use mathlib.Core.Path.{_≡_, refl, _∙_}
 use borrow.Author.Needs.{needs}

@@ -1,5 +1,5 @@
--- `decode::head::read_arities` meets its contract. The loop's invariant: what is left to read follows the arities in the array, after which are
--- zeros. Assumes nothing.
+-- `decode::head::read_arities` meets its contract. The loop's invariant: the array has the arities that were read and then zeros, and the others are
+-- still to be read. Assumes nothing.
 use Prim.Native.Nat.{_+_, _<_, _-_}
 use mathlib.Core.Path.{_≡_, sym, _∙_}
 use mathlib.Core.Bool.{true, false}

@@ -1,4 +1,4 @@
--- `decode::head::read_head` meets its contract: each way through the tests is a law of reading a head. Assumes nothing.
+-- `decode::head::read_head` meets its contract: each path through the tests is a law of reading a head. Assumes nothing.
 use Prim.Native.Nat.{ℕ, _≤_}
 use mathlib.Core.Path.{_≡_, sym, ap, _∙_}
 use mathlib.Core.Bool.{true}
@@ -16,7 +16,7 @@ use borrow.Author.Needs.{needs}
 use Rattle.decode.proofs.head.read_head.Statement.{statement}
 use Rattle.decode.proofs.head.read_head.Tie as tie
 
--- the number of relations is within the rule
+-- the number of relations obeys its rule
 module _ (c : tie.Else3) where
   abbrev first : tie.After-byte
   first = c .before .before

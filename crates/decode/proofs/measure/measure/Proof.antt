@@ -1,5 +1,5 @@
--- `decode::measure::measure` meets its contract. The loop's invariant: the answer of the whole is that of what is left, with what was counted so
--- far added. Assumes nothing.
+-- `decode::measure::measure` meets its contract. The loop's invariant: the answer for all records is the answer for those that are left, with what was
+-- counted so far added. Assumes nothing.
 use Prim.Native.Nat.{_-_, _^_, _<_, max}
 use mathlib.Core.Path.{_≡_, sym, _∙_}
 use mathlib.Core.Logic.{⊎-elim}
@@ -36,7 +36,7 @@ part-measure-record-end c = search needs
 measure-record-requires : tie.Need-measure-record-requires Inv-loop μ-loop
 measure-record-requires c κs = search needs
 
--- what the record at index `at` was measured to be
+-- the result for the record at index `at`
 module _ (c : tie.After-measure-record Inv-loop μ-loop) where
   abbrev turn : tie.At-loop Inv-loop μ-loop
   turn = c .before .before .before

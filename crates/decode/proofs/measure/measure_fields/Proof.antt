@@ -1,5 +1,5 @@
--- `decode::measure::measure_fields` meets its contract. The loop's invariant: the answer of the whole is that of what is left, raised by the
--- highest null so far. Assumes nothing.
+-- `decode::measure::measure_fields` meets its contract. The loop's invariant: the answer for all fields is the answer for those that are left, raised to
+-- the highest null so far. Assumes nothing.
 use Prim.Native.Nat.{_≤_, max}
 use mathlib.Core.Path.{_≡_, sym, _∙_}
 use mathlib.Core.Logic.{⊎-elim}

@@ -1,4 +1,4 @@
--- `decode::measure::measure_record` meets its contract: each way through the tests is a law of reading one record. Assumes nothing.
+-- `decode::measure::measure_record` meets its contract: each path through the tests is a law of reading one record. Assumes nothing.
 use Prim.Native.Nat.{ℕ, _<_}
 use mathlib.Core.Path.{_≡_, sym, ap, _∙_}
 use mathlib.Core.List.{List}
@@ -16,7 +16,7 @@ use borrow.Author.Needs.{needs}
 use Rattle.decode.proofs.measure.measure_record.Statement.{statement}
 use Rattle.decode.proofs.measure.measure_record.Tie as tie
 
--- once both bytes are read, the relation's and the map
+-- once the relation's byte and the map are read
 module _ (c : tie.After-byte2) where
   abbrev first : tie.After-byte
   first = c .before .before .before
@@ -87,7 +87,7 @@ enum-known-highest c = search needs
 enum-known-why : tie.Need-enum-known-why
 enum-known-why c = search needs
 
--- what is returned of a record with its two bytes, from what is returned of its fields
+-- what is returned for a record whose two bytes are read, from what is returned for its fields
 module _ (c : tie.After-measure-fields) where
   abbrev both : tie.After-byte2
   both = c .before .before .before .before

@@ -1,5 +1,5 @@
--- `decode::write::write_row` meets its contract. The loop's invariant: the words written so far and the cells that are still to be read make up
--- the row, and the part's other words stay. Assumes nothing.
+-- `decode::write::write_row` meets its contract. The loop's invariant: the words written so far and the cells still to be read together are the row,
+-- and the other words of the part keep their content. Assumes nothing.
 use Prim.Native.Nat.{_+_, _-_, _%_, _≤_, _<_}
 use mathlib.Core.Path.{_≡_, _∙_}
 use mathlib.Core.Logic.{⊎-elim}
@@ -19,12 +19,12 @@ abbrev μ-loop : tie.MeasureT-loop
 slice-write-part : tie.Need-slice-write-part Inv-loop μ-loop
 slice-write-part c = omega arith
 
--- what a turn of the loop has
+-- what is known in an iteration of the loop
 module _ (c : tie.In-loop Inv-loop μ-loop) where
   room : c .before .loop .column + 1 < length (c .before .loop .part)
   room = row-room _ _ _ _ _ _ _ _ _ _ _ (c .before .loop .inv) (c .loop-test .taken)
 
-  -- the field of a column whose bit stands is within the bytes
+  -- if the column's bit is set, its field is within the bytes
   in-bytes : c .before .loop .bits % 2 ≡ 1 → c .before .loop .at + 3 ≤ length (c .before .before .before .before .args .fields .now)
   in-bytes = field-room _ _ _ _ _ _ _ _ _ _ _ (c .before .loop .inv) (c .loop-test .taken)
 

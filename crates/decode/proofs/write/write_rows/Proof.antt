@@ -1,5 +1,5 @@
--- `decode::write::write_rows` meets its contract. The loop's invariant: the rows written so far and those that are still to be read make up the
--- card's words. Assumes nothing.
+-- `decode::write::write_rows` meets its contract. The loop's invariant: the rows written so far and the rows still to be read together are the card's
+-- words. Assumes nothing.
 use Prim.Native.Nat.{ℕ, _+_, _-_, _≤_}
 use mathlib.Core.Path.{_≡_, refl}
 use mathlib.Core.List.{List}
@@ -19,7 +19,7 @@ Inv-loop plot₀ card relations arities count next used₀ null₀ at₀ left₀
 abbrev μ-loop : tie.MeasureT-loop
 μ-loop plot₀ card relations arities count next used₀ null₀ at₀ left₀ plot used null at left = left
 
--- what a turn finds at its record, whose first two bytes are b and map
+-- what an iteration finds at its record, whose first two bytes are b and map
 module _ (c : tie.In-loop Inv-loop μ-loop) where
   abbrev start : tie.Start Inv-loop μ-loop
   start = c .before .before .before .before

@@ -1,4 +1,4 @@
--- The cycle of evaluation meets its contracts: each function calls another one on the same node, or one on a node below. Assumes nothing.
+-- The mutually recursive functions of evaluation meet their contracts: each call is on the same node or on a child. Assumes nothing.
 use Prim.Native.Nat.{ℕ, _+_, _-_, _*_, _<_}
 use mathlib.Core.Path.{_≡_, refl, sym, ap, _∙_}
 use native.Mathlib.Omega.{arith}
@@ -75,7 +75,7 @@ walk-at t = and 6 walk-kinds.ps (is 6 walk-kinds.ps μ-walk t) walk.Pre
 abbrev walk-below : ℕ → In 6 walk-kinds.ps
 walk-below t = and 6 walk-kinds.ps (falls 6 walk-kinds.ps _<_ μ-walk t) walk.Pre
 
--- what each function takes its callees to promise
+-- what each function assumes of the functions that it calls
 abbrev both-claims : ℕ → both-lts.Claims
 both-claims t = (word-reads.Asked, word-reads.Learnt, evaluate-below t, evaluate.Post, settles-reads.Asked, settles-reads.Learnt, join-reads.Asked, join-reads.Learnt)
 
@@ -94,12 +94,12 @@ both-word-requires t c κs = (c .before .before .before .pre .1 .0 .known, omega
 both-word-requires-2 : (t : ℕ) → both-lts.Need-word-requires-2 (both-claims t) (both-at t) both.Post
 both-word-requires-2 t c κs = (c .before .before .before .before .pre .1 .0 .known, omega arith)
 
--- what stands below a node that joins two others
+-- what is known of the two children of a node that joins them
 module _ (t : ℕ) (s : both-lts.Start (both-claims t) (both-at t) both.Post) where
   both-down : NodeBy (s .args .relations) (s .args .arities .now) (s .args .query .now) (s .args .node) (joins (junctionOf (s .args .every)))
   both-down = stands-by _ _ _ _ _ _ (joins (junctionOf (s .args .every))) (s .pre .1 .0 .ready) (s .pre .1 .0 .known) (s .pre .1 .1)
 
--- what the left child answered, as the answer of the node that word 1 names
+-- the left child's answer, as the answer for the node that word 1 names
 module _ (t : ℕ) (e : both-lts.After-evaluate (both-claims t) (both-at t) both.Post) where
   abbrev both-start : both-lts.Start (both-claims t) (both-at t) both.Post
   both-start = e .before .before .before .before .before .before .before
@@ -108,7 +108,7 @@ module _ (t : ℕ) (e : both-lts.After-evaluate (both-claims t) (both-at t) both
       → Right (both-start .args .arities .now) (both-start .args .words .now) (both-start .args .query .now) (wordAt (both-start .args .query .now) (both-start .args .node) 1) (both-start .args .env .now) (both-start .args .budget) r
   left-told r is = rw (e .before .before .before .word .ensures, is) at (e .evaluate .ensures .1)
 
--- what the right child answered, with what the left one has left of the budget
+-- the right child's answer, within what the left child has left of the budget
 module _ (t : ℕ) (e : both-lts.After-evaluate2 (both-claims t) (both-at t) both.Post) where
   abbrev left-done : both-lts.After-evaluate (both-claims t) (both-at t) both.Post
   left-done = e .before .before .before .before .before .before .before
@@ -327,12 +327,12 @@ abbrev walk-μ-loop : walk-lts.MeasureT-loop
 walk-μ-loop query node every env₀ budget values relations arities words counts variable child old truth₀ cost₀ i₀ env truth cost i =
     length values - i
 
--- what stands below a node that ranges over values
+-- what is known of the child of a node that ranges over values
 module _ (t : ℕ) (s : walk-lts.Start (walk-claims t) (walk-at t) walk.Post walk-Inv-loop walk-μ-loop) where
   walk-down : NodeBy (s .args .relations) (s .args .arities .now) (s .args .query .now) (s .args .node) (ranges (junctionOf (s .args .every)))
   walk-down = stands-by _ _ _ _ _ _ (ranges (junctionOf (s .args .every))) (s .pre .1 .0 .ready) (s .pre .1 .0 .known) (s .pre .1 .1)
 
--- once the child was asked at a value
+-- once the child was evaluated for a value
 module _ (t : ℕ) (e : walk-lts.After-evaluate (walk-claims t) (walk-at t) walk.Post walk-Inv-loop walk-μ-loop) where
   abbrev walk-loop : walk-lts.At-loop (walk-claims t) (walk-at t) walk.Post walk-Inv-loop walk-μ-loop
   walk-loop = e .before .before .before .before .before .before
@@ -346,14 +346,14 @@ module _ (t : ℕ) (e : walk-lts.After-evaluate (walk-claims t) (walk-at t) walk
   abbrev qs : List ℕ
   qs = walk-start .args .query .now
 
-  -- the variable, as the code has it and as the question's word
+  -- the variable, as the code read it from the question's word
   abbrev variable : ℕ
   variable = walk-loop .before .before .before .before .word .result
 
   abbrev value : ℕ
   value = getD (walk-start .args .values .now) (walk-loop .loop .i) 0
 
-  -- the assignment at which the child was asked
+  -- the assignment under which the child was evaluated
   here : e .before .before .assign .last .0 ≡ set env₀ (wordAt qs (walk-start .args .node) 1) value
   here =
       e .before .before .assign .ensures ∙ set-again _ (walk-loop .loop .env) _ _ _ (walk-loop .loop .inv .1) ∙
@@ -365,12 +365,12 @@ module _ (t : ℕ) (e : walk-lts.After-evaluate (walk-claims t) (walk-at t) walk
       ap (λ (l : List ℕ). set l variable (getD env₀ variable 0)) (e .evaluate .ensures .0 ∙ e .before .before .assign .ensures ∙ set-again _ (walk-loop .loop .env) _ _ _ (walk-loop .loop .inv .1)) ∙
       set-back _ (walk-loop .loop .env) _ _ _ (walk-loop .loop .inv .1) refl
 
-  -- what the child answered, as the answer of the node that word 2 names, with what is left of the budget
+  -- the child's answer, as the answer for the node that word 2 names, within what is left of the budget
   child-told : (r : Evaluated) → e .evaluate .result ≡ r
       → Right (walk-start .args .arities .now) (walk-start .args .words .now) qs (wordAt qs (walk-start .args .node) 2) (set env₀ (wordAt qs (walk-start .args .node) 1) value) (walk-start .args .budget - walk-loop .loop .cost) r
   child-told r is = rw (e .before .before .before .before .before .before .before .before .before .word2 .ensures, is, here) at (e .evaluate .ensures .1)
 
-  -- the assignment is as long as it was, and the variable within it
+  -- the assignment still has 16 values, and the variable is one of them
   assignable : (variable < variables) × (length (e .evaluate .last .1 .1 .0) ≡ variables)
   assignable = (
     omega (arith, walk-loop .before .before .before .before .word .ensures, walk-down t walk-start .0),
@@ -403,7 +403,7 @@ walk-mul-assign t c = omega arith
 walk-shared-slice-read-assign : (t : ℕ) → walk-lts.Need-shared-slice-read-assign (walk-claims t) (walk-at t) walk.Post walk-Inv-loop walk-μ-loop
 walk-shared-slice-read-assign t c = c .before .before .loop-test .taken
 
--- the assignment stays as long as it was
+-- the assignment keeps its length
 kept-long : (t : ℕ) (l : walk-lts.At-loop (walk-claims t) (walk-at t) walk.Post walk-Inv-loop walk-μ-loop) → length (l .loop .env) ≡ variables
 kept-long t l =
     sym (length-set (l .loop .env) _ _) ∙ ap length (l .loop .inv .1) ∙ l .before .before .before .before .before .before .before .before .pre .1 .0 .sixteen

@@ -1,4 +1,4 @@
--- `evaluate::nodes::atom` meets its contract: an atom costs 1 plus the rows of its relation. Assumes nothing.
+-- `evaluate::nodes::atom` meets its contract: an atom costs 1 plus the number of rows of its relation. Assumes nothing.
 use mathlib.Core.Path.{sym, ap, _∙_, _≡_}
 use Prim.Native.Nat.{ℕ, _+_, _<_}
 use native.Mathlib.Omega.{arith}
@@ -27,7 +27,7 @@ module _ (s : tie.Start) where
   node : AtomStands (s .args .relations) (s .args .arities .now) (s .args .words .now) (s .args .query .now) (s .args .counts .now) (s .args .node)
   node = atom-stands _ _ _ _ _ _ (s .pre .0 .0) known is
 
--- after its relation was read
+-- after the word with its relation was read
 abbrev start : tie.After-word → tie.Start
 start c = c .before .before .before
 

@@ -14,7 +14,7 @@ use Rattle.evaluate.proofs.nodes.equality.Tie as tie
 use Rattle.calculus.specs.Formula.{value}
 use Rattle.query.specs.Tree.{termOf}
 
--- the node is that of an equality
+-- the node is an equality
 module _ (s : tie.Start) where
   abbrev known : s .args .node < nodeCount (s .args .query .now)
   known = s .pre .0 .0

@@ -1,4 +1,4 @@
--- `evaluate::nodes::join` meets its contract, for and and for or. Assumes nothing.
+-- `evaluate::nodes::join` meets its contract, for `and` and for `or`. Assumes nothing.
 use borrow.Author.Needs.{needs}
 use Rattle.evaluate.proofs.nodes.join.Statement.{statement}
 use Rattle.evaluate.proofs.nodes.join.Tie as tie

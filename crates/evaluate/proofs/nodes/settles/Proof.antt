@@ -1,4 +1,4 @@
--- `evaluate::nodes::settles` meets its contract, at each truth value. Assumes nothing.
+-- `evaluate::nodes::settles` meets its contract, for each truth value. Assumes nothing.
 use mathlib.Core.Path.{_≡_, refl}
 use mathlib.Core.Bool.{Bool, true, false, not}
 use Rattle.calculus.specs.declared.truth.Truth.the-variants.{False, Unknown, True}

@@ -1,4 +1,4 @@
--- `evaluate::terms::asked_row` meets its contract: the row is the terms' cells, padded with 0. Assumes nothing.
+-- `evaluate::terms::asked_row` meets its contract: the row has the values of the terms, padded with 0. Assumes nothing.
 use Prim.Native.Nat.{_≤_, _-_}
 use mathlib.Core.Path.{_≡_, refl}
 use native.Mathlib.Omega.{arith}

@@ -1,4 +1,4 @@
--- `evaluate::terms::same` meets its contract, at each way through the tests. Assumes nothing.
+-- `evaluate::terms::same` meets its contract, on each path through the tests. Assumes nothing.
 use borrow.Author.Tests.{eq-eqb, ne-eqb, lt-ltb, le-ltb}
 use Rattle.calculus.specs.Closed.{equality}
 use Rattle.evaluate.proofs.terms.same.Statement.{statement}

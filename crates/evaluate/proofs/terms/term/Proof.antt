@@ -1,4 +1,4 @@
--- `evaluate::terms::term` meets its contract: a constant, or one of 16 variables. Assumes nothing.
+-- `evaluate::terms::term` meets its contract: a term is a constant or one of 16 variables. Assumes nothing.
 use native.Mathlib.Omega.{arith}
 use Rattle.evaluate.proofs.TermLaws.{below-base, from-base, few-variables}
 use borrow.Author.Needs.{needs}

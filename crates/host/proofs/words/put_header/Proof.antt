@@ -1,4 +1,4 @@
--- `host::words::put_header` meets its contract, on each of the two answers. Assumes nothing.
+-- `host::words::put_header` meets its contract, for each of the two answers. Assumes nothing.
 use borrow.Author.Needs.{needs}
 use Rattle.host.proofs.words.put_header.Statement.{statement}
 use Rattle.host.proofs.words.put_header.Tie as tie

@@ -1,4 +1,4 @@
--- `host::words::read_header` meets its contract: the eight arities are the words from word 1. Assumes nothing.
+-- `host::words::read_header` meets its contract: the eight arities are the words from index 1. Assumes nothing.
 use Prim.Native.Nat.{ℕ}
 use mathlib.Core.Path.{ap, _∙_}
 use mathlib.Core.List.{List}

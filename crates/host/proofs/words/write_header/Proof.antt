@@ -1,4 +1,4 @@
--- `host::words::write_header` meets its contract: the ten words are written over. Assumes nothing.
+-- `host::words::write_header` meets its contract: all ten words are overwritten. Assumes nothing.
 use Prim.Native.Nat.{ℕ}
 use mathlib.Core.Path.{_≡_, ap, _∙_, refl, sym}
 use mathlib.Core.List.{List, [], _∷_, _++_}

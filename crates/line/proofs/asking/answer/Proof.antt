@@ -8,7 +8,7 @@ use borrow.Author.Needs.{needs}
 use Rattle.line.proofs.asking.answer.Statement.{statement}
 use Rattle.line.proofs.asking.answer.Tie as tie
 
--- the fields stand at the places that were found
+-- the fields are at the places that were found
 standing : (c : tie.After-known-told) → Standing (c .before .before .before .before .before .args .input .now) (c .before .places .given .0 .0)
 standing c = rw (c .before .places .given .1) at (c .before .before .before .find .ensures .0)
 

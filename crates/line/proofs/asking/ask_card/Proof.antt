@@ -1,4 +1,4 @@
--- `line::asking::ask_card` meets its contract: a card that is refused says so, and any other is asked. Assumes nothing.
+-- `line::asking::ask_card` meets its contract: if the card is refused, that refusal is returned; otherwise the question is asked. Assumes nothing.
 use Prim.Native.Nat.{ℕ, _+_, _-_}
 use mathlib.Core.Path.{_≡_, _∙_}
 use mathlib.Core.List.{List}
@@ -23,7 +23,7 @@ module _ (c : tie.After-decode) where
   abbrev size : ℕ
   size = start .args .places .size
 
-  -- the bytes that were lent
+  -- how many bytes were lent
   lent : 2 + size - 2 ≡ size
   lent = omega arith
 

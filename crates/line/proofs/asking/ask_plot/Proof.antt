@@ -1,4 +1,4 @@
--- `line::asking::ask_plot` meets its contract: the words and the cells are read, and a question of more words than are read is refused for its
+-- `line::asking::ask_plot` meets its contract: the words and the cells are read, and a question with more words than are read is refused for its
 -- length. Assumes nothing.
 use Prim.Native.Nat.{ℕ}
 use mathlib.Core.Path.{_≡_, sym, _∙_}
@@ -18,7 +18,7 @@ use borrow.Author.Needs.{needs}
 use Rattle.line.proofs.asking.ask_plot.Statement.{statement}
 use Rattle.line.proofs.asking.ask_plot.Tie as tie
 
--- the first words are read
+-- once it is known how many words are read
 module _ (c : tie.After-words) where
   abbrev start : tie.Start
   start = c .before .before .before .before
@@ -35,7 +35,7 @@ module _ (c : tie.After-words) where
   first-read : isRead (readNumbers 4 count (drop (places .words) input)) ≡ true
   first-read = each-fewer (readNumber 4) count (places .count) (drop (places .words) input) (omega arith) (start .pre .words-read)
 
--- once the words and the cells stand in their lists
+-- once the words and the cells are in their lists
 module _ (c : tie.After-numbers2) where
   abbrev worded : tie.After-numbers
   worded = c .before .before .before

@@ -1,4 +1,4 @@
--- `line::fields::find` meets its contract: each number is read after the field before it, and says how many bytes the next field has.
+-- `line::fields::find` meets its contract: each number is read after the field before it, and gives the size of the next field.
 -- Assumes nothing.
 use Prim.Native.Nat.{ℕ, _+_, _*_}
 use mathlib.Core.Path.{_≡_}
@@ -14,7 +14,7 @@ use borrow.Author.Needs.{needs}
 use Rattle.line.proofs.fields.find.Statement.{statement}
 use Rattle.line.proofs.fields.find.Tie as tie
 
--- what the input reads as, once each number is read
+-- what the input is read as, once each number is read
 module _ (c : tie.After-number) where
   abbrev start : tie.Start
   start = c .before .before .before .before

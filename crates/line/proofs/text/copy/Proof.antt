@@ -1,4 +1,4 @@
--- `line::text::copy` meets its contract: what is copied stands in front, and what is left follows. Assumes nothing.
+-- `line::text::copy` meets its contract: the bytes copied so far are at the front, and the others follow. Assumes nothing.
 use Prim.Native.Nat.{_-_, _≤_}
 use mathlib.Core.Path.{refl}
 use native.Mathlib.Omega.{arith}

@@ -1,4 +1,4 @@
--- `line::text::write_line` meets its contract: the word, the digits after it and the line feed. Assumes nothing.
+-- `line::text::write_line` meets its contract: the word, then the digits and the line feed. Assumes nothing.
 use Prim.Native.Nat.{ℕ, _-_, _≤_}
 use mathlib.Core.Path.{_≡_, ap, _∙_}
 use mathlib.Core.List.{List, _++_}
@@ -15,7 +15,7 @@ use borrow.Author.Needs.{needs}
 use Rattle.line.proofs.text.write_line.Statement.{statement}
 use Rattle.line.proofs.text.write_line.Tie as tie
 
--- once the digits are written: how many there are, what stands in the list, and its length
+-- once the digits are written: how many there are, what the list holds, and its length
 module _ (c : tie.After-slice-known3) where
   abbrev copied : tie.After-copy
   copied = c .before .before .before .before .before .before

@@ -1,4 +1,4 @@
--- `parse::number::number` meets its contract. The loop's invariant: the bytes that are left, read behind the number so far, give the whole number.
+-- `parse::number::number` meets its contract. The loop's invariant: the bytes that are left, read after the number so far, give the whole number.
 -- Assumes nothing.
 use Prim.Native.Nat.{suc, _+_, _*_, _-_, _^_, _≤_, _<_}
 use mathlib.Core.Path.{_≡_, _∙_}

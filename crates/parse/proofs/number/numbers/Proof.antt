@@ -1,4 +1,4 @@
--- `parse::number::numbers` meets its contract: the numbers so far stand in front, and those that are left are read behind them. Assumes nothing.
+-- `parse::number::numbers` meets its contract: the numbers read so far are at the front, and the others are read after them. Assumes nothing.
 use Prim.Native.Nat.{_-_}
 use native.Mathlib.Omega.{arith}
 use Rattle.parse.proofs.Filling.{Filling, fill-start, fill-room, fill-more, fill-end}

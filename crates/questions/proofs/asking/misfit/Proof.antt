@@ -1,4 +1,4 @@
--- `questions::asking::misfit` meets its contract: both parts are within their arrays. Assumes nothing.
+-- `questions::asking::misfit` meets its contract: both slices are within their arrays. Assumes nothing.
 use mathlib.Core.Path.{sym}
 use native.Mathlib.Omega.{arith}
 use lib.Seq.{length-take-le}

@@ -1,4 +1,4 @@
--- `questions::asking::one` meets its contract: n nodes are within seven. Assumes nothing.
+-- `questions::asking::one` meets its contract: the n nodes are within the seven. Assumes nothing.
 use mathlib.Core.Path.{sym}
 use native.Mathlib.Omega.{arith}
 use lib.Seq.{length-take-le}

@@ -1,4 +1,4 @@
--- `questions::limits::chain` meets its contract: each node's words are within the question, and the links that are left fall. Assumes nothing.
+-- `questions::limits::chain` meets its contract: each node's words are within the question, and the number of nodes left falls. Assumes nothing.
 use Prim.Native.Nat.{_≤_, _-_}
 use mathlib.Core.Path.{_≡_}
 use native.Mathlib.Omega.{arith}

@@ -1,4 +1,4 @@
--- `questions::question::flat` meets its contract: every place is within its array. Assumes nothing.
+-- `questions::question::flat` meets its contract: every index is within its array. Assumes nothing.
 use Prim.Native.Nat.{ℕ, _-_, _≤_}
 use mathlib.Core.Path.{_≡_, _∙_}
 use native.Mathlib.Omega.{arith}

@@ -23,7 +23,7 @@ substitute-requires c κs = search needs
 enum-told : tie.Need-enum-told
 enum-told c = search needs
 
--- where the fill was accepted
+-- if the fill was accepted
 module _ (c : tie.After-enum-told) where
   abbrev h : Header
   h = c .before .before .before .before .before .before .before .before .args .header

@@ -1,4 +1,4 @@
--- `rerun::fills::fill_all` meets its contract: what is left to do gives the same end. Assumes nothing.
+-- `rerun::fills::fill_all` meets its contract: the fills that are left lead to the same end. Assumes nothing.
 use Prim.Native.Nat.{ℕ, _≤_, _-_}
 use mathlib.Core.Path.{_≡_, refl, ap, _∙_}
 use native.Mathlib.Omega.{arith}
@@ -55,7 +55,7 @@ part-store-start c = omega arith
 part-store-end : tie.Need-part-store-end Inv-loop μ-loop
 part-store-end c = omega arith
 
--- the turn of the loop that made a fill
+-- the iteration that made a fill
 abbrev begins : tie.After-fill Inv-loop μ-loop → tie.At-loop Inv-loop μ-loop
 begins c = c .before .before .before .before .before .before
 

@@ -1,4 +1,4 @@
--- `rerun::fills::store` meets its contract: the first two words are set, the others stay. Assumes nothing.
+-- `rerun::fills::store` meets its contract: the first two words are set, and the others keep their content. Assumes nothing.
 use Prim.Native.Nat.{ℕ, _≤_}
 use mathlib.Core.Path.{_≡_, refl, sym, ap, _∙_}
 use mathlib.Core.List.{List, [], _∷_, _++_}
