@@ -1,4 +1,4 @@
--- With no null there is no unknown: the truth value is what two-valued logic says. Assumes nothing.
+-- Without nulls there is no unknown: the truth value is what two-valued logic says. Assumes nothing.
 use Prim.Native.Nat.{ℕ}
 use mathlib.Core.Path.{_≡_, refl, sym, ap, _∙_}
 use mathlib.Core.Bool.{Bool, true, false, not, cond}
@@ -39,7 +39,7 @@ join-bool disj true false = refl
 join-bool disj false true = refl
 join-bool disj false false = refl
 
--- constants unify only where they are the same
+-- lists of constants unify only if they are identical
 constants-unify : (xs ys : List ℕ) → allConstant xs ≡ true → allConstant ys ≡ true → unifies xs ys ≡ true → identical xs ys ≡ true
 constants-unify xs ys p q e =
     let u = unifies-agrees xs ys .0 e in
@@ -47,7 +47,7 @@ constants-unify xs ys p q e =
     let same : xs ≡ ys = sym (keeps-all (under v) (under-keeps v) xs p) ∙ u .equal ∙ keeps-all (under v) (under-keeps v) ys q in
     rw (← same) (identical-refl xs)
 
--- every tuple of a relation is a list of constants
+-- if all cells are constants, every tuple of a relation is a list of constants
 tuples-known : (r : ℕ) (rs : List Row) → allConstant (cellsOf rs) ≡ true → all allConstant (tuples r rs) ≡ true
 unfolding all tuples cellsOf
 tuples-known r [] h = refl
@@ -102,7 +102,7 @@ over-bool j f g (c ∷ cs) k each =
     join-bool j (g c) (overB j g cs)
 
 module _ (rs : List Row) (plain : allConstant (cellsOf rs) ≡ true) where
-  -- the verdict is true exactly where two-valued logic says yes, and false exactly where it says no
+  -- the verdict is true exactly if two-valued logic says yes, and false exactly if it says no
   pub two-valued :
       (f : Formula) → inked f ≡ true → (e : List ℕ) → allConstant e ≡ true →
       eval (closed rs) f e .truth ≡ ofBool (says rs f e)

@@ -1,4 +1,4 @@
--- Lists whose every element passes a test: what keeps them so. Assumes nothing.
+-- Lists in which every element passes a test, and what keeps them so. Assumes nothing.
 use Prim.Native.Nat.{ℕ, zero, suc, _+_, _<_}
 use mathlib.Core.Path.{_≡_, refl}
 use mathlib.Core.Bool.{Bool, true, _&&_}
@@ -53,7 +53,7 @@ module _ {A : Type 0} (test : A → Bool) where
   all-map f before t [] e = refl
   all-map f before t (x ∷ xs) e = let b = both (before x) (all before xs) e in and-true (t x (b .0)) (all-map f before t xs (b .1))
 
--- the elements from place i on: the one there, and those after it
+-- the elements from index i: the one there, and those after it
 pub all-rest : (test : ℕ → Bool) (xs : List ℕ) (i : ℕ) → i < length xs → all test (drop i xs) ≡ test (getD xs i 0) && all test (drop (i + 1) xs)
 unfolding all
 all-rest test xs i l = rw (rest xs i l)

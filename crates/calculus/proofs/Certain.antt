@@ -23,7 +23,7 @@ use Rattle.calculus.proofs.All.{all-map, all-always, all-append, all-re
 valued-constant : (v : Valuation) (cs : List ℕ) → allConstant (map (under v) cs) ≡ true
 valued-constant v cs = all-map isConstant (under v) (λ c. true) (λ c t. under-constant v c) cs (all-always (λ c. true) (λ c. refl) cs)
 
--- with no null, the verdict is two-valued logic's
+-- without nulls, the verdict is that of two-valued logic
 pub plain-verdict : (b : Model) (f : Formula) → inked f ≡ true → plain b ≡ true → asked b f .truth ≡ ofBool (saysYes b f)
 plain-verdict b f k p =
     let c = both (allConstant (cellsOf (b .rows))) (allConstant (b .candidate)) p in
@@ -42,7 +42,7 @@ constant-cell : (c : ℕ) → isConstant c ≡ true → isCell c ≡ true
 unfolding isCell
 constant-cell c k = rw k
 
--- every valuation of all nulls keeps a true and a false verdict
+-- every valuation of all nulls keeps a true or false verdict
 pub valuation-kept : (v : Valuation) (b : Model) (f : Formula) → inked f ≡ true → asked b f ⊑ₒ asked (valued v b) f
 valuation-kept v b f k =
     mapped-kept {b = b} {b′ = valued v b}
@@ -60,7 +60,7 @@ of-bool true false e = let z : _≡_ {A = Bool} true false = cc in z
 of-bool false true e = let z : _≡_ {A = Bool} false true = cc in z
 of-bool false false e = refl
 
--- a true verdict is a yes of two-valued logic under every valuation, and a false one a no
+-- if the verdict is true, two-valued logic says yes under every valuation; if it is false, no
 pub certain :
     (v : Valuation) (b : Model) (f : Formula) (t : Bool) → inked f ≡ true → asked b f .truth ≡ ofBool t → saysYes (valued v b) f ≡ t
 certain v b f t k e =
@@ -72,6 +72,6 @@ certain v b f t k e =
 pub runs-share : (fs : List Fill) (b : Model) (f : Formula) → inked f ≡ true → Shared fs b f
 runs-share fs b f k = record { kept = fills-kept fs b f k; two-valued = plain-verdict (run fs b) f k }
 
--- a true or a false verdict of A is B's too
+-- if A's verdict is true or false, B's is the same
 pub verdict-kept : (fs : List Fill) (b : Model) (f : Formula) (t : Bool) → inked f ≡ true → asked b f .truth ≡ ofBool t → asked (run fs b) f .truth ≡ ofBool t
 verdict-kept fs b f t k e = settled t (fills-kept fs b f k .truth) e

@@ -1,5 +1,5 @@
--- A map of cells that leaves constants as they are makes of a closed instance an image: rows that stood still stand, rows that did not unify
--- still do not, and the values are the images of the values. Assumes nothing.
+-- A map of cells that leaves constants as they are turns a closed instance into an image of it: rows that were there are still there, rows that
+-- did not unify still do not, and the values are the images of the old values. Assumes nothing.
 use Prim.Native.Nat.{ℕ, _+_}
 use native.Mathlib.Nat.{le-of-eq}
 use mathlib.Core.Path.{_≡_, refl, sym, ap, _∙_, subst}
@@ -26,7 +26,7 @@ use Rattle.calculus.proofs.Distinct.{distinct-map}
 use Rattle.calculus.proofs.Tuples.{tuples-map, some-mono, some-of-map, identical-refl, identical-is}
 use Rattle.calculus.proofs.Lists.{map-same}
 
--- the same list unifies
+-- identical lists unify
 pub identical-unifies : (xs ys : List ℕ) → identical xs ys ≡ true → unifies xs ys ≡ true
 identical-unifies xs ys e =
     unifies-agrees xs ys .1
@@ -36,7 +36,7 @@ module _ (h : ℕ → ℕ) (keeps : Keeps h) where
   pub identical-map : (xs ys : List ℕ) → identical xs ys ≡ true → identical (map h xs) (map h ys) ≡ true
   identical-map xs ys e = subst (λ (l : List ℕ). identical (map h xs) (map h l) ≡ true) (identical-is xs ys e) (identical-refl (map h xs))
 
-  -- a valuation after h is a valuation
+  -- lists unify if their images do: a valuation after h is a valuation
   unifies-unmap : (xs ys : List ℕ) → unifies (map h xs) (map h ys) ≡ true → unifies xs ys ≡ true
   unifies-unmap xs ys e =
       let u = unifies-agrees (map h xs) (map h ys) .0 e in
@@ -75,7 +75,7 @@ module _ (h : ℕ → ℕ) (keeps : Keeps h) where
       go false e true k = let c = both (isConstant a) (isConstant b) k in rw (keeps a (c .0), keeps b (c .1), e, k) alike
       go false e false k = unknown
 
-  -- the range of the mapped rows is the mapped range, each value once where it first stands
+  -- the range of the mapped rows is the mapped range, each value once, at its first occurrence
   pub domain-map : (rs : List Row) → domain (map (mapRow h) rs) ≡ distinct (map h (domain rs))
   domain-map rs = ap distinct (cells-map h rs) ∙ distinct-map h (cellsOf rs)
 

@@ -1,4 +1,4 @@
--- Lists of constants: what keeps them so. Assumes nothing.
+-- Lists of constants, and what keeps them so. Assumes nothing.
 use Prim.Native.Nat.{ℕ}
 use mathlib.Core.Path.{_≡_, refl}
 use mathlib.Core.Bool.{Bool, true, false, cond}

@@ -1,4 +1,4 @@
--- Counting in one pass: what the counters have, and what is still to come, is the whole number of each kind. Assumes nothing.
+-- Counting in one pass: for each kind, the counter plus the number still to come is the total. Assumes nothing.
 use Prim.Native.Nat.{ℕ, suc, _+_, _<_}
 use mathlib.Core.Path.{_≡_, refl, sym, _∙_}
 use mathlib.Core.Bool.{Bool, true, false}
@@ -11,7 +11,7 @@ use lib.Dec.{eqb}
 use Rattle.calculus.specs.Table.{table}
 use Rattle.calculus.proofs.Table.{table-size, table-at}
 
--- n counters, one for each kind below n, of which there are `whole` in all and `more` still to come
+-- n counters, one for each kind below n; `whole` gives the total of each kind, and `more` the number still to come
 pub record Counting (n : ℕ) (whole more : ℕ → ℕ) (counts : List ℕ) : Type 0 where
   pub size : length counts ≡ n
   pub each : (k : ℕ) → k < n → getD counts k 0 + more k ≡ whole k
@@ -24,7 +24,7 @@ module _ (n : ℕ) (whole : ℕ → ℕ) where
   }
 
   module _ (more less : ℕ → ℕ) (counts : List ℕ) where
-    -- one of kind k comes, and none of another
+    -- one of kind k comes, and none of any other kind
     pub counting-one :
         (k : ℕ) → k < n → more k ≡ suc (less k) → ((j : ℕ) → (j ≡ k → ⊥) → more j ≡ less j) →
         Counting n whole more counts → Counting n whole less (set counts k (getD counts k 0 + 1))
@@ -45,7 +45,7 @@ module _ (n : ℕ) (whole : ℕ → ℕ) where
     pub counting-none : ((k : ℕ) → k < n → more k ≡ less k) → Counting n whole more counts → Counting n whole less counts
     counting-none same s = record { size = s .size; each = λ k l. omega (arith, s .each k l, same k l) }
 
-  -- none is still to come
+  -- nothing is still to come: the counters are the totals
   pub counting-ends : (more : ℕ → ℕ) (counts : List ℕ) → ((k : ℕ) → more k ≡ 0) → Counting n whole more counts → counts ≡ table whole n
   counting-ends more counts none s =
       ext-getD 0 counts (table whole n) (s .size ∙ sym (table-size whole n))

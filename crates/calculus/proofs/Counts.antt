@@ -1,4 +1,4 @@
--- How often a number stands in a list. Assumes nothing.
+-- How often a number occurs in a list. Assumes nothing.
 use Prim.Native.Nat.{ℕ, suc, _+_, _≤_, _<_}
 use mathlib.Core.Path.{_≡_}
 use mathlib.Core.Bool.{Bool, true, false, cond}
@@ -20,7 +20,7 @@ module _ (x : ℕ) where
     unfolding countOf
     count-other ne = simp (ne-eqb y x ne)
 
-    -- one element more
+    -- one more element
     pub count-cons : countOf x (y ∷ ys) ≡ countOf x (y ∷ []) + countOf x ys
     unfolding countOf
     count-cons = go (eqb y x)

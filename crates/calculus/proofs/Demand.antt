@@ -1,4 +1,4 @@
--- A chain of demands that ends otherwise than in its first refusal has met the first demand. Assumes nothing.
+-- A chain of demands whose result is not its first refusal has met the first demand. Assumes nothing.
 use mathlib.Core.Path.{_≡_, refl}
 use mathlib.Core.Bool.{Bool, true, false}
 use Rattle.calculus.specs.Demand.{demand}

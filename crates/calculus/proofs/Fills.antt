@@ -1,4 +1,4 @@
--- What a list of fills does to a verdict and its cost: one map of cells stands for the whole list, a refused fill for the identity. Assumes
+-- What a list of fills does to a verdict and its cost: the whole list acts as one map of cells, and a refused fill as the identity. Assumes
 -- nothing.
 use Prim.Native.Nat.{ℕ, zero, suc, _-_}
 use mathlib.Core.Path.{_≡_, refl, sym, ap, _∙_, subst}
@@ -38,7 +38,7 @@ assignment-map h keeps cs =
 
 -- ---- a map of rows and candidate
 
--- b′ is b under a map of cells that leaves constants as they are, and makes cells of cells
+-- b′ is b under a map of cells that leaves constants as they are and maps cells to cells
 pub record Mapped (b b′ : Model) : Type 0 where
   pub by : ℕ → ℕ
   pub keeps : Keeps by
@@ -109,10 +109,10 @@ unfolding afterFills
 mapped-run [] b = mapped-none b
 mapped-run (f ∷ fs) b = mapped-twice (mapped-next f b) (mapped-run fs (next f b))
 
--- one fill, refused or not
+-- one fill, refused or not, unsettles no verdict and raises no cost
 pub fill-kept : (f : Fill) (b : Model) (g : Formula) → inked g ≡ true → asked b g ⊑ₒ asked (next f b) g
 fill-kept f b = mapped-kept (mapped-next f b)
 
--- the whole list, refused fills included: no verdict is unsettled, and no cost rises
+-- the same for the whole list, refused fills included
 pub fills-kept : (fs : List Fill) (b : Model) (g : Formula) → inked g ≡ true → asked b g ⊑ₒ asked (run fs b) g
 fills-kept fs b = mapped-kept (mapped-run fs b)

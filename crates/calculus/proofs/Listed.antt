@@ -1,4 +1,4 @@
--- A number among those of two lists. Assumes nothing.
+-- A number in one of two lists is in both joined. Assumes nothing.
 use Prim.Native.Nat.{ℕ}
 use mathlib.Core.Path.{_≡_, refl}
 use mathlib.Core.Bool.{Bool, true, false, _||_}

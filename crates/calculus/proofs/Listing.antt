@@ -1,4 +1,4 @@
--- The values of a list of cells, listed from the left: a cell that is not listed yet is put after those that are. Assumes nothing.
+-- The values of a list of cells, listed from left to right: a cell that is not listed yet is appended. Assumes nothing.
 use Prim.Native.Nat.{ℕ}
 use mathlib.Core.Path.{_≡_, refl, sym, ap, _∙_}
 use mathlib.Core.Bool.{Bool, true, false, _||_, cond, false≢true, true≢false}
@@ -34,7 +34,7 @@ unfolding withoutAll
 all-snoc x [] l = refl
 all-snoc x (v ∷ vs) l = all-snoc x vs (without v l)
 
--- a value that is listed makes no difference
+-- a value that is listed already makes no difference
 module _ (x : ℕ) where
   all-again : (vs l : List ℕ) → listed x vs ≡ true → withoutAll vs (without x l) ≡ withoutAll vs l
   unfolding withoutAll listed
@@ -60,7 +60,7 @@ module _ (x : ℕ) where
       go true p q ih = ap (withoutAll vs) (without-skip v x l (eq-eqb x v (sym (eqb-true v x p))))
       go false p q ih = ap (withoutAll vs) (without-keep v x l (ne-eqb x v (λ h. eqb-false v x p (sym h)))) ∙ ih q
 
-  -- and one that is not stays first
+  -- a value that is not listed stays first
   all-keep : (vs l : List ℕ) → listed x vs ≡ false → withoutAll vs (x ∷ l) ≡ x ∷ withoutAll vs l
   unfolding withoutAll listed
   all-keep [] l e = refl
@@ -87,7 +87,7 @@ listing-adds vs (c ∷ cs) = go (listed c vs) refl (λ us. listing-adds us cs)
         ap (λ (l : List ℕ). vs ++ c ∷ l) (all-snoc c vs (distinct cs) ∙ all-comm c vs (distinct cs)) ∙
         ap (λ (l : List ℕ). vs ++ l) (sym (all-keep c vs (without c (distinct cs)) e))
 
--- listing from nothing gives each value once, where it first stands
+-- listing from the empty list gives each value once, at its first occurrence
 pub listing-distinct : (cs : List ℕ) → listing [] cs ≡ distinct cs
 unfolding withoutAll
 listing-distinct cs = listing-adds [] cs

@@ -1,4 +1,4 @@
--- Lists: the rest from a place on, and maps. Assumes nothing.
+-- Lists: the part from an index, and maps. Assumes nothing.
 use Prim.Native.Nat.{ℕ, zero, suc, _+_, _<_}
 use mathlib.Core.Path.{_≡_, refl, ap}
 use mathlib.Core.List.{List, [], _∷_, map}

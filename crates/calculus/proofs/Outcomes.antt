@@ -1,4 +1,4 @@
--- The order of outcomes: one says at least what another says, and costs no more. Joining, and asking over values, keep it. Assumes nothing.
+-- The order of outcomes: one says at least what another says, and costs no more. Junctions and quantifiers keep it. Assumes nothing.
 use Prim.Native.Nat.{ℕ, _+_, _≤_}
 use native.Mathlib.Nat.{le-refl, le-trans, add-le-add}
 use native.Mathlib.Omega.{arith}
@@ -21,7 +21,7 @@ pub ⊑ₒ-refl : (o : Outcome) → o ⊑ₒ o
 pub ⊑ₒ-trans : {o p q : Outcome} → o ⊑ₒ p → p ⊑ₒ q → o ⊑ₒ q
 ⊑ₒ-trans h k = record { truth = ⊑-trans (h .truth) (k .truth); cost = le-trans (k .cost) (h .cost) }
 
--- a truth value that settles a junction is what it comes to, whatever the other says
+-- a truth value that settles a junction is the junction's value, whatever the other side says
 pub settled : (j : Junction) (a t : Truth) → settles j a ≡ true → join j a t ≡ a
 settled conj False False e = refl
 settled conj False Unknown e = refl
@@ -46,7 +46,7 @@ asked-unknown : (j : Junction) (n : ℕ) → n ≤ asked j Unknown n
 asked-unknown conj n = le-refl n
 asked-unknown disj n = le-refl n
 
--- a test that leaves the right side out leaves out the larger cost too
+-- costs keep their order if the same test may leave both out
 when-mono : (b : Bool) {m n : ℕ} → m ≤ n → cond b 0 m ≤ cond b 0 n
 when-mono true h = le-refl 0
 when-mono false h = h
@@ -66,7 +66,7 @@ pub over-mono :
 over-mono j k f g h each [] = record { truth = k; cost = le-refl 0 }
 over-mono j k f g h each (c ∷ cs) = joined-mono j (each c) (over-mono j k f g h each cs)
 
--- What was asked before may be left out: it says nothing new, and is not paid again.
+-- A value that was asked before may be left out: it says nothing new, and leaving it out costs no more.
 when-again : (b : Bool) (m n : ℕ) → cond b 0 n ≤ cond b 0 (m + cond b 0 n)
 when-again true m n = le-refl 0
 when-again false m n = omega arith

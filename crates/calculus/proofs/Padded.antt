@@ -1,4 +1,4 @@
--- A padded list: its length, its front, and one number more. Assumes nothing.
+-- A padded list: its length, its front, and one more number. Assumes nothing.
 use Prim.Native.Nat.{ℕ, suc, _-_, _≤_, _<_}
 use mathlib.Core.Path.{_≡_, sym, ap, _∙_}
 use mathlib.Core.List.{List, [], _∷_, _++_, append-assoc}
@@ -13,7 +13,7 @@ padded-length width xs few = simp (length-append, length-replicate) (omega arith
 pub padded-front : (width n : ℕ) (xs : List ℕ) → length xs ≡ n → take n (padded width xs) ≡ xs
 padded-front width n xs e = take-at xs (replicate (width - length xs) 0) n e
 
--- a number stored at the first place of the padding
+-- a number stored at the first index of the padding
 pub padded-more : (width : ℕ) (xs : List ℕ) (i x : ℕ) → length xs ≡ i → i < width → set (padded width xs) i x ≡ padded width (xs ++ x ∷ [])
 padded-more width xs i x long room =
     let left : width - length xs ≡ suc (width - length (xs ++ x ∷ [])) = omega (arith, length-append xs (x ∷ [])) in

@@ -1,4 +1,4 @@
--- What a reading that is not refused says of its steps. Assumes nothing.
+-- What a reading that is not refused says of its steps, and the numbers of one that is. Assumes nothing.
 use Prim.Native.Nat.{ℕ}
 use mathlib.Core.Path.{_≡_, refl, sym}
 use mathlib.Core.Bool.{Bool, true, false}

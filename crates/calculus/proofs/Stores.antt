@@ -13,13 +13,13 @@ use Rattle.calculus.specs.Overwrite.{overwrite}
 pub overwrite-length : (xs old : List ℕ) → length xs ≤ length old → length (overwrite xs old) ≡ length old
 overwrite-length xs old l = length-front old xs (length xs) (sym (length-take-le (length xs) old l))
 
--- one element more
+-- one more element
 pub overwrite-next : (xs old : List ℕ) (v : ℕ) → length xs < length old → set (overwrite xs old) (length xs) v ≡ overwrite (xs ++ v ∷ []) old
 overwrite-next xs old v l = rw (length-append, add-one, append-snoc, drop-cons old (length xs) 0 l, set-append-seam)
 
 -- ---- a loop
 
--- `out`, which was `out₀`, has the elements of `whole` before index `at`, and `rest` is still to be written
+-- `out`, which was `out₀`, holds the elements of `whole` before index `at`, and `rest` is still to be written
 pub record Written (whole rest out₀ out : List ℕ) (at : ℕ) : Type 0 where
   pub front : take at out ++ rest ≡ whole
   pub back : drop at out ≡ drop at out₀
@@ -40,7 +40,7 @@ module _ {whole out₀ out : List ℕ} {at : ℕ} where
         room = omega arith;
       }
 
-  -- a list, into the part from there to the end
+  -- a list, written into the part from `at` to the end
   pub store-part : (xs : List ℕ) {rest : List ℕ} → Written whole (xs ++ rest) out₀ out at
       → Written whole rest out₀ (take at out ++ overwrite xs (drop at out)) (at + length xs)
   store-part xs {rest} w =
@@ -55,7 +55,7 @@ module _ {whole out₀ out : List ℕ} {at : ℕ} where
         room = omega arith;
       }
 
-  -- the same from where it stands
+  -- the same with the current content as the old one
   pub anew : {rest : List ℕ} → Written whole rest out₀ out at → Written whole rest out out at
   anew w = record { front = w .front; back = refl; same = refl; room = omega arith }
 

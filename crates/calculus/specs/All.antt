@@ -1,4 +1,4 @@
--- Every element of a list passes a test.
+-- Whether every element of a list passes a test.
 use mathlib.Core.Bool.{Bool, true, _&&_}
 use mathlib.Core.List.{List, [], _∷_}
 

@@ -30,7 +30,7 @@ identical (x ∷ xs) [] = false
 identical (x ∷ xs) (y ∷ ys) = eqb x y && identical xs ys
 
 -- "Kind 1: true if the very row stands in the sheet; false if no row of the sheet unifies with it; else unknown." In Libkin's paper Eval₃ᵥ(R(x̄), D, ν):
--- 1 for a tuple of R, 0 where it ⇑ no tuple of R, else ½.
+-- 1 for a tuple of R, 0 for a tuple that unifies (⇑) with none of R, otherwise ½.
 unfoldable pub stands : List (List ℕ) → List ℕ → Truth
 stands ts row = cond (some (identical row) ts) True (cond (some (unifies row) ts) Unknown False)
 
@@ -38,7 +38,7 @@ stands ts row = cond (some (identical row) ts) True (cond (some (unifies row) ts
 unfoldable pub equality : ℕ → ℕ → Truth
 equality a b = cond (eqb a b) True (cond (isConstant a && isConstant b) False Unknown)
 
--- "kind 1 costs 1 plus the number of rows of that sheet". The closed world of Libkin's paper: a row that stands nowhere, and unifies with none, is false.
+-- "kind 1 costs 1 plus the number of rows of that sheet". The closed world of Libkin's paper: a row that unifies with none of them is false.
 abbrev pub closed : List Row → Structure
 closed rs = record {
   holds = λ r row. record { truth = stands (tuples r rs) row; cost = 1 + length (tuples r rs) };

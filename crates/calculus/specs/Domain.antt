@@ -11,12 +11,12 @@ unfoldable pub without : ℕ → List ℕ → List ℕ
 without x [] = []
 without x (c ∷ cs) = cond (eqb c x) (without x cs) (c ∷ without x cs)
 
--- each value once, where it first stands
+-- each value once, at its first occurrence
 unfoldable pub distinct : List ℕ → List ℕ
 distinct [] = []
 distinct (c ∷ cs) = c ∷ without c (distinct cs)
 
--- The same from the left: the values vs, and after them those of the cells that are not among them (`proofs/Listing.antt`, `listing-distinct`).
+-- The same from left to right: the values vs, then the values of the cells that are not listed yet (`proofs/Listing.antt`, `listing-distinct`).
 unfoldable pub listing : List ℕ → List ℕ → List ℕ
 listing vs [] = vs
 listing vs (c ∷ cs) = listing (cond (listed c vs) vs (vs ++ c ∷ [])) cs

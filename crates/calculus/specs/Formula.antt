@@ -12,7 +12,7 @@ use Rattle.calculus.specs.All.{all}
 pub data Term : Type 0 where
   const var : ℕ → Term
 
--- kinds 1, 2, 3, 4 and 5, 6 and 7: some is or over the values, every is and over them
+-- Kind 1, kind 2, kind 3, kinds 4 and 5, kinds 6 and 7. `some` is `or` over the values, and `every` is `and` over them.
 pub data Formula : Type 0 where
   atom : ℕ → List Term → Formula
   equal : Term → Term → Formula
@@ -36,7 +36,7 @@ variables = 16
 abbrev pub assignment : List ℕ → List ℕ
 assignment candidate = padded variables candidate
 
--- every constant of a formula is an inked value
+-- every number in a `const` of a formula is a constant (an inked value)
 abbrev pub termInked : Term → Bool
 termInked (const c) = isConstant c
 termInked (var v) = true

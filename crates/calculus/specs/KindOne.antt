@@ -8,7 +8,7 @@ use Rattle.calculus.specs.declared.truth.Truth.the-variants.{False, True
 use Rattle.calculus.specs.Kleene.{rank}
 use Rattle.calculus.specs.Unify.{Unify}
 
--- a verdict on a row, by its rank, where ts are the tuples of the sheet
+-- what verdict t on a row means, by its rank; ts are the tuples of the relation
 pub record MeansStands (ts : List (List ℕ)) (row : List ℕ) (t : Truth) : Type 0 where
   pub certain : rank t ≡ rank True ↔ List·Memᴰ row ts
   pub impossible : rank t ≡ rank False ↔ ((u : List ℕ) → List·Memᴰ u ts → Unify row u → ⊥)

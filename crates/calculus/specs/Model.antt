@@ -26,14 +26,14 @@ pub record Model : Type 0 where
   pub rows : List Row
   pub candidate : List ℕ
 
--- a question of the model, by the three-valued rules and by two-valued logic
+-- a question asked of the model, by the three-valued rules and by two-valued logic
 abbrev pub asked : Model → Formula → Outcome
 asked b f = eval (closed (b .rows)) f (assignment (b .candidate))
 
 abbrev pub saysYes : Model → Formula → Bool
 saysYes b f = says (b .rows) f (assignment (b .candidate))
 
--- no cell of rows and candidate holds a null
+-- no cell of the rows or of the candidate holds a null
 abbrev pub plain : Model → Bool
 plain b = allConstant (cellsOf (b .rows)) && allConstant (b .candidate)
 
@@ -43,7 +43,7 @@ answerOf f b = filled (f .mark) (f .cell) (b .rows)
 abbrev pub next : Fill → Model → Model
 next f b = after (answerOf f b) (record { rows = substitute (f .mark) (f .cell) (b .rows); candidate = map (put (f .mark) (f .cell)) (b .candidate) }) b
 
--- a list of fills, each of what the last one left: the state after them, and what each of them answers
+-- a list of fills, each applied to what the previous one left: the state after all of them, and what each of them returns
 unfoldable pub afterFills : {S : Type 0} → (Fill → S → S) → List Fill → S → S
 afterFills step [] s = s
 afterFills step (f ∷ fs) s = afterFills step fs (step f s)
@@ -52,14 +52,14 @@ unfoldable pub fillAnswers : {S : Type 0} → (Fill → S → Answer) → (Fill 
 fillAnswers answer step [] s = []
 fillAnswers answer step (f ∷ fs) s = answer f s ∷ fillAnswers answer step fs (step f s)
 
--- the same of the model
+-- the same for the model
 abbrev pub run : List Fill → Model → Model
 run fs b = afterFills next fs b
 
 abbrev pub answers : List Fill → Model → List Answer
 answers fs b = fillAnswers answerOf next fs b
 
--- the model with every null valued
+-- the model under a valuation of its nulls
 abbrev pub valued : Valuation → Model → Model
 valued v b = record { rows = map (mapRow (under v)) (b .rows); candidate = map (under v) (b .candidate) }
 

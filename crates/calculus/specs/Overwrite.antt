@@ -1,4 +1,4 @@
--- What a write from a slice's first element leaves of it: the elements written, and then what stood after them.
+-- What a write from index 0 leaves of a slice: the elements written, then the old elements after them.
 use Prim.Native.Nat.{ℕ}
 use mathlib.Core.List.{List, _++_}
 use lib.ListN.{length, drop}

@@ -1,5 +1,5 @@
--- Reading step by step: bytes from the front of a slice, or the nodes of a question by number. A step leaves what it read and the state after it, or the
--- number of the refusal that it met; "First met wins".
+-- Reading step by step: bytes from the front of a slice, or the nodes of a question in order. A step gives what it read and the state after it,
+-- or the number of the refusal that it met; "First met wins".
 use Prim.Native.Nat.{ℕ}
 use mathlib.Core.Bool.{Bool, true}
 use mathlib.Core.List.{List}
@@ -9,7 +9,7 @@ pub data Reading (S A : Type 0) : Type 0 where
   read : A → S → Reading S A
   refused : ℕ → Reading S A
 
--- goes on after what was read
+-- continues after what was read
 abbrev pub andThen : {S A B : Type 0} → Reading S A → (A → S → Reading S B) → Reading S B
 andThen (read a s) next = next a s
 andThen (refused r) next = refused r
@@ -19,7 +19,7 @@ abbrev pub readingNumber : {S A : Type 0} → Reading S A → ℕ
 readingNumber (read a s) = 0
 readingNumber (refused r) = r
 
--- a reading that is refused has one of these numbers
+-- if the reading is refused, its number is one of these
 abbrev pub refusedIn : {S A : Type 0} → List ℕ → Reading S A → Bool
 refusedIn ns (read a s) = true
 refusedIn ns (refused r) = listed r ns

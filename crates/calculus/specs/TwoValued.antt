@@ -1,4 +1,4 @@
--- Ordinary two-valued logic, as document 01, "Run A and run B", writes it out. Nothing stops early.
+-- Ordinary two-valued logic, as document 01, "Run A and run B", spells it out. Nothing stops early.
 use Prim.Native.Nat.{ℕ}
 use mathlib.Core.Bool.{Bool, true, false, not, _&&_, _||_}
 use mathlib.Core.List.{List, [], _∷_}
@@ -23,7 +23,7 @@ abbrev pub overB : Junction → (ℕ → Bool) → List ℕ → Bool
 overB j f [] = unitB j
 overB j f (c ∷ cs) = joinB j (f c) (overB j f cs)
 
--- in Libkin's paper Eval of first-order logic, Eval_FO
+-- in Libkin's paper Eval_FO, the evaluation of first-order logic
 unfoldable pub says : List Row → Formula → List ℕ → Bool
 says rs (atom r ts) e = some (identical (values e ts)) (tuples r rs)
 says rs (equal s t) e = eqb (value e s) (value e t)

@@ -1,4 +1,4 @@
--- The chains of a list of values: walked from a place to the next, and made longer by a value. Assumes nothing.
+-- The chains of a list of values: followed from one index to the next, and extended by a value. Assumes nothing.
 use Prim.Native.Nat.{ℕ, _+_, _-_, _*_, _≤_, _<_}
 use mathlib.Core.Path.{_≡_, refl, sym, ap, _∙_}
 use mathlib.Core.Bool.{Bool, true, false, _||_, or-true}
@@ -14,7 +14,7 @@ use Rattle.domain.specs.Chains.{linkUnit, buckets, bucketOf, valueOf, li
 use Rattle.calculus.specs.Domain.{listing}
 use Rattle.calculus.proofs.Listing.{listing-append}
 
--- one value behind others: the cell, or another
+-- one value after others: the cell, or another
 module _ (c x : ℕ) where
   listed-last : (vs : List ℕ) → x ≡ c → listed c (vs ++ x ∷ []) ≡ true
   unfolding listed
@@ -29,7 +29,7 @@ module _ (c x : ℕ) where
 values-more : (i : ℕ) (ws : List ℕ) → i < length ws → valuesOf (i + 1) ws ≡ valuesOf i ws ++ valueOf (getD ws i 0) ∷ []
 values-more i ws l = ap (λ (k : ℕ). valuesOf k ws) (add-one i) ∙ ap (map valueOf) (take-suc ws i 0 l) ∙ map-append valueOf (take i ws) (getD ws i 0 ∷ [])
 
--- at place p of the chain of c, of n words
+-- at index p, counted from 1, of the chain of c's bucket through n words
 module _ {ws : List ℕ} {c n p : ℕ} (links : Linked ws n) (s : Chain ws c n p) (l : p ≤ length ws) (at : 0 < p) where
   abbrev here : ℕ
   here = getD ws (p - 1) 0
@@ -55,12 +55,12 @@ module _ {ws : List ℕ} {c n p : ℕ} (links : Linked ws n) (s : Chain ws c n p
     bucket = next .bucket;
   }
 
--- at its end there is nothing
+-- at its end, c is not listed
 pub chain-none : {ws : List ℕ} {c n p : ℕ} → Chain ws c n p → p ≤ 0 → listed c (valuesOf n ws) ≡ false
 unfolding listed
 chain-none {p = p} s l = let e : p ≡ 0 = omega arith in s .same ∙ rw e
 
--- no values
+-- no values are listed at the start
 pub chained-starts : (ws : List ℕ) → Chained (replicate buckets 0) ws 0
 chained-starts ws = record {
   size = length-replicate {A = ℕ} buckets 0;
@@ -70,7 +70,7 @@ chained-starts ws = record {
       (record { within = omega arith; same = refl; bucket = λ l. absurd (omega arith) });
 }
 
--- a store behind the first n words changes nothing of them
+-- a store after the first n words does not change them
 module _ (ws : List ℕ) (n w : ℕ) where
   chain-kept : {c i p : ℕ} → i ≤ n → Chain ws c i p → Chain (set ws n w) c i p
   chain-kept {i = i} {p = p} l s =
@@ -81,7 +81,7 @@ module _ (ws : List ℕ) (n w : ℕ) where
         bucket = λ at. rw (getD-set-other ws n (p - 1) w 0 (λ e. omega arith)) (s .bucket at);
       }
 
--- a cell behind n values, linked to the head of its bucket
+-- a cell stored after n values, linked to the head of its bucket
 module _ {heads ws : List ℕ} {n : ℕ} (s : Chained heads ws n) (room : n < length ws) (c : ℕ) (small : c < linkUnit) where
   abbrev word : ℕ
   word = c + linkUnit * getD heads (bucketOf c) 0
@@ -157,7 +157,7 @@ pub added-none : (ws : List ℕ) (n : ℕ) → Added ws n [] ws n
 unfolding listing
 added-none ws n = record { least = omega arith; most = omega arith; long = refl; values = refl; kept = refl }
 
--- cells, and then more
+-- cells, and then more cells
 pub added-then : {a b d cs ds : List ℕ} {n m k : ℕ} → Added a n cs b m → Added b m ds d k → Added a n (cs ++ ds) d k
 added-then {a} {b} {d} {cs} {ds} {n} {m} {k} s t =
     let low = s .least in

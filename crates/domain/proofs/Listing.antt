@@ -12,7 +12,7 @@ use Rattle.calculus.proofs.Listing.{listing-distinct}
 use Rattle.domain.specs.Chains.{valueOf, valuesOf, Added}
 use Rattle.domain.proofs.Chains.{added-then, added-none}
 
--- n values listed in a buffer, of all cells, with those of the rows rest still to come
+-- n values of the cells `all` are listed in a buffer, and the cells of the rows `rest` are still to come
 pub record Listing (all before buffer : List ℕ) (n : ℕ) (rest : List Row) : Type 0 where
   pub seen : List ℕ
   pub room : n + length (cellsOf rest) ≤ length before
@@ -37,7 +37,7 @@ module _ {all before buffer : List ℕ} {n : ℕ} {row : Row} {rest : List Row} 
     added = added-then (s .added) a;
   }
 
--- no row is left: the values stand first, and the rest of the buffer is as it was
+-- no row is left: the values come first, and the rest of the buffer is as it was
 module _ {all before buffer : List ℕ} {n : ℕ} (s : Listing all before buffer n []) where
   pub listing-fits : n ≤ length buffer
   unfolding cellsOf

@@ -1,5 +1,5 @@
--- A list of values while it is being made: a hash table whose chains run through the list. A word of it holds a value and 2^20 times a link: the
--- place, counted from 1, of the latest value before it in the same bucket, or 0 where there is none. Every cell is below 2^20.
+-- A list of values while it is being built: a hash table whose chains run through the list. A word of it holds a value plus 2^20 times a link:
+-- the index, counted from 1, of the latest value before it in the same bucket, or 0 if there is none. Every cell is below 2^20.
 use Prim.Native.Nat.{ℕ, _+_, _-_, _*_, _/_, _%_, _≤_, _<_}
 use mathlib.Core.Path.{_≡_}
 use mathlib.Core.List.{List, map}
@@ -13,7 +13,7 @@ linkUnit = 1048576
 abbrev pub buckets : ℕ
 buckets = 1024
 
--- the upper 10 of the lower 32 bits of a product, so that values at even steps spread over the buckets
+-- the upper 10 of the lower 32 bits of a product, so that evenly spaced values spread over the buckets
 abbrev pub bucketOf : ℕ → ℕ
 bucketOf c = c * 2654435761 % 4294967296 / 4194304
 
@@ -27,11 +27,11 @@ linkOf w = w / linkUnit
 abbrev pub valuesOf : ℕ → List ℕ → List ℕ
 valuesOf n ws = map valueOf (take n ws)
 
--- the value at place p, where there is one, is in the bucket of c
+-- the value at index p, counted from 1, is in the bucket of c, unless p is 0
 abbrev pub InBucket : List ℕ → ℕ → ℕ → Type 0
 InBucket ws c p = 0 < p → bucketOf (valueOf (getD ws (p - 1) 0)) ≡ bucketOf c
 
--- of the first n values, the chain of c's bucket goes on at place p: where c is among them, it is among the first p
+-- the chain of c's bucket through the first n values goes on at index p, counted from 1: if c is among the n, it is among the first p
 pub record Chain (ws : List ℕ) (c n p : ℕ) : Type 0 where
   pub within : p ≤ n
   pub same : listed c (valuesOf n ws) ≡ listed c (valuesOf p ws)
@@ -41,13 +41,13 @@ pub record Chain (ws : List ℕ) (c n p : ℕ) : Type 0 where
 abbrev pub Linked : List ℕ → ℕ → Type 0
 Linked ws n = (i c : ℕ) → i < n → bucketOf (valueOf (getD ws i 0)) ≡ bucketOf c → Chain ws c i (linkOf (getD ws i 0))
 
--- and the chain of each bucket starts at its head
+-- the words are linked, and the chain of each bucket starts at its head
 pub record Chained (heads ws : List ℕ) (n : ℕ) : Type 0 where
   pub size : length heads ≡ buckets
   pub links : Linked ws n
   pub starts : (c : ℕ) → Chain ws c n (getD heads (bucketOf c) 0)
 
--- the first n values, and then the first m: the cells are put after them, each if it is not among them yet, and the other words stay
+-- the first n values become the first m: the cells are added after them, each if it is not listed yet, and the other words stay
 pub record Added (before : List ℕ) (n : ℕ) (cells after : List ℕ) (m : ℕ) : Type 0 where
   pub least : n ≤ m
   pub most : m ≤ n + length cells

@@ -1,4 +1,4 @@
-// A list of values while it is being made: a hash table whose chains run through the list. At most 980 cells share a bucket, so no chain is longer.
+// A list of values while it is being built: a hash table whose chains run through the list. At most 980 cells share a bucket, so no chain is longer.
 ghost use mathlib.Core.Path.{_≡_};
 ghost use Prim.Native.Nat.{_≤_, _<_, _+_};
 ghost use mathlib.Core.List.{map, [], _∷_};
@@ -9,13 +9,13 @@ ghost use Rattle.domain.specs.Chains.{linkUnit, valueOf, valuesOf, InBuc
 ghost use Rattle.instance.specs.Rows.{areCells};
 ghost use mathlib.Core.Bool.{true};
 
-// Each word packs a value (low 20 bits) and a link (high 12 bits): cells are below 2^20, and a link is a place among at most 4,095.
+// Each word packs a value (low 20 bits) and a link (high 12 bits): cells are below 2^20, and a link is at most 4,095.
 const LINK_UNIT: u32 = 1_048_576;
 
-// A cell's bucket is the upper 10 of the lower 32 bits of its product with this number, so that values at even steps spread.
+// A cell's bucket is the upper 10 of the lower 32 bits of its product with this number, so that evenly spaced values spread.
 const SPREAD: u64 = 2_654_435_761;
 
-// Whether a cell is among the first head values of a list, along the chain of its bucket.
+// Whether a cell is among the first `head` values of a list, found along the chain of its bucket.
 fn find(list: &[u32], head: usize, cell: u32) -> bool
     requires { ⌜ (head ≤ length (now list)) × Linked (now list) head × InBucket (now list) cell head ⌝ }
     ensures { λ r. ⌜ r ≡ listed cell (valuesOf head (now (list .entry))) ⌝ }
@@ -31,7 +31,7 @@ fn find(list: &[u32], head: usize, cell: u32) -> bool
     false
 }
 
-// Puts a cell after the first n values of a list if it is not among them, and returns how many they are then.
+// Adds a cell after the first n values of a list if it is not among them, and returns the new number of values.
 pub fn add_value(list: &mut [u32], heads: &mut [u16; 1024], n: usize, cell: u32) -> usize
     requires { ⌜ (n < length (now list)) × (n < maxWords) × (cell < linkUnit) × Chained (now heads) (now list) n ⌝ }
     ensures chained { λ r. ⌜ Chained (now (heads .exit)) (now (list .exit)) r ⌝ }
@@ -47,7 +47,7 @@ pub fn add_value(list: &mut [u32], heads: &mut [u16; 1024], n: usize, cell: u32)
     n + 1
 }
 
-// Puts cells after the first n values of a list, each if it is not among them yet, and returns how many they are then.
+// Adds cells after the first n values of a list, each if it is not listed yet, and returns the new number of values.
 pub fn add_cells(list: &mut [u32], heads: &mut [u16; 1024], n: usize, cells: &[u32]) -> usize
     requires { ⌜ (n + length (now cells) ≤ length (now list)) × (n + length (now cells) ≤ maxWords) × (areCells (now cells) ≡ true) × Chained (now heads) (now list) n ⌝ }
     ensures chained { λ r. ⌜ Chained (now (heads .exit)) (now (list .exit)) r ⌝ }
@@ -62,7 +62,7 @@ pub fn add_cells(list: &mut [u32], heads: &mut [u16; 1024], n: usize, cells: &[u
     count
 }
 
-// Takes the links out of a list.
+// Removes the links from a list.
 pub fn unlink(list: &mut [u32])
     ensures { λ _. ⌜ now (list .exit) ≡ map valueOf (now (list .entry)) ⌝ }
 {

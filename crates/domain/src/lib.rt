@@ -1,4 +1,4 @@
-// The values of an instance: its cells, each once, in order of first standing.
+// The values of an instance: its cells, each once, in order of first occurrence.
 ghost use mathlib.Core.Path.{_≡_};
 ghost use Prim.Native.Nat.{_≤_};
 ghost use lib.ListN.{length};
@@ -12,7 +12,7 @@ use chain::unlink;
 
 mod chain;
 
-// Lists the values at the start of a buffer, row by row, and returns how many they are; the rest of the buffer stays.
+// Lists the values at the start of a buffer, row by row, and returns their number; the rest of the buffer stays.
 pub fn list_values(words: &[u32], arities: &[u32; 8], relations: u32, buffer: &mut [u32]) -> usize
     requires { ⌜ Standing relations (now arities) (now words) ⌝ }
     requires { ⌜ length (cellsOf (rowsFrom (now arities) 0 (now words))) ≤ length (now buffer) ⌝ }

@@ -1,4 +1,4 @@
-// Entering a row.
+// Inserts (enters) a row.
 ghost use mathlib.Core.Path.{_≡_};
 ghost use Prim.Native.Nat.{_+_, _≤_, _<_};
 ghost use mathlib.Core.List.{_∷_, _++_};
@@ -42,7 +42,7 @@ fn check_insert(header: Header, plot: &[u32], relation: u32, cells: &[u32]) -> A
     Answer::Done(used as u32)
 }
 
-// Writes one row's words at the start of a part of the plot.
+// Writes a row's words at the start of a part of the instance.
 fn write_row(part: &mut [u32], relation: u32, cells: &[u32])
     requires { ⌜ 1 + length (now cells) ≤ length (now part) ⌝ }
     ensures { λ _. ⌜ now (part .exit) ≡ relation ∷ now (cells .entry) ++ drop (1 + length (now (cells .entry))) (now (part .entry)) ⌝ }
@@ -55,7 +55,7 @@ fn write_row(part: &mut [u32], relation: u32, cells: &[u32])
     }
 }
 
-// Enters a row after the words in use.
+// Inserts a row after the words in use.
 pub fn insert(header: Header, plot: &mut [u32], relation: u32, cells: &[u32]) -> Stored
     ensures answer { λ r. ⌜ r .answer ≡ inserted header (now (plot .entry)) relation (now (cells .entry)) ⌝ }
     ensures header { λ r. ⌜ r .header ≡ insertedHeader header (now (plot .entry)) relation (now (cells .entry)) ⌝ }

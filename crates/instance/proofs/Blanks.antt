@@ -1,4 +1,4 @@
--- Records whose blanks are numbered: the rows that they stand for stand, and a record without a blank is its row. Assumes nothing.
+-- Records whose blanks are numbered: their rows stand, and a record without blanks is its row. Assumes nothing.
 use Prim.Native.Nat.{ℕ, suc, _+_, _≤_}
 use mathlib.Core.Path.{_≡_, refl, ap, _∙_}
 use mathlib.Core.Bool.{Bool, true, _&&_}
@@ -33,7 +33,7 @@ recordStands n ars r = ltb (r .relation) n && eqb (length (r .fields)) (arityOf 
 abbrev pub recordsStand : ℕ → List ℕ → List Record → Bool
 recordsStand n ars rs = all (recordStands n ars) rs
 
--- blanks are nulls, if there are enough
+-- null m is a cell for m from 1 to 200
 null-cell : (m : ℕ) → 1 ≤ m → m ≤ nulls → isCell (null m) ≡ true
 unfolding isCell
 null-cell m low high =
@@ -74,7 +74,7 @@ numbered-stand n ars m (r ∷ rs) e low high =
 
 -- ---- records without blanks
 
--- a row with every column written
+-- a row as a record in which every column is written
 abbrev pub fullRecord : Row → Record
 fullRecord r = record { relation = r .relation; fields = map written (r .cells) }
 
@@ -98,7 +98,7 @@ unfolding numberedRows
 numbered-rows m [] = refl
 numbered-rows m (r ∷ rs) = rw (numbered-full m (r .cells), numbered-rows (m + blanksIn (map written (r .cells))) rs)
 
--- and their nulls are at most 200
+-- the highest null among cells is at most 200
 highest-in : (cs : List ℕ) → areCells cs ≡ true → highestIn (map written cs) ≤ nulls
 unfolding highestOf writtenOf
 highest-in [] e = omega arith

@@ -1,4 +1,4 @@
--- The header of rows: it makes them a sound instance, and rows of the same relations and lengths have the same. Assumes nothing.
+-- The header of rows: it makes them a sound instance, and rows of the same relations and lengths have the same header. Assumes nothing.
 use Prim.Native.Nat.{ℕ, _≤_}
 use mathlib.Core.Path.{_≡_, refl, ap}
 use mathlib.Core.Bool.{true}
@@ -14,12 +14,12 @@ use Rattle.instance.specs.Rows.{rowsStand, wordsOf}
 use Rattle.instance.specs.Sound.{sound, rows, headerFor}
 use Rattle.instance.proofs.Rows.{rows-back, rows-back-stand}
 
--- a sound instance, and its rows
+-- the instance is sound, and has these rows
 pub record Holds (h : Header) (ws : List ℕ) (rs : List Row) : Type 0 where
   pub stands : sound h ws ≡ true
   pub holds : rows h ws ≡ rs
 
--- Rows that stand, as words that any others may follow, are a sound instance under their header.
+-- The words of rows that stand, followed by any others, are a sound instance under the rows' header.
 pub made : (n : ℕ) (ars : List ℕ) (rs : List Row) (back : List ℕ) → headerStands n ars ≡ true → length (wordsOf rs) ≤ maxWords
     → rowsStand n ars rs ≡ true → Holds (headerFor n ars rs) (wordsOf rs ++ back) rs
 unfolding sound rows
@@ -31,7 +31,7 @@ made n ars rs back head few stand =
       holds = rw e (rows-back n ars rs stand);
     }
 
--- the header of the relations and of the rows' number of words
+-- a header is the header of its relations and of rows that have its number of words
 pub header-same : (h : Header) (rs : List Row) → length (wordsOf rs) ≡ h .used → headerFor (h .relations) (h .arities) rs ≡ h
 header-same h rs e = ap (headerWith (h .relations) (h .arities)) e
 

@@ -1,4 +1,4 @@
--- The marks that blanks get differ from each other and from every written cell. Assumes nothing.
+-- The nulls that blanks get differ from each other and from every written cell. Assumes nothing.
 use Prim.Native.Nat.{ℕ, zero, suc, _+_, _≤_, _<_, max}
 use mathlib.Core.Path.{_≡_, refl, sym, ap, _∙_}
 use mathlib.Core.List.{List, [], _∷_, _++_}
@@ -33,7 +33,7 @@ mark-at m (written d ∷ fs) (suc i) e = mark-at m fs i e
 mark-at m (blank ∷ fs) zero e = omega arith
 mark-at m (blank ∷ fs) (suc i) e = omega (arith, mark-at (suc m) fs i e)
 
--- no cell is a null between the highest that is written and the next that a blank gets
+-- no cell is a null between the highest one written and the next one that a blank gets
 other-at : (m k : ℕ) (fs : List Field) (j : ℕ) → highestIn fs < k → k < m → getD (numbered m fs) j 0 ≡ null k → ⊥
 unfolding numbered highestOf writtenOf
 other-at m k [] j low high e = omega arith

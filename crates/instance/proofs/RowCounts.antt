@@ -11,7 +11,7 @@ use Rattle.calculus.proofs.Tuples.{tuples-here, tuples-other}
 use Rattle.instance.specs.Header.{maxRelations}
 use Rattle.instance.specs.RowCounts.{rowCounts}
 
--- the rows of each relation, counted, with the rows rest still to come
+-- the rows of each relation are being counted, and the rows `rest` are still to come
 abbrev pub RowsCounted : List Row → List Row → List ℕ → Type 0
 RowsCounted rs rest counts = Counting maxRelations (λ r. length (tuples r rs)) (λ r. length (tuples r rest)) counts
 
@@ -22,7 +22,7 @@ counted-row rs row rest counts l s =
     counting-one maxRelations _ _ _ counts (row .relation) l (ap length (tuples-here (row .relation) row rest refl))
     (λ j ne. ap length (tuples-other j row rest (λ e. ne (sym e)))) s
 
--- the counts, by relation
+-- the count of each relation, and the number of counts
 module _ (rs : List Row) where
   pub row-count-at : (r : ℕ) → r < maxRelations → getD (rowCounts rs) r 0 ≡ length (tuples r rs)
   row-count-at r l = table-at (λ r. length (tuples r rs)) maxRelations r l

@@ -1,4 +1,4 @@
--- What a sound instance gives, and what the answer of a scan says of it. Assumes nothing.
+-- What a sound instance gives, and what a scan's result says of it. Assumes nothing.
 use Prim.Native.Nat.{ℕ, _≤_}
 use mathlib.Core.Path.{_≡_, refl, ap, _∙_}
 use mathlib.Core.Bool.{Bool, true, false}
@@ -49,7 +49,7 @@ sound-gives h ws e =
       header = header-same h (rowsFrom (h .arities) 0 (take (h .used) ws)) (ap length words ∙ in-use);
     }
 
--- what a scan's answer says
+-- what a scan's result says
 pub scanned-sound : (h : Header) (ws : List ℕ) (k : ℕ) → scanned h ws ≡ Rows k → sound h ws ≡ true
 unfolding scanned
 scanned-sound h ws k e = go (sound h ws) _ e
@@ -66,7 +66,7 @@ scanned-unsound h ws e = go (sound h ws) _ e
     go true n q = cc
     go false n q = refl
 
--- the number of rows that a scan answers
+-- the number of rows that a scan returns
 pub scanned-rows : (h : Header) (ws : List ℕ) (k : ℕ) → scanned h ws ≡ Rows k → length (rows h ws) ≡ k
 unfolding scanned
 scanned-rows h ws k e = go (sound h ws) e

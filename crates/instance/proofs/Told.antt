@@ -1,4 +1,4 @@
--- What each call of an instance tells, in the paper's numbers, where its answer is the definition's. Assumes nothing.
+-- What each call of an instance tells, in the paper's numbers, if its answer is the definition's. Assumes nothing.
 use Prim.Native.Nat.{ℕ}
 use mathlib.Core.Path.{_≡_, refl, ap, _∙_}
 use mathlib.Core.Bool.{Bool, true, false}
@@ -43,7 +43,7 @@ module _ (h : Header) (ws : List ℕ) where
   unfolding counted
   counts-told out p = (p .0, (p .1, tells nulls (p .0) (two-demands (sound h ws) (leb nulls (length out)) unsound output-too-short nulls)))
 
-  -- the value is the words in use of the header that is left
+  -- the value is the number of words in use in the header that is left
   pub insert-told :
       (r : ℕ) (cs : List ℕ) {a : Answer} {g : Header} {P : Type 0} →
       (a ≡ inserted h ws r cs) × ((g ≡ insertedHeader h ws r cs) × P) →

@@ -1,4 +1,4 @@
--- Words that stand, walked row by row: what is known at an index where a row starts, and where the next row starts. Assumes nothing.
+-- Words that stand, read row by row: what is known at an index at which a row starts, and where the next row starts. Assumes nothing.
 use Prim.Native.Nat.{ℕ, zero, suc, _+_, _≤_, _<_, _-_}
 use mathlib.Core.Path.{_≡_, refl, ap, _∙_}
 use mathlib.Core.Bool.{true, false≢true}
@@ -25,7 +25,7 @@ module _ (n : ℕ) (ars : List ℕ) where
   past-cells (suc left) [] e = absurd (false≢true e)
   past-cells (suc left) (w ∷ ws) e = past-cells left ws (at-cell n ars left w ws e .1)
 
--- a walk that has come to index i: the words from there stand, so a row starts there, or they end
+-- a walk that has reached index i: the words from there stand, so a row starts there, or the words end
 pub record Walk (n : ℕ) (ars ws : List ℕ) (i : ℕ) : Type 0 where
   pub within : i ≤ length ws
   pub stands : wordsStand n ars 0 (drop i ws) ≡ true
@@ -87,6 +87,6 @@ rows-le ars left [] = omega arith
 rows-le ars zero (w ∷ ws) = omega (arith, rows-le ars (arityOf ars w) ws)
 rows-le ars (suc left) (w ∷ ws) = omega (arith, rows-le ars left ws)
 
--- words hold no more tuples than words
+-- there are no more tuples than words
 pub tuples-few : (r : ℕ) (ars : List ℕ) (ws : List ℕ) → length (tuples r (rowsFrom ars 0 ws)) ≤ length ws
 tuples-few r ars ws = omega (arith, tuples-le r (rowsFrom ars 0 ws), rows-le ars 0 ws)

@@ -15,7 +15,7 @@ pub record Record : Type 0 where
   pub relation : ℕ
   pub fields : List Field
 
--- the fields of all records, in their order
+-- the fields of all records, in order
 unfoldable pub fieldsOf : List Record → List Field
 fieldsOf [] = []
 fieldsOf (r ∷ rs) = r .fields ++ fieldsOf rs

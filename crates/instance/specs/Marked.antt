@@ -1,4 +1,4 @@
--- The marks of blanks. Document 01: "A column whose bit does not stand is blank: it gets a mark of its own."
+-- The nulls that blanks get. Document 01: "A column whose bit does not stand is blank: it gets a mark of its own."
 use Prim.Native.Nat.{ℕ, _<_}
 use mathlib.Core.Path.{_≡_}
 use mathlib.Core.List.{List}
@@ -6,8 +6,8 @@ use lib.ListN.{length, getD}
 use Rattle.calculus.specs.Cell.{constants}
 use Rattle.instance.specs.Blanks.{Field, written, blank}
 
--- The cells that fields became, one for each: a written field is its cell; a blank is above all inked values, and no other cell, written or blank, is the
--- same.
+-- The cells made from fields, one for each: a written field gives its cell; a blank gives a number above all constants, and no other cell,
+-- written or blank, equals it.
 pub record Marked (fs : List Field) (cs : List ℕ) : Type 0 where
   pub long : length cs ≡ length fs
   pub kept : (i c : ℕ) → getD fs i blank ≡ written c → getD cs i 0 ≡ c

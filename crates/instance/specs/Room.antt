@@ -4,6 +4,6 @@ use mathlib.Core.Bool.{Bool, _&&_}
 use lib.Dec.{leb}
 use Rattle.instance.specs.Header.{maxWords}
 
--- the opposite, of n words in a slice of the given length
+-- the opposite, for n words in a slice of the given length
 abbrev pub hasRoom : ℕ → ℕ → Bool
 hasRoom n slice = leb n maxWords && leb n slice

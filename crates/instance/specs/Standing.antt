@@ -1,4 +1,4 @@
--- What a sound instance gives: a header and words in use that stand.
+-- What a sound instance gives: its header stands, and so do its words in use.
 use Prim.Native.Nat.{ℕ, _≤_}
 use mathlib.Core.Path.{_≡_}
 use mathlib.Core.Bool.{true}

@@ -46,7 +46,7 @@ fn header_stands(relations: u32, arities: &[u32; 8]) -> bool
     true
 }
 
-// The number of rows that the words stand for, or that they stand for none.
+// The number of rows in the words, or `Unsound` if they are not whole rows of cells.
 fn scan_words(relations: u32, arities: &[u32; 8], words: &[u32]) -> Scanned
     requires { ⌜ (headerStands relations (now arities) ≡ true) × (length (now words) ≤ maxWords) ⌝ }
     ensures { λ r. ⌜ r ≡ scannedWords relations (now (arities .entry)) (now (words .entry)) ⌝ }

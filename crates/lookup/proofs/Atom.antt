@@ -11,7 +11,7 @@ use Rattle.lookup.specs.declared.row.Match.{Match}
 use Rattle.lookup.specs.declared.row.Match.the-variants.{Identical, Unifies, Apart}
 use Rattle.lookup.specs.Matching.{unified, matching}
 
--- what the tuples ts say of a row that an earlier tuple unified with, or none did
+-- what the tuples ts say of a row; `possible` tells whether an earlier tuple unified with it
 unfoldable pub truthFrom : Bool → List (List ℕ) → List ℕ → Truth
 truthFrom possible ts row = cond (some (identical row) ts) True (cond (possible || some (unifies row) ts) Unknown False)
 
@@ -24,7 +24,7 @@ unfolding truthFrom some
 truth-ends true row = refl
 truth-ends false row = refl
 
--- what is left to say after a tuple that the row compares with so
+-- what the tuples ts say of a row after a tuple with this match
 abbrev pub truthAfter : Match → Bool → List (List ℕ) → List ℕ → Truth
 truthAfter Identical possible ts row = True
 truthAfter Unifies possible ts row = truthFrom true ts row

@@ -1,4 +1,4 @@
--- How two rows compare, column by column, and what one binding more does. Assumes nothing.
+-- How two rows compare, column by column, and what one more binding does. Assumes nothing.
 use Prim.Native.Nat.{ℕ, zero, suc, _+_, _≤_, _<_}
 use mathlib.Core.Path.{_≡_, refl, sym, ap, _∙_}
 use mathlib.Core.Bool.{Bool, true, false, _||_, cond}
@@ -16,7 +16,7 @@ use Rattle.lookup.specs.declared.row.Match.{Match}
 use Rattle.lookup.specs.declared.row.Match.the-variants.{Identical, Apart}
 use Rattle.lookup.specs.Matching.{unified, matching, rowVerdict, through}
 
--- ---- the next column, with what was put for nulls so far: its cells are sent to a and b
+-- ---- the next column: the bindings so far map its cells to a and b
 
 module _ (s : ℕ → ℕ) (x y a b : ℕ) (sent : s x ≡ a) (sent-too : s y ≡ b) (xs ys : List ℕ) where
   pub unify-alike : a ≡ b → unifiesWith s (x ∷ xs) (y ∷ ys) ≡ unifiesWith s xs ys
@@ -35,7 +35,7 @@ module _ (s : ℕ → ℕ) (x y a b : ℕ) (sent : s x ≡ a) (sent-too : s y �
   unfolding unifiesWith
   unify-right ne p q = simp (sent, sent-too, ne-eqb a b ne, lt-ltb a constants p, le-ltb b constants q)
 
--- what is put for nulls counts by what it does to each cell
+-- bindings matter only by what they do to each cell
 unify-same : (s t : ℕ → ℕ) → ((c : ℕ) → s c ≡ t c) → (xs ys : List ℕ) → unifiesWith s xs ys ≡ unifiesWith t xs ys
 unify-same s t e xs ys = ap (λ (f : ℕ → ℕ). unifiesWith f xs ys) (λ i c. e c i)
 
@@ -45,7 +45,7 @@ pub through-step : (from to : List ℕ) (n c : ℕ) → through from to (n + 1) 
 unfolding through
 through-step from to n c = rw add-one refl
 
--- a store behind the first n bindings does not touch them
+-- a store after the first n bindings does not change them
 through-set : (from to : List ℕ) (a b n k c : ℕ) → n ≤ k → through (set from k a) (set to k b) n c ≡ through from to n c
 unfolding through
 through-set from to a b zero k c l = refl
@@ -53,7 +53,7 @@ through-set from to a b (suc n) k c l =
     let ne : n ≡ k → ⊥ = λ e. omega arith in
     rw (getD-set-other from k n a 0 ne, getD-set-other to k n b 0 ne, through-set from to a b n k c (omega arith)) refl
 
--- one binding more, after the others
+-- one more binding, after the others
 pub through-more :
     (from to : List ℕ) (a b n c : ℕ) → n < length from → n < length to →
     through (set from n a) (set to n b) (n + 1) c ≡ bind a b (through from to n c)

@@ -1,4 +1,4 @@
--- How two lists of cells compare, and what was put for nulls on the way, as a list of bindings.
+-- How two lists of cells compare, and the bindings of nulls made on the way.
 use Prim.Native.Nat.{ℕ, zero, suc}
 use mathlib.Core.Bool.{Bool, cond}
 use mathlib.Core.List.{List}
@@ -13,17 +13,17 @@ use Rattle.lookup.specs.declared.row.Match.the-variants.{Identical, Unif
 abbrev pub unified : Bool → Match
 unified b = cond b Unifies Apart
 
--- "true if the very row stands in the sheet; false if no row of the sheet unifies with it; else unknown": what one row of the sheet says
+-- "true if the very row stands in the sheet; false if no row of the sheet unifies with it; else unknown": what one row of the relation says
 unfoldable pub matching : List ℕ → List ℕ → Match
 matching xs ys = cond (identical xs ys) Identical (unified (unifies xs ys))
 
--- the same as a verdict: what kind 1 says of a relation that has this row alone
+-- the same as a verdict: what kind 1 says of a relation that has only this row
 abbrev pub rowVerdict : Match → Truth
 rowVerdict Identical = True
 rowVerdict Unifies = Unknown
 rowVerdict Apart = False
 
--- a cell sent through the first n bindings, in order: the kth puts the kth cell of `to` for the kth of `from`
+-- a cell after the first n bindings, in order: binding k replaces element k of `from` by element k of `to`
 unfoldable pub through : List ℕ → List ℕ → ℕ → ℕ → ℕ
 through from to zero c = c
 through from to (suc n) c = bind (getD from n 0) (getD to n 0) (through from to n c)

@@ -4,7 +4,7 @@ ghost use Rattle.instance.specs.Rows.{rowsFrom};
 ghost use Rattle.instance.specs.Standing.{Standing};
 ghost use Rattle.instance.specs.RowCounts.{rowCounts};
 
-// The number of rows of each of eight relations, in one pass from row to row.
+// The number of rows of each of the eight relations, in one pass from row to row.
 pub fn row_counts(words: &[u32], arities: &[u32; 8], relations: u32) -> [u32; 8]
     requires { ⌜ Standing relations (now arities) (now words) ⌝ }
     ensures { λ r. ⌜ r ≡ rowCounts (rowsFrom (now (arities .entry)) 0 (now (words .entry))) ⌝ }

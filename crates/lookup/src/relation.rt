@@ -1,4 +1,4 @@
-// What an atom says of a row: whether it stands in a relation.
+// What an atom says of a row: whether it is in a relation.
 ghost use mathlib.Core.Path.{_≡_};
 ghost use Prim.Native.Nat.{_<_};
 ghost use lib.ListN.{length, take};
@@ -11,7 +11,7 @@ use super::row::Match;
 use super::row::compare;
 use calculus::truth::Truth;
 
-// Row by row; a row of another relation costs one step. An identical row ends the walk, and so does the last of the relation's rows.
+// Goes row by row; a row of another relation is one step. An identical row ends the pass, and so does the last row of the relation.
 pub fn stands(
     words: &[u32],
     arities: &[u32; 8],

@@ -1,4 +1,4 @@
-// How a row compares with a row of an instance, which is read where it stands.
+// Compares a row with a row of an instance, which is read in place.
 ghost use mathlib.Core.Path.{_≡_};
 ghost use Prim.Native.Nat.{_+_, _≤_};
 ghost use lib.ListN.{length, take, drop};
@@ -15,7 +15,7 @@ pub enum Match {
     Apart,
 }
 
-// A cell sent through the first count bindings, in order: to[k] for from[k].
+// Applies the first `count` bindings to a cell, in order: to[k] replaces from[k].
 fn put_through(from: &[u32; 6], to: &[u32; 6], count: usize, cell: u32) -> u32
     requires { ⌜ count ≤ maxColumns ⌝ }
     ensures { λ r. ⌜ r ≡ through (now (from .entry)) (now (to .entry)) count cell ⌝ }
@@ -31,7 +31,7 @@ fn put_through(from: &[u32; 6], to: &[u32; 6], count: usize, cell: u32) -> u32
     c
 }
 
-// Whether two rows unify, from column first on. What is put for nulls is kept as bindings, one at most for each column.
+// Whether two rows unify from column `first`. What replaces nulls is kept as bindings, at most one for each column.
 fn unify(words: &[u32], at: usize, row: &[u32; 6], arity: usize, first: usize) -> Match
     requires { ⌜ (at + arity ≤ length (now words)) × (arity ≤ maxColumns) × (length (now row) ≡ maxColumns) × (first ≤ arity) ⌝ }
     ensures { λ r. ⌜ r ≡ unified (unifies (drop first (take arity (now (row .entry)))) (drop first (take arity (drop at (now (words .entry)))))) ⌝ }
@@ -61,7 +61,7 @@ fn unify(words: &[u32], at: usize, row: &[u32; 6], arity: usize, first: usize) -
     Match::Unifies
 }
 
-// The columns are walked while their cells are equal, and only from the first that differ on is anything put for nulls.
+// Skips columns while their cells are equal; nulls are bound only from the first column that differs.
 pub fn compare(words: &[u32], at: usize, row: &[u32; 6], arity: usize) -> Match
     requires { ⌜ (at + arity ≤ length (now words)) × (arity ≤ maxColumns) × (length (now row) ≡ maxColumns) ⌝ }
     ensures answer { λ r. ⌜ r ≡ matching (take arity (now (row .entry))) (take arity (drop at (now (words .entry)))) ⌝ }

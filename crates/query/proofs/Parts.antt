@@ -1,4 +1,4 @@
--- What a check that is passed says of each node: its tests hold, and its children are named, each with its scope. Assumes nothing.
+-- What a passed check says of each node: its tests hold, and its children are named, each with its scope. Assumes nothing.
 use Prim.Native.Nat.{ℕ, zero, suc, _+_, _<_, _≤_}
 use mathlib.Core.Path.{_≡_, refl, _∙_}
 use mathlib.Core.Bool.{Bool, true, false, _&&_}
@@ -36,7 +36,7 @@ pub record ChildIn (count : ℕ) (s : Scopes) (i child mask : ℕ) : Type 0 wher
 child-kept : {count : ℕ} {s t : Scopes} {i child mask : ℕ} → Kept s t → ChildIn count s i child mask → ChildIn count t i child mask
 child-kept k c = record { above = c .above; below = c .below; named = k _ _ (c .named) }
 
--- what a child's check that is passed says
+-- what a passed check of a child says
 pub record ChildPassed (count mask i child : ℕ) (s t : Scopes) : Type 0 where
   pub named : ChildIn count t i child mask
   pub kept : Kept s t
@@ -78,7 +78,7 @@ module _ (count : ℕ) (few : count ≤ maxNodes) (mask i child : ℕ) (s : Scop
         long = naming-long;
       })
 
--- k words from word j of node i on are terms, of values or of variables that are bound
+-- k words from word j of node i are terms: constants, or variables that are bound
 abbrev pub BoundTerms : List ℕ → ℕ → ℕ → ℕ → ℕ → Type 0
 BoundTerms qs mask i j k = (m : ℕ) → m < k → (isTerm (wordAt qs i (j + m)) ≡ true) × (isBound mask (wordAt qs i (j + m)) ≡ true)
 
@@ -97,7 +97,7 @@ terms-passed qs mask i j (suc k) s {t} e =
     (terms-more qs mask i j k (p .0) (q .0) (r .0), r .1)
 
 module _ (n : ℕ) (ars qs : List ℕ) where
-  -- what stands at node i in its scope, by its kind, where the nodes in s are named
+  -- node i stands in its scope, by its kind; s tells which nodes are named
   abbrev pub StandsIn : Scopes → ℕ → ℕ → Kind → Type 0
   StandsIn s i mask rowStands = (wordAt qs i 1 < n) × BoundTerms qs mask i 2 (arityOf ars (wordAt qs i 1))
   StandsIn s i mask equals = BoundTerms qs mask i 1 2
@@ -114,7 +114,7 @@ module _ (n : ℕ) (ars qs : List ℕ) where
   stands-kept i mask (ranges j) κ p = (p .0, child-kept κ (p .1))
   stands-kept i mask noKind κ p = p
 
-  -- what a node's check that is passed says
+  -- what a passed check of a node says
   pub record NodePassed (s : Scopes) (i mask : ℕ) (k : Kind) (t : Scopes) : Type 0 where
     pub stands : StandsIn t i mask k
     pub kept : Kept s t
@@ -163,7 +163,7 @@ module _ (n : ℕ) (ars qs : List ℕ) where
         let p = demand-read (eqb (getD (s .named) i 0) 1) _ _ e in
         (eqb-true _ _ (p .0), by-passed i (getD (s .masks) i 0) (kindOf (wordAt qs i 0)) (p .1))
 
-  -- every node from i on, k of them, stands in its scope
+  -- each of the k nodes from i stands in its scope
   abbrev pub AllStand : Scopes → ℕ → ℕ → Type 0
   AllStand t i k = (j : ℕ) → i ≤ j → j < i + k → StandsIn t j (getD (t .masks) j 0) (kindOf (wordAt qs j 0))
 
@@ -178,7 +178,7 @@ module _ (n : ℕ) (ars qs : List ℕ) where
           rw (f, same) (stands-kept i (getD (s .masks) i 0) (kindOf (wordAt qs i 0)) κ (p .stands))
       go false e = let n = eqb-false j i e in all j (omega arith) (omega arith)
 
-  -- nodes that are passed: those that were named stay so, and each stands
+  -- if the check of nodes is passed, those that were named stay so, and each node stands
   pub nodes-passed : nodeCount qs ≤ maxNodes → (i k : ℕ) (s : Scopes) {t : Scopes} → Long s → checkNodes n ars qs i k s ≡ passed t
       → Kept s t × AllStand t i k
   unfolding checkNodes

@@ -13,7 +13,7 @@ use calculus::refusal::BAD_CANDIDATE;
 use instance::cells::are_cells;
 use instance::header::COLUMNS;
 
-// The nodes by number, up to the first refusal.
+// Checks the nodes in order, up to the first refusal.
 fn check_nodes(
     relations: u32,
     arities: &[u32; 8],
@@ -39,7 +39,7 @@ fn check_nodes(
     0
 }
 
-// The number of the first refusal that a question of the right length and its candidate meet, or 0.
+// The number of the first refusal of a question of the right length and its candidate, or 0.
 pub fn check(relations: u32, arities: &[u32; 8], query: &[u32], candidate: &[u32]) -> u32
     requires { ⌜ (headerStands relations (now arities) ≡ true) × (length (now arities) ≡ maxRelations) × (rightLength (now query) ≡ true) ⌝ }
     ensures { λ r. ⌜ r ≡ checkNumber (checkQuery relations (now (arities .entry)) (now (query .entry)) (now (candidate .entry))) ⌝ }

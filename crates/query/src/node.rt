@@ -19,7 +19,7 @@ use calculus::refusal::BAD_NODE;
 use calculus::refusal::NO_SUCH_QUERY_RELATION;
 use calculus::refusal::UNBOUND_VARIABLE;
 
-// Whether the words of a node after its first `from` are 0.
+// Whether all words of a node after its first `from` are 0.
 fn rest_is_zero(query: &[u32], node: usize, from: usize) -> bool
     requires { ⌜ (node * nodeWords + nodeWords ≤ length (now query)) × (from ≤ nodeWords) ⌝ }
     ensures { λ r. ⌜ r ≡ restIsZero (now (query .entry)) node from ⌝ }
@@ -187,7 +187,7 @@ fn check_quantifier(
     )
 }
 
-// One node: it is named, and stands by its kind.
+// Checks one node: that it is named, and that its words are right for its kind.
 pub fn check_node(
     relations: u32,
     arities: &[u32; 8],

@@ -6,12 +6,12 @@ pub const NODE_WORDS: usize = 8;
 
 const QUERY_WORDS: usize = 800;
 
-// a term that is no constant is this and the number of a variable
+// a term that is not a constant is this number plus the number of a variable
 pub const VARIABLE_BASE: u32 = 2_000_000;
 
 pub const VARIABLES: u32 = 16;
 
-// The opposite of 21.
+// The opposite of refusal 21.
 pub fn right_length(query: &[u32]) -> bool
     ensures { λ r. ⌜ r ≡ rightLength (now (query .entry)) ⌝ }
 {

@@ -1,4 +1,4 @@
-// A fill: a cell for a null, in every cell that holds it.
+// A fill: replaces a null by a cell, in every cell that holds the null.
 ghost use mathlib.Core.Path.{_≡_};
 ghost use Prim.Native.Nat.{_≤_};
 ghost use mathlib.Core.List.{map};
@@ -21,7 +21,7 @@ use instance::header::Header;
 use instance::scan::Scanned;
 use instance::scan::scan;
 
-// A relation's number is below every null, so the words in use need not be told apart from cells.
+// A relation's number is below every null, so the pass need not tell relation numbers from cells.
 pub fn replace(words: &mut [u32], mark: u32, cell: u32) -> u32
     requires { ⌜ (mark ≤ nulls) × (length (now words) ≤ maxWords) ⌝ }
     ensures count { λ r. ⌜ r ≡ countOf (null mark) (now (words .entry)) ⌝ }

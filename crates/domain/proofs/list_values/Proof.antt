@@ -1,4 +1,4 @@
--- `domain::list_values` meets its contract: the first n words of the buffer are chained, and hold the values of the rows before index i. Assumes nothing.
+-- `domain::list_values` meets its contract: the first n words of the buffer are chained, and hold the values of the rows before i. Assumes nothing.
 use Prim.Native.Nat.{ℕ, _≤_, _<_, _-_, _+_}
 use mathlib.Core.Path.{_≡_, sym, ap, _∙_}
 use mathlib.Core.List.{List, [], _++_, _∷_}

@@ -32,7 +32,7 @@ enum-told c = search needs
 enum-told-2 : tie.Need-enum-told-2
 enum-told-2 c = search needs
 
--- what the answer of the scan says
+-- what the scan's result says
 module _ (c : tie.After-enum-told) where
   abbrev h : Header
   h = c .before .before .before .before .before .args .header
@@ -67,7 +67,7 @@ returns-3 c = simp (stands (c .before .before .before .before), lt-ltb _ _ (c .b
 are-cells-requires : tie.Need-are-cells-requires
 are-cells-requires c κs = search needs
 
--- what is left to demand once the row stands
+-- what is left to demand once the relation and the length are right
 module _ (c : tie.After-are-cells) where
   abbrev told : tie.After-enum-told
   told = c .before .before .before .before .before

@@ -34,7 +34,7 @@ returns c =
     let f = sym (c .before .before .check-insert .ensures) ∙ c .enum-told .given .1 in
     insert-told _ _ _ _ (c .before .before .check-insert .ensures, (simp f, simp f))
 
--- what the answer says
+-- what an accepted answer of check_insert says
 module _ (c : tie.After-struct-known) where
   abbrev answered : tie.After-check-insert
   answered = c .before .before .before .before

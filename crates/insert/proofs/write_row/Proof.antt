@@ -1,4 +1,4 @@
--- `insert::write_row` meets its contract: the relation's number is first, and then the first i cells. Assumes nothing.
+-- `insert::write_row` meets its contract: the relation's number is written first, and then the first i cells. Assumes nothing.
 use Prim.Native.Nat.{ℕ, _≤_, _<_, _-_, _+_}
 use mathlib.Core.Path.{_≡_, refl, ap, _∙_}
 use mathlib.Core.List.{List, _∷_, _++_}

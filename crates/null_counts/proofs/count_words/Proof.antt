@@ -1,4 +1,4 @@
--- `null_counts::count_words` meets its contract: the counts have what the words from place i on do not add. Assumes nothing.
+-- `null_counts::count_words` meets its contract: the counts plus those of the words from index i are the totals. Assumes nothing.
 use Prim.Native.Nat.{ℕ, _≤_, _<_, _-_, _+_}
 use mathlib.Core.Path.{_≡_, subst, refl}
 use mathlib.Core.Logic.{⊎-elim}
@@ -50,7 +50,7 @@ mul-counts c = omega (arith, leb-true)
 array-read-counts : tie.Need-array-read-counts Inv-loop μ-loop
 array-read-counts c = omega (arith, leb-true)
 
--- the word at place i
+-- the word at index i
 module _ (c : tie.In-loop Inv-loop μ-loop) where
   abbrev ws : List ℕ
   ws = c .before .before .args .words .now

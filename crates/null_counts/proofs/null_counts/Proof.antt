@@ -38,7 +38,7 @@ enum-told c = search needs
 enum-told-2 : tie.Need-enum-told-2 Inv-loop μ-loop
 enum-told-2 c = search needs
 
--- what the answer of the scan says
+-- what the scan's result says
 module _ (c : tie.After-enum-told Inv-loop μ-loop) where
   abbrev h : Header
   h = c .before .before .before .before .before .args .header
@@ -69,7 +69,7 @@ count-words-requires c κs = sound-gives _ _ (stands (c .before .before .before)
 loop-holds : tie.Need-loop-holds Inv-loop μ-loop
 loop-holds c = (omega arith, refl, refl)
 
--- what the words in use counted to
+-- the counts of the words in use
 module _ (c : tie.After-count-words Inv-loop μ-loop) where
   abbrev told : tie.After-enum-told Inv-loop μ-loop
   told = c .before .before .before .before

@@ -1,5 +1,5 @@
--- `substitute::replace` meets its contract: the words before place i are put, those from it on are as they were, and count has
--- what the words from i on lack. Assumes nothing.
+-- `substitute::replace` meets its contract: the words before index i are filled, those from i are as they were, and `count` plus the
+-- count from i is the count in all words. Assumes nothing.
 use Prim.Native.Nat.{ℕ, suc, _≤_, _<_, _-_, _+_}
 use mathlib.Core.Path.{_≡_, refl, sym, ap, _∙_}
 use mathlib.Core.Logic.{⊎-elim}
@@ -34,7 +34,7 @@ mul-if1 c = omega arith
 slice-read-if1 : tie.Need-slice-read-if1 Inv-loop μ-loop
 slice-read-if1 c = omega arith
 
--- the word at place i
+-- the word at index i
 module _ (c : tie.In-loop Inv-loop μ-loop) where
   abbrev m : ℕ
   m = c .before .before .args .mark

@@ -1,5 +1,5 @@
--- `substitute::substitute` meets its contract: each refusal fails one demand of the definition, and the words in use count and
--- fill as the cells of the rows do. Assumes nothing.
+-- `substitute::substitute` meets its contract: each refusal fails one demand of the definition, and counting and filling act on the words
+-- in use as on the cells of the rows. Assumes nothing.
 use Prim.Native.Nat.{ℕ}
 use mathlib.Core.Path.{_≡_, sym, ap, _∙_}
 use mathlib.Core.Bool.{true, false}
@@ -29,7 +29,7 @@ enum-told c = search needs
 enum-told-2 : tie.Need-enum-told-2
 enum-told-2 c = search needs
 
--- what the answer of the scan says
+-- what the scan's result says
 module _ (c : tie.After-enum-told) where
   abbrev start : tie.Start
   start = c .before .before .before .before .before

@@ -1,4 +1,4 @@
--- `domain::chain::add_value` meets its contract: the chain of the cell's bucket finds it, or gets it. Assumes nothing.
+-- `domain::chain::add_value` meets its contract: the cell is found in the chain of its bucket, or added to it. Assumes nothing.
 use Prim.Native.Nat.{ℕ}
 use mathlib.Core.Path.{sym, _∙_}
 use mathlib.Core.List.{List}
@@ -10,7 +10,7 @@ use Rattle.domain.proofs.Chains.{chained-more, added-new, added-old}
 use Rattle.domain.proofs.chain.add_value.Statement.{statement}
 use Rattle.domain.proofs.chain.add_value.Tie as tie
 
--- where the chain of the cell starts
+-- the start of the chain of the cell's bucket
 module _ (c : tie.Start) where
   abbrev list : List ℕ
   list = c .args .list .now

@@ -1,4 +1,4 @@
--- `domain::chain::find` meets its contract: the chain of the cell goes on at the place. Assumes nothing.
+-- `domain::chain::find` meets its contract: the chain of the cell's bucket goes on at `place`. Assumes nothing.
 use Prim.Native.Nat.{ℕ, _-_, _≤_, _<_}
 use mathlib.Core.Path.{_≡_, refl, sym}
 use mathlib.Core.Bool.{true}
@@ -23,7 +23,7 @@ loop-holds c = record { within = omega arith; same = refl; bucket = c .pre .2 }
 sub-w : tie.Need-sub-w Inv-loop μ-loop
 sub-w c = omega arith
 
--- the word at the place
+-- the word at `place`, which counts from 1
 module _ (c : tie.In-loop Inv-loop μ-loop) where
   abbrev list : List ℕ
   list = c .before .before .args .list .now

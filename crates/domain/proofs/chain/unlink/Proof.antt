@@ -1,5 +1,4 @@
--- `domain::chain::unlink` meets its contract: the words before place i are their values, and those from it on are as they were. Assumes
--- nothing.
+-- `domain::chain::unlink` meets its contract: the words before index i are their values, and those from i are as they were. Assumes nothing.
 use Prim.Native.Nat.{ℕ, _≤_, _-_}
 use mathlib.Core.Path.{_≡_, refl, sym, ap, _∙_}
 use mathlib.Core.List.{List}

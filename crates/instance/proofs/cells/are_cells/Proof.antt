@@ -1,4 +1,4 @@
--- `instance::cells::are_cells` meets its contract: the cells from place i on decide. Assumes nothing.
+-- `instance::cells::are_cells` meets its contract: the cells from index i decide. Assumes nothing.
 use Prim.Native.Nat.{ℕ, _≤_, _-_, _+_}
 use mathlib.Core.Path.{_≡_, refl, sym, ap, _∙_}
 use mathlib.Core.Bool.{Bool, true, false, _&&_}
@@ -33,7 +33,7 @@ shared-slice-read-is-cell c = omega arith
 is-cell-requires : tie.Need-is-cell-requires Inv-loop μ-loop
 is-cell-requires c κs = search needs
 
--- the cell at place i
+-- the cell at index i
 module _ (c : tie.After-is-cell Inv-loop μ-loop) where
   abbrev cs : List ℕ
   cs = c .before .before .before .before .before .args .cells .now

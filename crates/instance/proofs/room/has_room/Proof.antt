@@ -1,4 +1,4 @@
--- `instance::room::has_room` meets its contract: each way through the two tests computes the definition. Assumes nothing.
+-- `instance::room::has_room` meets its contract: on each path through the tests, the result computes to the definition. Assumes nothing.
 use borrow.Author.Tests.{le-leb, lt-leb}
 use Rattle.instance.proofs.room.has_room.Statement.{statement}
 use Rattle.instance.proofs.room.has_room.Tie as tie

@@ -1,4 +1,4 @@
--- `instance::scan::scan` meets its contract: each test fails one part of the definition, and the words are scanned by scan_words. Assumes
+-- `instance::scan::scan` meets its contract: a test that fails makes one part of the definition false, and scan_words scans the words. Assumes
 -- nothing.
 use mathlib.Core.Path.{_≡_, sym, _∙_}
 use mathlib.Core.Bool.{true, false, and-false}

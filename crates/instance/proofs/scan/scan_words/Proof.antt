@@ -1,4 +1,4 @@
--- `instance::scan::scan_words` meets its contract: what is left to see, from the row at place i on, decides what it answers. Assumes nothing.
+-- `instance::scan::scan_words` meets its contract: the words from index i, where a row starts, decide the result. Assumes nothing.
 use Prim.Native.Nat.{ℕ, _≤_, _<_, _-_, _+_}
 use mathlib.Core.Path.{_≡_, sym, ap, _∙_}
 use mathlib.Core.Bool.{Bool, true, false, cond}
@@ -36,7 +36,7 @@ mul-w c = omega arith
 shared-slice-read-w : tie.Need-shared-slice-read-w Inv-loop μ-loop
 shared-slice-read-w c = omega arith
 
--- the row at place i, and what is left behind its relation's number
+-- the row at index i, and the words after its relation's number
 module _ (c : tie.In-loop Inv-loop μ-loop) where
   abbrev n : ℕ
   n = c .before .before .before .args .relations

@@ -1,4 +1,4 @@
--- `lookup::counts::row_counts` meets its contract: the counts have what the rows from place i on do not add. Assumes nothing.
+-- `lookup::counts::row_counts` meets its contract: the counts plus those of the rows from index i are the totals. Assumes nothing.
 use Prim.Native.Nat.{ℕ, _≤_, _<_, _-_}
 use mathlib.Core.Path.{_≡_, refl}
 use mathlib.Core.List.{List}
@@ -23,7 +23,7 @@ abbrev μ-loop : tie.MeasureT-loop
 loop-holds : tie.Need-loop-holds Inv-loop μ-loop
 loop-holds c = (walk-starts _ _ _ (c .pre .words), counting-starts maxRelations _)
 
--- the row at place i
+-- the row at index i
 module _ (c : tie.In-loop Inv-loop μ-loop) where
   abbrev n : ℕ
   n = c .before .before .args .relations

@@ -1,4 +1,4 @@
--- `lookup::relation::stands` meets its contract: the rows from place i on decide, with what an earlier row made possible. Assumes nothing.
+-- `lookup::relation::stands` meets its contract: the rows from index i decide, and whether an earlier row unified. Assumes nothing.
 use Prim.Native.Nat.{ℕ, _≤_, _<_, _-_, _+_}
 use mathlib.Core.Path.{_≡_, sym, ap, _∙_}
 use mathlib.Core.Bool.{Bool, true, false, cond}
@@ -51,7 +51,7 @@ cast-arity c = omega (arith, arity-low (c .before .before))
 loop-holds : tie.Need-loop-holds Inv-loop μ-loop
 loop-holds c = (walk-starts _ _ _ (c .before .before .pre .0 .words), truth-starts _ _, c .before .before .pre .1 .1)
 
--- the row at place i
+-- the row at index i
 module _ (c : tie.In-loop Inv-loop μ-loop) where
   abbrev start : tie.Start Inv-loop μ-loop
   start = c .before .before .before .before
@@ -86,7 +86,7 @@ module _ (c : tie.In-loop Inv-loop μ-loop) where
   abbrev answer : Truth
   answer = stands (tuples relation (rowsFrom ars 0 ws)) cells
 
-  -- rows of the relation are to come, so words are
+  -- rows of the relation are still to come, so words are
   within : i < length ws
   within = omega (arith, c .loop-test .taken, c .before .loop .inv .2, tuples-few relation ars (drop i ws), length-drop i ws)
 
@@ -182,7 +182,7 @@ loop-again c =
       ⊎-elim (λ a. rw (a .4) (one-less b (a .0 .taken))) (λ a. rw (a .2) (no-less b (a .0 .left))) (c .before .if1 .came),
     )
 
--- past the relation's last row
+-- after the relation's last row
 at-end :
     (c : tie.After-loop Inv-loop μ-loop) (possible : Bool) → c .before .loop .possible ≡ possible →
     stands

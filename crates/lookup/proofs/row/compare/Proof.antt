@@ -1,4 +1,4 @@
--- `lookup::row::compare` meets its contract: the columns from i on decide. Assumes nothing.
+-- `lookup::row::compare` meets its contract: the columns from index i decide. Assumes nothing.
 use Prim.Native.Nat.{ℕ, _≤_, _-_, _+_}
 use mathlib.Core.Path.{_≡_, refl, sym, ap₂, _∙_}
 use mathlib.Core.List.{List, _∷_}
@@ -39,7 +39,7 @@ mul-y c = omega arith
 shared-slice-read-y : tie.Need-shared-slice-read-y Inv-loop μ-loop
 shared-slice-read-y c = omega arith
 
--- the column at place i
+-- the column at index i
 module _ (c : tie.In-loop Inv-loop μ-loop) where
   abbrev words : List ℕ
   words = c .before .before .before .args .words .now

@@ -1,4 +1,4 @@
--- `lookup::row::put_through` meets its contract: c is the cell sent through the first k bindings. Assumes nothing.
+-- `lookup::row::put_through` meets its contract: c is the cell after the first k bindings. Assumes nothing.
 use Prim.Native.Nat.{ℕ, _≤_, _-_, _+_}
 use mathlib.Core.Path.{_≡_, refl, sym, ap, _∙_}
 use mathlib.Core.Logic.{⊎-elim}
@@ -34,7 +34,7 @@ mul-c c = omega arith
 element-copy-out-c : tie.Need-element-copy-out-c Inv-loop μ-loop
 element-copy-out-c c = omega arith
 
--- the binding at place k
+-- the binding at index k
 module _ (c : tie.In-loop Inv-loop μ-loop) where
   abbrev from : List ℕ
   from = c .before .before .args .from .now

@@ -1,4 +1,4 @@
--- `lookup::row::unify` meets its contract: the columns from i on decide, with the first count bindings. Assumes nothing.
+-- `lookup::row::unify` meets its contract: the columns from index i decide, under the first `count` bindings. Assumes nothing.
 use Prim.Native.Nat.{ℕ, _≤_, _<_, _-_, _+_}
 use mathlib.Core.Path.{_≡_, refl, sym, ap, ap₂, _∙_}
 use mathlib.Core.Bool.{Bool, false}
@@ -49,7 +49,7 @@ shared-slice-read-put-through c = omega arith
 put-through-requires-2 : tie.Need-put-through-requires-2 Inv-loop μ-loop
 put-through-requires-2 c κs = omega arith
 
--- the column at place i, with its cells sent through the bindings
+-- the column at index i, with the bindings applied to its cells
 module _ (c : tie.After-put-through2 Inv-loop μ-loop) where
   abbrev loop : tie.In-loop Inv-loop μ-loop
   loop = c .before .before .before .before .before .before .before .before

@@ -1,4 +1,4 @@
--- `query::check::check` meets its contract: 26 is tested first, and the arrays that the nodes are checked with say what is known
+-- `query::check::check` meets its contract: 26 is tested first, and the arrays with which the nodes are checked hold what is known
 -- at the top. Assumes nothing.
 use Prim.Native.Nat.{ℕ, _-_, _*_, _%_, _^_}
 use mathlib.Core.Path.{_≡_, refl, ap, sym, _∙_}
@@ -33,7 +33,7 @@ returns c = simp (lt-leb _ _ (c .if1 .taken))
 are-cells-requires : tie.Need-are-cells-requires
 are-cells-requires c κs = search needs
 
--- what is left to check once the lengths are right
+-- what is left to check once the candidate is short enough
 module _ (c : tie.Else1) where
   abbrev start : tie.Start
   start = c .before .before .before

@@ -1,4 +1,4 @@
--- `query::check::check_nodes` meets its contract: the nodes that are left, from node on, decide. Assumes nothing.
+-- `query::check::check_nodes` meets its contract: the nodes from `node` decide. Assumes nothing.
 use Prim.Native.Nat.{ℕ, _+_, _-_, _≤_, _<_}
 use mathlib.Core.Path.{_≡_, refl, _∙_}
 use mathlib.Core.List.{List}
@@ -31,7 +31,7 @@ check-node-requires c κs =
     let l = c .before .before .before .loop .inv .1 in
     (p .0, p .1, record { whole = omega arith; few = p .2; long = record { named = l .named; masks = l .masks } })
 
--- the node, and the nodes behind it
+-- the node, and the nodes after it
 module _ (c : tie.After-check-node Inv-loop μ-loop) where
   abbrev start : tie.Start Inv-loop μ-loop
   start = c .before .before .before .before .before .before

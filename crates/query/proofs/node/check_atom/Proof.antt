@@ -1,4 +1,4 @@
--- `query::node::check_atom` meets its contract: each test is one of the definition's, in its order; a relation that the header has has at most 6
+-- `query::node::check_atom` meets its contract: each test is one of the definition's, in its order; a relation that exists has at most 6
 -- columns. Assumes nothing.
 use Prim.Native.Nat.{_≤_}
 use mathlib.Core.Path.{refl, sym, _∙_}
@@ -33,7 +33,7 @@ cast-arity c = search needs
 mul-arity : tie.Need-mul-arity
 mul-arity c = search needs
 
--- the header has the relation, with its columns
+-- the relation exists, and has at most 6 columns
 module _ (c : tie.Else1) where
   abbrev start : tie.Start
   start = c .before .before .before

@@ -1,5 +1,5 @@
--- `query::node::check_junction` meets its contract: each test is one of the definition's, in its order, and the right child is named where the
--- left is. Assumes nothing.
+-- `query::node::check_junction` meets its contract: each test is one of the definition's, in its order, and the right child is checked after
+-- the left is named. Assumes nothing.
 use mathlib.Core.Path.{_≡_, refl, sym, _∙_}
 use borrow.Author.Tests.{not-true, not-false}
 use lib.Dec.{lit<}
@@ -39,7 +39,7 @@ shared-slice-read-check-child c = search needs
 check-child-requires : tie.Need-check-child-requires
 check-child-requires c κs = search needs
 
--- the words that have no name are 0
+-- the unnamed words are 0
 zeros : (c : tie.Else1) → restIsZero (c .before .before .before .args .query .now) (c .before .before .before .args .node) 3 ≡ true
 zeros c = sym (c .before .rest-is-zero .ensures) ∙ not-false _ (c .if1 .left)
 

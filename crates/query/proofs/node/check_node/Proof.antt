@@ -55,7 +55,7 @@ check-junction-requires c κs = search needs
 check-quantifier-requires : tie.Need-check-quantifier-requires
 check-quantifier-requires c κs = search needs
 
--- a node that is named, of a kind
+-- a named node, and its kind
 module _ (c : tie.After-shared-slice-known2) where
   abbrev start : tie.Start
   start = c .before .before .before .before .before
@@ -80,7 +80,7 @@ module _ (c : tie.After-shared-slice-known2) where
       ≡ checkBy n ars qs (start .args .node) (getD (s .masks) (start .args .node) 0) s k
   by k e = node-by _ _ qs (start .args .node) s k (c .before .before .if1 .left) e
 
--- none of the first three kinds
+-- a kind that is none of the first three
 above : (c : tie.At-match-rest) → 1 ≤ kind (c .before) → 4 ≤ kind (c .before)
 above c l =
     let a : (kind (c .before) ≡ 1 → ⊥) = c .match .rest .0 .0 .1 in

@@ -1,4 +1,4 @@
--- `query::node::rest_is_zero` meets its contract: the words from word j on decide. Assumes nothing.
+-- `query::node::rest_is_zero` meets its contract: the words from word j decide. Assumes nothing.
 use Prim.Native.Nat.{_≤_, _-_}
 use mathlib.Core.Path.{_≡_, refl, _∙_}
 use native.Mathlib.Omega.{arith}

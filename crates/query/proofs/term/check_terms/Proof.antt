@@ -1,4 +1,4 @@
--- `query::term::check_terms` meets its contract: the terms that are left, count - k of them, decide. Assumes nothing.
+-- `query::term::check_terms` meets its contract: the count - k terms that are left decide. Assumes nothing.
 use Prim.Native.Nat.{ℕ, _≤_, _+_, _-_}
 use mathlib.Core.Path.{_≡_, refl, sym, _∙_}
 use mathlib.Core.Bool.{Bool, true, false}
@@ -45,7 +45,7 @@ shared-slice-read-w c = omega arith
 is-term-requires : tie.Need-is-term-requires Inv-loop μ-loop
 is-term-requires c κs = search needs
 
--- the term at place k, and the terms behind it
+-- the term at index k, and the terms after it
 module _ (c : tie.After-is-term Inv-loop μ-loop) where
   abbrev start : tie.Start Inv-loop μ-loop
   start = c .before .before .before .before .before

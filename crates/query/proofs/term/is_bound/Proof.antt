@@ -1,4 +1,4 @@
--- `query::term::is_bound` meets its contract: a value is bound, and a variable is where its bit stands. Assumes nothing.
+-- `query::term::is_bound` meets its contract: a constant is bound, and a variable is bound if its bit is 1. Assumes nothing.
 use native.Mathlib.Omega.{arith}
 use borrow.Author.Tests.{lt-ltb, le-ltb}
 use Rattle.query.proofs.Steps.{term-variable}

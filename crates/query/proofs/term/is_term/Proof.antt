@@ -1,4 +1,4 @@
--- `query::term::is_term` meets its contract: each way through the tests computes the definition. Assumes nothing.
+-- `query::term::is_term` meets its contract: on each path through the tests, the result computes to the definition. Assumes nothing.
 use borrow.Author.Tests.{lt-ltb, le-ltb, le-leb, lt-leb}
 use borrow.Author.Needs.{needs}
 use Rattle.query.proofs.term.is_term.Statement.{statement}
