@@ -28,7 +28,7 @@ value e (var v) = getD e v 0
 abbrev pub values : List ℕ → List Term → List ℕ
 values e ts = map (value e) ts
 
--- "variables 0 to 15"
+-- the variables are numbered 0 to 15
 abbrev pub variables : ℕ
 variables = 16
 

@@ -70,7 +70,7 @@ wrong-row-length = 27
 abbrev pub no-such-null : ℕ
 no-such-null = 29
 
--- "the plot breaks a rule of its section, or its slice is shorter than the words in use"
+-- "the plot breaks a rule of its section above, or its slice is shorter than the words in use"
 abbrev pub unsound : ℕ
 unsound = 41
 
