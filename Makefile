@@ -3,7 +3,7 @@
 .PHONY: run test fmt lib c-test example verdicts bench bench-page builds
 
 # the crate whose exports are the library for C
-EXPORTS := host
+EXPORTS := exports
 CRATES := crates.txt $(shell find crates -name '*.rt' -o -name '*.antt')
 LIBRARY := target/lib/libplotask.a
 PROGRAM := target/bin/plotask

@@ -13,7 +13,7 @@ use Rattle.calculus.specs.Answer.{after}
 use Rattle.calculus.specs.Refusal.{unsound, buffer-too-short, bad-query-length}
 use Rattle.calculus.specs.Row.{Row, cellsOf}
 use Rattle.calculus.specs.Domain.{domain}
-use Rattle.calculus.specs.Model.{asked}
+use Rattle.calculus.specs.Model.{outcomeOf}
 use Rattle.calculus.specs.Eval.{eval}
 use Rattle.calculus.specs.Formula.{assignment, variables}
 use Rattle.instance.specs.declared.header.Header.{Header}
@@ -27,7 +27,7 @@ use Rattle.query.specs.Tree.{formulaOf}
 use Rattle.query.specs.Scope.{Scopes}
 use Rattle.query.specs.Check.{Checked, passed, checkQuery, checkNumber}
 use Rattle.calculus.specs.Reading.{refused, read}
-use Rattle.query.proofs.Passed.{few-cells, count-within, node-stands}
+use Rattle.query.proofs.Passed.{few-cells, count-within, node-well-formed}
 use Rattle.instance.specs.RowCounts.{rowCounts}
 use Rattle.instance.proofs.RowCounts.{row-count-at, row-counts-size}
 use Rattle.answer.specs.declared.asked.Asked.the-variants.{Refused}
@@ -80,7 +80,7 @@ module _ (h : Header) (ws qs cs buffer : List ℕ) (budget : ℕ) where
   refused-by : (r : ℕ) → askable h ws qs cs buffer ≡ answer.Refused r → (Refused r ≡ ask h ws qs cs buffer budget) × (buffer ≡ askedBuffer h ws qs cs buffer)
   unfolding ask askedBuffer
   refused-by r e = (
-    sym (ap (λ (x : Answer). answeredBy x (within budget (asked (modelOf h ws cs) (formulaOf (h .arities) qs)))) e),
+    sym (ap (λ (x : Answer). answeredBy x (within budget (outcomeOf (modelOf h ws cs) (formulaOf (h .arities) qs)))) e),
     sym (ap (λ (x : Answer). after x (overwrite (domain (rows h ws)) buffer) buffer) e),
   )
 
@@ -102,12 +102,12 @@ module _ (h : Header) (ws qs cs buffer : List ℕ) (budget : ℕ) where
 
   pub evaluated-asked :
       Asks h ws qs cs buffer →
-      (evaluatedAs (within budget (asked (modelOf h ws cs) (formulaOf (h .arities) qs))) ≡ ask h ws qs cs buffer budget) ×
+      (evaluatedAs (within budget (outcomeOf (modelOf h ws cs) (formulaOf (h .arities) qs))) ≡ ask h ws qs cs buffer budget) ×
       (overwrite (domain (rows h ws)) buffer ≡ askedBuffer h ws qs cs buffer)
   unfolding ask askedBuffer
   evaluated-asked a =
       let e = askable-done h ws qs cs buffer a in (
-        sym (ap (λ (x : Answer). answeredBy x (within budget (asked (modelOf h ws cs) (formulaOf (h .arities) qs)))) e),
+        sym (ap (λ (x : Answer). answeredBy x (within budget (outcomeOf (modelOf h ws cs) (formulaOf (h .arities) qs)))) e),
         sym (ap (λ (x : Answer). after x (overwrite (domain (rows h ws)) buffer) buffer) e),
       )
 
@@ -124,11 +124,11 @@ module _ (h : Header) (ws qs cs : List ℕ) (e : sound h ws ≡ true) (eight : l
       let within = count-within qs right in (
         (
           record {
-            standing = g .standing;
+            well-formed = g .well-formed;
             eight = eight;
             whole = within .2;
             nodes-few = within .1;
-            nodes = node-stands (h .relations) (h .arities) qs cs right s p;
+            nodes = node-well-formed (h .relations) (h .arities) qs cs right s p;
             counted = λ r l. rw is-counted (row-count-at rs r (omega (arith, l, g .headed .few)));
             eight-counts = rw is-counted (row-counts-size rs);
           },

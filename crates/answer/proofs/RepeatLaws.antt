@@ -11,7 +11,7 @@ use Rattle.calculus.specs.declared.truth.Truth.{Truth}
 use Rattle.calculus.specs.Row.{cellsOf}
 use Rattle.calculus.specs.Formula.{assignment}
 use Rattle.calculus.specs.Eval.{Outcome}
-use Rattle.calculus.specs.Model.{asked}
+use Rattle.calculus.specs.Model.{outcomeOf}
 use Rattle.calculus.proofs.Repeats.{Cheaper, repeat-kept, repeat-cells}
 use Rattle.instance.specs.declared.header.Header.{Header}
 use Rattle.instance.specs.Sound.{rows}
@@ -28,10 +28,10 @@ use Rattle.answer.proofs.AskLaws.{evaluated-asked}
 
 module _ (h h′ : Header) (ws ws′ qs candidate buffer : List ℕ) (budget : ℕ) (r : Repeat h h′ ws ws′) where
   abbrev twice : Outcome
-  twice = asked (modelOf h ws candidate) (formulaOf (h .arities) qs)
+  twice = outcomeOf (modelOf h ws candidate) (formulaOf (h .arities) qs)
 
   abbrev once : Outcome
-  once = asked (modelOf h′ ws′ candidate) (formulaOf (h′ .arities) qs)
+  once = outcomeOf (modelOf h′ ws′ candidate) (formulaOf (h′ .arities) qs)
 
   kept : Cheaper twice once
   kept = rw (r .twice, r .once, r .arities) (repeat-kept (r .before) (r .row) (r .between) (r .behind) (formulaOf (h .arities) qs) (assignment candidate))
@@ -40,14 +40,14 @@ module _ (h h′ : Header) (ws ws′ qs candidate buffer : List ℕ) (budget : �
   fewer = rw (r .twice, r .once) (repeat-cells (r .before) (r .row) (r .between) (r .behind))
 
   -- the second instance gives the first one's verdict
-  without-it : (t : Truth) (n : ℕ) → ask h ws qs candidate buffer budget ≡ Verdict t n → SameVerdict (ask h′ ws′ qs candidate buffer budget) t n
-  without-it t n e =
+  second-asks : (t : Truth) (n : ℕ) → ask h ws qs candidate buffer budget ≡ Verdict t n → SameVerdict (ask h′ ws′ qs candidate buffer budget) t n
+  second-asks t n e =
       let a = verdict-asked h ws qs candidate buffer budget t n e in
       let was = was-verdict budget twice t n (a .1) in
       let passes : checkQuery (h′ .relations) (h′ .arities) qs candidate ≡ passed (a .0 .scopes) = rw (r .relations, r .arities) (a .0 .passes) in
-      let asks : Asks h′ ws′ qs candidate buffer = record { stands = r .second-sound; right = a .0 .right; scopes = a .0 .scopes; passes = passes; room = omega (arith, fewer, a .0 .room) } in
+      let asks : Asks h′ ws′ qs candidate buffer = record { is-sound = r .second-sound; right = a .0 .right; scopes = a .0 .scopes; passes = passes; room = omega (arith, fewer, a .0 .room) } in
       record {
-        looks = once .cost;
+        cost = once .cost;
         no-more = omega (arith, kept .cost, was .cost);
         is =
             asked-verdict h′ ws′ qs candidate buffer budget asks (omega (arith, kept .cost, was .cost, was .fits)) ∙
@@ -55,15 +55,15 @@ module _ (h h′ : Header) (ws ws′ qs candidate buffer : List ℕ) (budget : �
       }
 
   -- the first instance gives the second one's verdict, if the buffer is long enough and the budget suffices
-  with-it :
+  to-first :
       (t : Truth) (n : ℕ) → ask h′ ws′ qs candidate buffer budget ≡ Verdict t n → length (cellsOf (rows h ws)) ≤ length buffer →
       SameOrSpent (ask h ws qs candidate buffer budget) t n
-  with-it t n e room =
+  to-first t n e room =
       let a = verdict-asked h′ ws′ qs candidate buffer budget t n e in
       let was = was-verdict budget once t n (a .1) in
       let passes : checkQuery (h .relations) (h .arities) qs candidate ≡ passed (a .0 .scopes) =
       sym (ap₂ (λ (k : ℕ) (ars : List ℕ). checkQuery k ars qs candidate) (r .relations) (r .arities)) ∙ a .0 .passes in
-      let asks : Asks h ws qs candidate buffer = record { stands = r .first-sound; right = a .0 .right; scopes = a .0 .scopes; passes = passes; room = room } in
+      let asks : Asks h ws qs candidate buffer = record { is-sound = r .first-sound; right = a .0 .right; scopes = a .0 .scopes; passes = passes; room = room } in
       go (leb (twice .cost) budget) refl asks (was .truth) (was .cost)
     where
       go :
@@ -77,6 +77,6 @@ module _ (h h′ : Header) (ws ws′ qs candidate buffer : List ℕ) (budget : �
 
 pub repeat-means-one : RepeatMeansOne
 repeat-means-one h h′ ws ws′ qs candidate buffer budget t n r = record {
-  without = without-it h h′ ws ws′ qs candidate buffer budget r t n;
-  with-it = with-it h h′ ws ws′ qs candidate buffer budget r t n;
+  to-second = second-asks h h′ ws ws′ qs candidate buffer budget r t n;
+  to-first = to-first h h′ ws ws′ qs candidate buffer budget r t n;
 }

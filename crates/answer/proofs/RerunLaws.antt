@@ -15,7 +15,7 @@ use Rattle.calculus.specs.Refusal.{unsound, buffer-too-short, bad-query-length}
 use Rattle.calculus.specs.Row.{Row, cellsOf}
 use Rattle.calculus.specs.Eval.{Outcome}
 use Rattle.calculus.specs.Order.{_⊑_}
-use Rattle.calculus.specs.Model.{Model, run, asked}
+use Rattle.calculus.specs.Model.{Model, run, outcomeOf}
 use Rattle.calculus.proofs.Answers.{demand-done}
 use Rattle.calculus.proofs.Rows.{cells-map}
 use Rattle.calculus.proofs.Fills.{mapped-run}
@@ -23,7 +23,7 @@ use Rattle.calculus.proofs.Certain.{runs-share}
 use Rattle.instance.specs.declared.header.Header.{Header}
 use Rattle.instance.specs.Sound.{sound, rows}
 use Rattle.instance.specs.Run.{filledWords, modelOf}
-use Rattle.instance.proofs.Run.{ran, candidate-stands}
+use Rattle.instance.proofs.Run.{fills-follow-model, candidate-cells}
 use Rattle.query.specs.Words.{nodeCount, rightLength}
 use Rattle.query.specs.Tree.{formulaOf}
 use Rattle.query.specs.Scope.{Scopes}
@@ -41,7 +41,7 @@ use Rattle.calculus.proofs.Bools.{zero-not-one}
 
 -- what follows from a verdict: nothing before it was refused
 pub record Asks (h : Header) (ws qs candidate buffer : List ℕ) : Type 0 where
-  pub stands : sound h ws ≡ true
+  pub is-sound : sound h ws ≡ true
   pub right : rightLength qs ≡ true
   pub scopes : Scopes
   pub passes : checkQuery (h .relations) (h .arities) qs candidate ≡ passed scopes
@@ -58,29 +58,29 @@ asks-done h ws qs candidate buffer k e =
         (c : Checked) → checkQuery (h .relations) (h .arities) qs candidate ≡ c → sound h ws ≡ true → rightLength qs ≡ true →
         ifPassed c (demand (leb (length (cellsOf (rows h ws))) (length buffer)) (answer.Refused buffer-too-short) (answer.Done 0)) ≡ answer.Done k →
         Asks h ws qs candidate buffer
-    go (read done s) p stands right d =
+    go (read done s) p is-sound right d =
         let r = demand-done (leb (length (cellsOf (rows h ws))) (length buffer)) buffer-too-short (answer.Done 0) k d in
-        record { stands = stands; right = right; scopes = s; passes = p; room = leb-true (length (cellsOf (rows h ws))) (length buffer) (r .0) }
-    go (refused r) p stands right d = let z : _≡_ {A = ℕ} 0 1 = cc in absurd (zero-not-one z)
+        record { is-sound = is-sound; right = right; scopes = s; passes = p; room = leb-true (length (cellsOf (rows h ws))) (length buffer) (r .0) }
+    go (refused r) p is-sound right d = let z : _≡_ {A = ℕ} 0 1 = cc in absurd (zero-not-one z)
 
 pub askable-done : (h : Header) (ws qs candidate buffer : List ℕ) → Asks h ws qs candidate buffer → askable h ws qs candidate buffer ≡ answer.Done 0
 unfolding askable
 askable-done h ws qs candidate buffer a =
-    rw (a .stands, a .right, a .passes, le-leb (length (cellsOf (rows h ws))) (length buffer) (a .room)) refl
+    rw (a .is-sound, a .right, a .passes, le-leb (length (cellsOf (rows h ws))) (length buffer) (a .room)) refl
 
 -- a verdict: nothing is refused, and the outcome is within the budget
 pub verdict-asked :
     (h : Header) (ws qs candidate buffer : List ℕ) (budget : ℕ) (t : Truth) (n : ℕ) → ask h ws qs candidate buffer budget ≡ Verdict t n →
-    Asks h ws qs candidate buffer × (within budget (asked (modelOf h ws candidate) (formulaOf (h .arities) qs)) ≡ evaluated.Verdict t n)
+    Asks h ws qs candidate buffer × (within budget (outcomeOf (modelOf h ws candidate) (formulaOf (h .arities) qs)) ≡ evaluated.Verdict t n)
 unfolding ask
 verdict-asked h ws qs candidate buffer budget t n =
-    go (askable h ws qs candidate buffer) refl (within budget (asked (modelOf h ws candidate) (formulaOf (h .arities) qs))) refl
+    go (askable h ws qs candidate buffer) refl (within budget (outcomeOf (modelOf h ws candidate) (formulaOf (h .arities) qs))) refl
   where
     go :
         (a : Answer) → askable h ws qs candidate buffer ≡ a →
-        (e : Evaluated) → within budget (asked (modelOf h ws candidate) (formulaOf (h .arities) qs)) ≡ e →
+        (e : Evaluated) → within budget (outcomeOf (modelOf h ws candidate) (formulaOf (h .arities) qs)) ≡ e →
         answeredBy a e ≡ Verdict t n →
-        Asks h ws qs candidate buffer × (within budget (asked (modelOf h ws candidate) (formulaOf (h .arities) qs)) ≡ evaluated.Verdict t n)
+        Asks h ws qs candidate buffer × (within budget (outcomeOf (modelOf h ws candidate) (formulaOf (h .arities) qs)) ≡ evaluated.Verdict t n)
     go (answer.Done k) p (evaluated.Verdict u m) q r =
         let truths : u ≡ t = cc in
         let costs : m ≡ n = cc in
@@ -91,12 +91,12 @@ verdict-asked h ws qs candidate buffer budget t n =
 -- conversely, if nothing is refused and the cost is within the budget, the question gets its verdict
 pub asked-verdict :
     (h : Header) (ws qs candidate buffer : List ℕ) (budget : ℕ) → Asks h ws qs candidate buffer →
-    asked (modelOf h ws candidate) (formulaOf (h .arities) qs) .cost ≤ budget →
+    outcomeOf (modelOf h ws candidate) (formulaOf (h .arities) qs) .cost ≤ budget →
     ask h ws qs candidate buffer budget ≡
-    Verdict (asked (modelOf h ws candidate) (formulaOf (h .arities) qs) .truth) (asked (modelOf h ws candidate) (formulaOf (h .arities) qs) .cost)
+    Verdict (outcomeOf (modelOf h ws candidate) (formulaOf (h .arities) qs) .truth) (outcomeOf (modelOf h ws candidate) (formulaOf (h .arities) qs) .cost)
 unfolding ask
 asked-verdict h ws qs candidate buffer budget a fits =
-    let o = asked (modelOf h ws candidate) (formulaOf (h .arities) qs) in
+    let o = outcomeOf (modelOf h ws candidate) (formulaOf (h .arities) qs) in
     ap (λ (x : Answer). answeredBy x (within budget o)) (askable-done h ws qs candidate buffer a) ∙ ap evaluatedAs (verdict budget o fits)
 
 -- a refusal is not a verdict
@@ -108,23 +108,23 @@ pub demand-three : DemandThree
 demand-three h ws qs candidate buffer budget fs buffer′ budget′ longer larger t n e =
     let a = verdict-asked h ws qs candidate buffer budget t n e in
     let b = modelOf h ws candidate in
-    let was = was-verdict budget (asked b (formulaOf (h .arities) qs)) t n (a .1) in
-    let r = ran h fs ws candidate (a .0 .stands) in
+    let was = was-verdict budget (outcomeOf b (formulaOf (h .arities) qs)) t n (a .1) in
+    let r = fills-follow-model h fs ws candidate (a .0 .is-sound) in
     let m = mapped-run fs b in
     let shared = runs-share fs b (formulaOf (h .arities) qs) (passed-inked (h .relations) (h .arities) qs candidate (a .0 .right) (a .0 .scopes) (a .0 .passes) (nodeCount qs) 0 (count-within qs (a .0 .right) .0)) in
     let after = run fs b in
     let ws′ = filledWords h fs ws in
     let cells = are-cells (h .relations) (h .arities) qs candidate (a .0 .right) (a .0 .scopes) (a .0 .passes) in
     let long : length (after .candidate) ≡ length candidate = ap length (m .candidate) ∙ length-map candidate (m .by) in
-    let passes = same-candidate (h .relations) (h .arities) qs (after .candidate) candidate long (candidate-stands fs b cells ∙ sym cells) ∙ a .0 .passes in
+    let passes = same-candidate (h .relations) (h .arities) qs (after .candidate) candidate long (candidate-cells fs b cells ∙ sym cells) ∙ a .0 .passes in
     let same-cells : length (cellsOf (rows h ws′)) ≡ length (cellsOf (rows h ws)) =
     ap (λ (rs : List Row). length (cellsOf rs)) (r .holds ∙ m .rows) ∙ ap length (cells-map (m .by) (rows h ws)) ∙ length-map (cellsOf (rows h ws)) (m .by)
     in
     let room : length (cellsOf (rows h ws′)) ≤ length buffer′ = omega (arith, same-cells, a .0 .room) in
-    let o = asked after (formulaOf (h .arities) qs) in
+    let o = outcomeOf after (formulaOf (h .arities) qs) in
     let same-model : modelOf h ws′ (after .candidate) ≡ after = ap (λ (rs : List Row). record { rows = rs; candidate = after .candidate }) (r .holds) in
-    let same-outcome : asked (modelOf h ws′ (after .candidate)) (formulaOf (h .arities) qs) ≡ o = ap (λ (x : Model). asked x (formulaOf (h .arities) qs)) same-model in
-    let fits : asked (modelOf h ws′ (after .candidate)) (formulaOf (h .arities) qs) .cost ≤ budget′ =
+    let same-outcome : outcomeOf (modelOf h ws′ (after .candidate)) (formulaOf (h .arities) qs) ≡ o = ap (λ (x : Model). outcomeOf x (formulaOf (h .arities) qs)) same-model in
+    let fits : outcomeOf (modelOf h ws′ (after .candidate)) (formulaOf (h .arities) qs) .cost ≤ budget′ =
     omega (arith, ap (λ (x : Outcome). x .cost) same-outcome, shared .kept .cost, was .cost, was .fits)
     in
     record {
@@ -132,7 +132,7 @@ demand-three h ws qs candidate buffer budget fs buffer′ budget′ longer large
       truth = o .truth;
       cost = o .cost;
       answers =
-          asked-verdict h ws′ qs (after .candidate) buffer′ budget′ (record { stands = r .stands; right = a .0 .right; scopes = a .0 .scopes; passes = passes; room = room }) fits ∙
+          asked-verdict h ws′ qs (after .candidate) buffer′ budget′ (record { is-sound = r .is-sound; right = a .0 .right; scopes = a .0 .scopes; passes = passes; room = room }) fits ∙
           ap (λ (x : Outcome). Verdict (x .truth) (x .cost)) same-outcome;
       kept = subst (λ (x : Truth). x ⊑ o .truth) (was .truth) (shared .kept .truth);
       no-more = omega (arith, shared .kept .cost, was .cost);

@@ -6,14 +6,14 @@ use Rattle.calculus.specs.declared.truth.Truth.{Truth}
 use Rattle.calculus.specs.Answer.{after}
 use Rattle.calculus.specs.Kleene.{rank}
 use Rattle.calculus.specs.Eval.{Outcome}
-use Rattle.calculus.specs.Model.{asked}
+use Rattle.calculus.specs.Model.{outcomeOf}
 use Rattle.instance.specs.declared.header.Header.{Header}
 use Rattle.instance.specs.Run.{modelOf}
 use Rattle.query.specs.Tree.{formulaOf}
 use Rattle.answer.specs.declared.asked.Asked.{Asked}
 use Rattle.answer.specs.declared.asked.Asked.the-variants.{Verdict, Refused}
 use Rattle.answer.specs.Ask.{ask}
-use Rattle.answer.specs.Numbers.{askedAs, askedNumber, verdictOf, looksOf, TellsVerdict}
+use Rattle.answer.specs.Numbers.{askedAs, askedNumber, verdictOf, costOf, TellsVerdict}
 use Rattle.evaluate.proofs.Budget.{was-verdict}
 use Rattle.answer.proofs.RerunLaws.{verdict-asked}
 
@@ -25,24 +25,24 @@ pub tells-verdict : {r a : Asked} (o : Outcome) → r ≡ a → Of o a → Tells
 tells-verdict {r} {a} o e of = record {
   number = ap askedNumber e;
   verdict = λ old. ap (λ (x : Asked). verdictOf x old) e ∙ verdict a of old;
-  looks = λ old. ap (λ (x : Asked). looksOf x old) e ∙ looks a of old;
+  cost = λ old. ap (λ (x : Asked). costOf x old) e ∙ cost a of old;
 }
   where
     verdict : (x : Asked) → Of o x → (old : ℕ) → verdictOf x old ≡ after (askedAs x) (rank (o .truth)) old
     verdict (Verdict t n) of old = ap rank (sym (of t n refl .0))
     verdict (Refused r) of old = refl
 
-    looks : (x : Asked) → Of o x → (old : ℕ) → looksOf x old ≡ after (askedAs x) (o .cost) old
-    looks (Verdict t n) of old = sym (of t n refl .1)
-    looks (Refused r) of old = refl
+    cost : (x : Asked) → Of o x → (old : ℕ) → costOf x old ≡ after (askedAs x) (o .cost) old
+    cost (Verdict t n) of old = sym (of t n refl .1)
+    cost (Refused r) of old = refl
 
 module _ (h : Header) (ws qs cs buffer : List ℕ) (budget : ℕ) where
-  pub ask-outcome : Of (asked (modelOf h ws cs) (formulaOf (h .arities) qs)) (ask h ws qs cs buffer budget)
+  pub ask-outcome : Of (outcomeOf (modelOf h ws cs) (formulaOf (h .arities) qs)) (ask h ws qs cs buffer budget)
   ask-outcome t n e =
-      let w = was-verdict budget (asked (modelOf h ws cs) (formulaOf (h .arities) qs)) t n (verdict-asked h ws qs cs buffer budget t n e .1) in
+      let w = was-verdict budget (outcomeOf (modelOf h ws cs) (formulaOf (h .arities) qs)) t n (verdict-asked h ws qs cs buffer budget t n e .1) in
       (w .truth, w .cost)
 
   pub ask-told :
       {r : Asked} {P : Type 0} → (r ≡ ask h ws qs cs buffer budget) × P →
-      (r ≡ ask h ws qs cs buffer budget) × (P × TellsVerdict r (ask h ws qs cs buffer budget) (asked (modelOf h ws cs) (formulaOf (h .arities) qs)))
-  ask-told p = (p .0, (p .1, tells-verdict (asked (modelOf h ws cs) (formulaOf (h .arities) qs)) (p .0) ask-outcome))
+      (r ≡ ask h ws qs cs buffer budget) × (P × TellsVerdict r (ask h ws qs cs buffer budget) (outcomeOf (modelOf h ws cs) (formulaOf (h .arities) qs)))
+  ask-told p = (p .0, (p .1, tells-verdict (outcomeOf (modelOf h ws cs) (formulaOf (h .arities) qs)) (p .0) ask-outcome))

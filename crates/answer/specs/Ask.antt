@@ -10,7 +10,7 @@ use Rattle.calculus.specs.Answer.{after}
 use Rattle.calculus.specs.Refusal.{unsound, buffer-too-short, budget-spent, bad-query-length}
 use Rattle.calculus.specs.Row.{cellsOf}
 use Rattle.calculus.specs.Domain.{domain}
-use Rattle.calculus.specs.Model.{asked}
+use Rattle.calculus.specs.Model.{outcomeOf}
 use Rattle.instance.specs.declared.header.Header.{Header}
 use Rattle.instance.specs.Sound.{sound, rows}
 use Rattle.instance.specs.Run.{modelOf}
@@ -51,7 +51,7 @@ module _ (h : Header) (ws qs candidate buffer : List ℕ) where
       (demand (leb (length (cellsOf (rows h ws))) (length buffer)) (answer.Refused buffer-too-short) (answer.Done 0))))
 
   unfoldable pub ask : ℕ → Asked
-  ask budget = answeredBy askable (within budget (asked (modelOf h ws candidate) (formulaOf (h .arities) qs)))
+  ask budget = answeredBy askable (within budget (outcomeOf (modelOf h ws candidate) (formulaOf (h .arities) qs)))
 
   -- "After a verdict or number 46 it holds the plot's values first, and its other words keep their content. No other refusal touches it."
   unfoldable pub askedBuffer : List ℕ

@@ -15,13 +15,13 @@ use Rattle.answer.specs.Ask.{ask}
 
 -- the verdict t, with a cost of at most n
 pub record SameVerdict (a : Asked) (t : Truth) (n : ℕ) : Type 0 where
-  pub looks : ℕ
-  pub no-more : looks ≤ n
-  pub is : a ≡ Verdict t looks
+  pub cost : ℕ
+  pub no-more : cost ≤ n
+  pub is : a ≡ Verdict t cost
 
 -- the verdict t, with a cost of at least n; or the budget is spent
 pub data SameOrSpent (a : Asked) (t : Truth) (n : ℕ) : Type 0 where
-  same : (looks : ℕ) → n ≤ looks → a ≡ Verdict t looks → SameOrSpent a t n
+  same : (cost : ℕ) → n ≤ cost → a ≡ Verdict t cost → SameOrSpent a t n
   spent : a ≡ Refused budget-spent → SameOrSpent a t n
 
 -- Two sound instances with the same relations: the second has the rows of the first without one that equals an earlier row of its relation.
@@ -40,8 +40,8 @@ pub record Repeat (h h′ : Header) (ws ws′ : List ℕ) : Type 0 where
 -- A verdict of the first instance is also the second's, with the same question, candidate, buffer and budget. A verdict of the second is also the
 -- first's, if the buffer is long enough for the first and the budget suffices.
 pub record MeansOne (h h′ : Header) (ws ws′ qs candidate buffer : List ℕ) (budget : ℕ) (t : Truth) (n : ℕ) : Type 0 where
-  pub without : ask h ws qs candidate buffer budget ≡ Verdict t n → SameVerdict (ask h′ ws′ qs candidate buffer budget) t n
-  pub with-it :
+  pub to-second : ask h ws qs candidate buffer budget ≡ Verdict t n → SameVerdict (ask h′ ws′ qs candidate buffer budget) t n
+  pub to-first :
       ask h′ ws′ qs candidate buffer budget ≡ Verdict t n → length (cellsOf (rows h ws)) ≤ length buffer →
       SameOrSpent (ask h ws qs candidate buffer budget) t n
 

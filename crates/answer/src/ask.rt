@@ -8,7 +8,7 @@ ghost use Rattle.query.specs.Words.{nodeCount};
 ghost use Rattle.query.specs.Tree.{formulaOf};
 ghost use Rattle.evaluate.specs.Within.{within};
 ghost use Rattle.evaluate.specs.Ready.{Ready, world};
-ghost use Rattle.calculus.specs.Model.{asked as askedOf};
+ghost use Rattle.calculus.specs.Model.{outcomeOf as askedOf};
 ghost use Rattle.instance.specs.Run.{modelOf};
 ghost use Rattle.answer.specs.Ask.{ask as askOf, askedBuffer};
 ghost use Rattle.answer.specs.Numbers.{TellsVerdict};
@@ -72,17 +72,17 @@ fn evaluate_top(
 
 pub fn ask(
     header: Header,
-    plot: &[u32],
+    instance: &[u32],
     query: &[u32],
     candidate: &[u32],
     buffer: &mut [u32],
     budget: u32,
 ) -> Asked
-    ensures answer { λ r. ⌜ r ≡ askOf header (now (plot .entry)) (now (query .entry)) (now (candidate .entry)) (now (buffer .entry)) budget ⌝ }
-    ensures buffer { λ r. ⌜ now (buffer .exit) ≡ askedBuffer header (now (plot .entry)) (now (query .entry)) (now (candidate .entry)) (now (buffer .entry)) ⌝ }
-    ensures told { λ r. ⌜ TellsVerdict r (askOf header (now (plot .entry)) (now (query .entry)) (now (candidate .entry)) (now (buffer .entry)) budget) (askedOf (modelOf header (now (plot .entry)) (now (candidate .entry))) (formulaOf (header .arities) (now (query .entry)))) ⌝ }
+    ensures answer { λ r. ⌜ r ≡ askOf header (now (instance .entry)) (now (query .entry)) (now (candidate .entry)) (now (buffer .entry)) budget ⌝ }
+    ensures buffer { λ r. ⌜ now (buffer .exit) ≡ askedBuffer header (now (instance .entry)) (now (query .entry)) (now (candidate .entry)) (now (buffer .entry)) ⌝ }
+    ensures told { λ r. ⌜ TellsVerdict r (askOf header (now (instance .entry)) (now (query .entry)) (now (candidate .entry)) (now (buffer .entry)) budget) (askedOf (modelOf header (now (instance .entry)) (now (candidate .entry))) (formulaOf (header .arities) (now (query .entry)))) ⌝ }
 {
-    let Scanned::Rows(count) = scan(header, plot) else {
+    let Scanned::Rows(count) = scan(header, instance) else {
         return Asked::Refused(UNSOUND);
     };
     let relations = header.relations;
@@ -98,12 +98,12 @@ pub fn ask(
     if buffer.len() < used - count as usize {
         return Asked::Refused(BUFFER_TOO_SHORT);
     }
-    let n = list_values(&plot[..used], &arities, relations, buffer);
-    let counts = row_counts(&plot[..used], &arities, relations);
+    let n = list_values(&instance[..used], &arities, relations, buffer);
+    let counts = row_counts(&instance[..used], &arities, relations);
     match evaluate_top(
         relations,
         &arities,
-        &plot[..used],
+        &instance[..used],
         query,
         &counts,
         &buffer[..n],

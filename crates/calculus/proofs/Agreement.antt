@@ -17,7 +17,7 @@ use Rattle.calculus.specs.Domain.{domain}
 use Rattle.calculus.specs.Closed.{tuples, some, identical, stands, equality, closed}
 use Rattle.calculus.specs.TwoValued.{joinB, overB, says}
 use Rattle.calculus.specs.Order.{ofBool}
-use Rattle.calculus.proofs.Bools.{never, both, and-true}
+use Rattle.calculus.proofs.Bools.{false-not-true, and-parts, and-intro}
 use Rattle.calculus.proofs.Valuations.{under-keeps}
 use Rattle.calculus.proofs.Unification.{unifies-agrees}
 use Rattle.calculus.proofs.Tuples.{or-mono, identical-refl}
@@ -58,7 +58,7 @@ tuples-known r (row ∷ rs) h =
     go :
         (b : Bool) → allConstant (row .cells) ≡ true → all allConstant (tuples r rs) ≡ true →
         all allConstant (cond b (row .cells ∷ tuples r rs) (tuples r rs)) ≡ true
-    go true k ks = and-true k ks
+    go true k ks = and-intro k ks
     go false k ks = ks
 
 only-identical :
@@ -77,12 +77,12 @@ stands-bool row ts known each = go (some (identical row) ts) (some (unifies row)
   where
     go : (a b : Bool) → (b ≡ true → a ≡ true) → cond a True (cond b Unknown False) ≡ ofBool a
     go true b f = refl
-    go false true f = never (f refl)
+    go false true f = false-not-true (f refl)
     go false false f = refl
 
 pub equality-bool : (a b : ℕ) → isConstant a ≡ true → isConstant b ≡ true → equality a b ≡ ofBool (eqb a b)
 unfolding equality
-equality-bool a b p q = rw (and-true p q) (go (eqb a b))
+equality-bool a b p q = rw (and-intro p q) (go (eqb a b))
   where
     go : (t : Bool) → cond t True False ≡ ofBool t
     go true = refl
@@ -96,7 +96,7 @@ unfolding all
 over-bool conj f g [] k each = refl
 over-bool disj f g [] k each = refl
 over-bool j f g (c ∷ cs) k each =
-    let b = both (isConstant c) (allConstant cs) k in
+    let b = and-parts (isConstant c) (allConstant cs) k in
     ap (λ (t : Truth). join j t (over (unit j) j f cs .truth)) (each c (b .0)) ∙
     ap (λ (t : Truth). join j (ofBool (g c)) t) (over-bool j f g cs (b .1) each) ∙
     join-bool j (g c) (overB j g cs)
@@ -109,11 +109,11 @@ module _ (rs : List Row) (plain : allConstant (cellsOf rs) ≡ true) where
   unfolding eval says inked
   two-valued (atom r ts) k e known = stands-bool (values e ts) (tuples r rs) (constant-values e known ts k) (tuples-known r rs plain)
   two-valued (equal s t) k e known =
-      let b = both (termInked s) (termInked t) k in
+      let b = and-parts (termInked s) (termInked t) k in
       equality-bool (value e s) (value e t) (constant-value e known s (b .0)) (constant-value e known t (b .1))
   two-valued (negation f) k e known = ap negate (two-valued f k e known) ∙ negate-bool (says rs f e)
   two-valued (junction j f g) k e known =
-      let b = both (inked f) (inked g) k in
+      let b = and-parts (inked f) (inked g) k in
       ap (λ (t : Truth). join j t (eval (closed rs) g e .truth)) (two-valued f (b .0) e known) ∙
       ap (λ (t : Truth). join j (ofBool (says rs f e)) t) (two-valued g (b .1) e known) ∙
       join-bool j (says rs f e) (says rs g e)

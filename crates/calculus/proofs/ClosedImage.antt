@@ -16,7 +16,7 @@ use Rattle.calculus.specs.Formula.{Formula, inked}
 use Rattle.calculus.specs.Eval.{eval}
 use Rattle.calculus.specs.Domain.{distinct, domain}
 use Rattle.calculus.specs.Closed.{tuples, some, identical, stands, equality, closed}
-use Rattle.calculus.proofs.Bools.{never, both}
+use Rattle.calculus.proofs.Bools.{false-not-true, and-parts}
 use Rattle.calculus.specs.Order.{_⊑_, unknown, alike, _⊑ₒ_, Keeps}
 use Rattle.calculus.proofs.Image.{Image, eval-image}
 use Rattle.calculus.proofs.Rows.{cells-map}
@@ -58,10 +58,10 @@ module _ (h : ℕ → ℕ) (keeps : Keeps h) where
           (a b a′ b′ : Bool) → (a ≡ true → a′ ≡ true) → (b′ ≡ true → b ≡ true) → (a′ ≡ true → b′ ≡ true) →
           cond a True (cond b Unknown False) ⊑ cond a′ True (cond b′ Unknown False)
       go true b true b′ f g k = alike
-      go true b false b′ f g k = never (f refl)
+      go true b false b′ f g k = false-not-true (f refl)
       go false true a′ b′ f g k = unknown
-      go false false true b′ f g k = never (g (k refl))
-      go false false false true f g k = never (g refl)
+      go false false true b′ f g k = false-not-true (g (k refl))
+      go false false false true f g k = false-not-true (g refl)
       go false false false false f g k = alike
 
   pub equality-map : (a b : ℕ) → equality a b ⊑ equality (h a) (h b)
@@ -72,7 +72,7 @@ module _ (h : ℕ → ℕ) (keeps : Keeps h) where
           (p : Bool) → eqb a b ≡ p → (q : Bool) → (isConstant a && isConstant b) ≡ q →
           cond p True (cond q False Unknown) ⊑ equality (h a) (h b)
       go true e q k = rw (eq-eqb (h a) (h b) (ap h (eqb-true a b e))) alike
-      go false e true k = let c = both (isConstant a) (isConstant b) k in rw (keeps a (c .0), keeps b (c .1), e, k) alike
+      go false e true k = let c = and-parts (isConstant a) (isConstant b) k in rw (keeps a (c .0), keeps b (c .1), e, k) alike
       go false e false k = unknown
 
   -- the range of the mapped rows is the mapped range, each value once, at its first occurrence

@@ -7,7 +7,7 @@ use lib.Dec.{eqb}
 use Rattle.calculus.specs.Cell.{isConstant, allConstant}
 use Rattle.calculus.specs.Domain.{without, distinct}
 use Rattle.calculus.specs.Formula.{Term, const, var, value, values, termInked, termsInked}
-use Rattle.calculus.proofs.Bools.{both, and-true}
+use Rattle.calculus.proofs.Bools.{and-parts, and-intro}
 use Rattle.calculus.specs.Order.{Keeps}
 use Rattle.calculus.specs.All.{all}
 use Rattle.calculus.proofs.All.{all-getD}
@@ -16,26 +16,26 @@ pub constant-without : (x : ℕ) (cs : List ℕ) → allConstant cs ≡ true →
 unfolding all without
 constant-without x [] h = refl
 constant-without x (c ∷ cs) h =
-    let b = both (isConstant c) (allConstant cs) h in
+    let b = and-parts (isConstant c) (allConstant cs) h in
     go (eqb c x) (b .0) (constant-without x cs (b .1))
   where
     go : (p : Bool) → isConstant c ≡ true → allConstant (without x cs) ≡ true → allConstant (cond p (without x cs) (c ∷ without x cs)) ≡ true
     go true k r = r
-    go false k r = and-true k r
+    go false k r = and-intro k r
 
 pub constant-distinct : (cs : List ℕ) → allConstant cs ≡ true → allConstant (distinct cs) ≡ true
 unfolding all distinct
 constant-distinct [] h = refl
 constant-distinct (c ∷ cs) h =
-    let b = both (isConstant c) (allConstant cs) h in
-    and-true (b .0) (constant-without c (distinct cs) (constant-distinct cs (b .1)))
+    let b = and-parts (isConstant c) (allConstant cs) h in
+    and-intro (b .0) (constant-without c (distinct cs) (constant-distinct cs (b .1)))
 
 -- a map that leaves constants as they are leaves a list of them as it is
 pub keeps-all : (h : ℕ → ℕ) → Keeps h → (cs : List ℕ) → allConstant cs ≡ true → map h cs ≡ cs
 unfolding all
 keeps-all h keeps [] k = refl
 keeps-all h keeps (c ∷ cs) k =
-    let b = both (isConstant c) (allConstant cs) k in
+    let b = and-parts (isConstant c) (allConstant cs) k in
     rw (keeps c (b .0), keeps-all h keeps cs (b .1)) refl
 
 module _ (e : List ℕ) (known : allConstant e ≡ true) where
@@ -47,5 +47,5 @@ module _ (e : List ℕ) (known : allConstant e ≡ true) where
   unfolding all
   constant-values [] k = refl
   constant-values (t ∷ ts) k =
-      let b = both (termInked t) (termsInked ts) k in
-      and-true (constant-value t (b .0)) (constant-values ts (b .1))
+      let b = and-parts (termInked t) (termsInked ts) k in
+      and-intro (constant-value t (b .0)) (constant-values ts (b .1))

@@ -8,44 +8,44 @@ use borrow.Author.Tests.{eq-eqb, ne-eqb}
 use lib.ListN.{length, getD, drop}
 use lib.Dec.{eqb}
 use Rattle.calculus.specs.Fill.{countOf}
-use Rattle.calculus.proofs.Lists.{rest}
+use Rattle.calculus.proofs.Lists.{drop-step}
 
 module _ (x : ℕ) where
   module _ (y : ℕ) (ys : List ℕ) where
-    pub count-here : y ≡ x → countOf x (y ∷ ys) ≡ suc (countOf x ys)
+    pub countOf-here : y ≡ x → countOf x (y ∷ ys) ≡ suc (countOf x ys)
     unfolding countOf
-    count-here e = simp (eq-eqb y x e)
+    countOf-here e = simp (eq-eqb y x e)
 
-    pub count-other : (y ≡ x → ⊥) → countOf x (y ∷ ys) ≡ countOf x ys
+    pub countOf-other : (y ≡ x → ⊥) → countOf x (y ∷ ys) ≡ countOf x ys
     unfolding countOf
-    count-other ne = simp (ne-eqb y x ne)
+    countOf-other ne = simp (ne-eqb y x ne)
 
     -- one more element
-    pub count-cons : countOf x (y ∷ ys) ≡ countOf x (y ∷ []) + countOf x ys
+    pub countOf-cons : countOf x (y ∷ ys) ≡ countOf x (y ∷ []) + countOf x ys
     unfolding countOf
-    count-cons = go (eqb y x)
+    countOf-cons = go (eqb y x)
       where
         go : (b : Bool) → cond b (suc (countOf x ys)) (countOf x ys) ≡ cond b 1 0 + countOf x ys
         go true = omega arith
         go false = omega arith
 
-  pub count-le : (xs : List ℕ) → countOf x xs ≤ length xs
+  pub countOf-le : (xs : List ℕ) → countOf x xs ≤ length xs
   unfolding countOf
-  count-le [] = omega arith
-  count-le (y ∷ ys) = go (eqb y x) (count-le ys)
+  countOf-le [] = omega arith
+  countOf-le (y ∷ ys) = go (eqb y x) (countOf-le ys)
     where
       go : (b : Bool) → countOf x ys ≤ length ys → cond b (suc (countOf x ys)) (countOf x ys) ≤ suc (length ys)
       go true l = omega arith
       go false l = omega arith
 
-  pub count-append : (xs ys : List ℕ) → countOf x (xs ++ ys) ≡ countOf x xs + countOf x ys
+  pub countOf-append : (xs ys : List ℕ) → countOf x (xs ++ ys) ≡ countOf x xs + countOf x ys
   unfolding countOf
-  count-append [] ys = omega arith
-  count-append (y ∷ xs) ys = omega (arith, count-cons y (xs ++ ys), count-cons y xs, count-append xs ys)
+  countOf-append [] ys = omega arith
+  countOf-append (y ∷ xs) ys = omega (arith, countOf-cons y (xs ++ ys), countOf-cons y xs, countOf-append xs ys)
 
   -- the count from index i, by the element there
-  pub count-rest :
+  pub countOf-drop-step :
       (xs : List ℕ) (i : ℕ) → i < length xs →
       countOf x (drop i xs) ≡ cond (eqb (getD xs i 0) x) (suc (countOf x (drop (i + 1) xs))) (countOf x (drop (i + 1) xs))
   unfolding countOf
-  count-rest xs i l = rw (rest xs i l)
+  countOf-drop-step xs i l = rw (drop-step xs i l)

@@ -17,9 +17,9 @@ use Rattle.calculus.specs.Eval.{eval}
 use Rattle.calculus.specs.Closed.{closed}
 use Rattle.calculus.specs.Order.{_⊑ₒ_, Keeps}
 use Rattle.calculus.specs.Fill.{substitute}
-use Rattle.calculus.specs.Model.{Fill, Model, asked, answerOf, next, run, afterFills}
+use Rattle.calculus.specs.Model.{Fill, Model, outcomeOf, answerOf, next, run, afterFills}
 use Rattle.calculus.proofs.Answers.{demand-done}
-use Rattle.calculus.proofs.Bools.{both}
+use Rattle.calculus.proofs.Bools.{and-parts}
 use Rattle.calculus.proofs.Cells.{put-other, put-cell}
 use Rattle.calculus.proofs.ClosedImage.{closed-kept}
 use Rattle.calculus.proofs.Lists.{map-none}
@@ -46,10 +46,10 @@ pub record Mapped (b b′ : Model) : Type 0 where
   pub rows : b′ .rows ≡ map (mapRow by) (b .rows)
   pub candidate : b′ .candidate ≡ map by (b .candidate)
 
-pub mapped-kept : {b b′ : Model} → Mapped b b′ → (f : Formula) → inked f ≡ true → asked b f ⊑ₒ asked b′ f
+pub mapped-kept : {b b′ : Model} → Mapped b b′ → (f : Formula) → inked f ≡ true → outcomeOf b f ⊑ₒ outcomeOf b′ f
 mapped-kept {b} {b′} m f k =
     rw (m .rows, m .candidate)
-    (subst (λ (e : List ℕ). asked b f ⊑ₒ eval (closed (map (mapRow (m .by)) (b .rows))) f e) (assignment-map (m .by) (m .keeps) (b .candidate))
+    (subst (λ (e : List ℕ). outcomeOf b f ⊑ₒ eval (closed (map (mapRow (m .by)) (b .rows))) f e) (assignment-map (m .by) (m .keeps) (b .candidate))
     (closed-kept (m .by) (m .keeps) f k (b .rows) (assignment (b .candidate))))
 
 rows-none : (rs : List Row) → map (mapRow (λ c. c)) rs ≡ rs
@@ -82,7 +82,7 @@ mapped-twice {a} {b} {c} m n = record {
 
 pub put-keeps : (m c : ℕ) → isMark m ≡ true → Keeps (put m c)
 put-keeps m c mark x k =
-    let b = both _ _ mark in
+    let b = and-parts _ _ mark in
     put-other m c x (λ e. omega (arith, ltb-true x constants k, leb-true 1 m (b .0)))
 
 pub mapped-next : (f : Fill) (b : Model) → Mapped b (next f b)
@@ -110,9 +110,9 @@ mapped-run [] b = mapped-none b
 mapped-run (f ∷ fs) b = mapped-twice (mapped-next f b) (mapped-run fs (next f b))
 
 -- one fill, refused or not, unsettles no verdict and raises no cost
-pub fill-kept : (f : Fill) (b : Model) (g : Formula) → inked g ≡ true → asked b g ⊑ₒ asked (next f b) g
+pub fill-kept : (f : Fill) (b : Model) (g : Formula) → inked g ≡ true → outcomeOf b g ⊑ₒ outcomeOf (next f b) g
 fill-kept f b = mapped-kept (mapped-next f b)
 
 -- the same for the whole list, refused fills included
-pub fills-kept : (fs : List Fill) (b : Model) (g : Formula) → inked g ≡ true → asked b g ⊑ₒ asked (run fs b) g
+pub fills-kept : (fs : List Fill) (b : Model) (g : Formula) → inked g ≡ true → outcomeOf b g ⊑ₒ outcomeOf (run fs b) g
 fills-kept fs b = mapped-kept (mapped-run fs b)

@@ -5,11 +5,11 @@ use mathlib.Core.Bool.{Bool, true, false, _||_}
 use mathlib.Core.List.{List, [], _∷_, _++_}
 use lib.Dec.{eqb}
 use Rattle.calculus.specs.Listed.{listed}
-use Rattle.calculus.proofs.Bools.{never}
+use Rattle.calculus.proofs.Bools.{false-not-true}
 
 pub listed-left : (x : ℕ) (xs ys : List ℕ) → listed x xs ≡ true → listed x (xs ++ ys) ≡ true
 unfolding listed
-listed-left x [] ys e = never e
+listed-left x [] ys e = false-not-true e
 listed-left x (z ∷ xs) ys e = go (eqb z x) e (listed-left x xs ys)
   where
     go : (b : Bool) → (b || listed x xs) ≡ true → (listed x xs ≡ true → listed x (xs ++ ys) ≡ true) → (b || listed x (xs ++ ys)) ≡ true

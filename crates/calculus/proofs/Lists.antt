@@ -7,8 +7,8 @@ use lib.ListN.{length, getD, drop, set}
 use lib.Seq.{drop-cons}
 
 -- a list from index i is its element there and the list from the next index
-pub rest : (xs : List ℕ) (i : ℕ) → i < length xs → drop i xs ≡ getD xs i 0 ∷ drop (i + 1) xs
-rest xs i h = rw (add-one, drop-cons xs i 0)
+pub drop-step : (xs : List ℕ) (i : ℕ) → i < length xs → drop i xs ≡ getD xs i 0 ∷ drop (i + 1) xs
+drop-step xs i h = rw (add-one, drop-cons xs i 0)
 
 pub map-set : (h : ℕ → ℕ) (e : List ℕ) (v c : ℕ) → map h (set e v c) ≡ set (map h e) v (h c)
 map-set h [] v c = refl

@@ -9,10 +9,10 @@ use lib.Dec.{eqb, eqb→eq, T}
 use Rattle.calculus.specs.declared.truth.Truth.{Truth}
 use Rattle.calculus.specs.declared.truth.Truth.the-variants.{False, Unknown, True}
 use Rattle.calculus.specs.Kleene.{Junction, conj, disj, join}
-use Rattle.calculus.specs.Eval.{Outcome, settles, asked, joined, over}
+use Rattle.calculus.specs.Eval.{Outcome, settles, rightCost, joined, over}
 use Rattle.calculus.specs.Domain.{without, distinct}
 use Rattle.calculus.specs.Order.{_⊑_, unknown, alike, _⊑ₒ_}
-use Rattle.calculus.proofs.Bools.{never}
+use Rattle.calculus.proofs.Bools.{false-not-true}
 use Rattle.calculus.proofs.Kleene.{⊑-trans, join-mono, join-idem, join-swap}
 
 pub ⊑ₒ-refl : (o : Outcome) → o ⊑ₒ o
@@ -26,15 +26,15 @@ pub settled : (j : Junction) (a t : Truth) → settles j a ≡ true → join j a
 settled conj False False e = refl
 settled conj False Unknown e = refl
 settled conj False True e = refl
-settled conj Unknown t e = never e
-settled conj True t e = never e
+settled conj Unknown t e = false-not-true e
+settled conj True t e = false-not-true e
 settled disj True False e = refl
 settled disj True Unknown e = refl
 settled disj True True e = refl
-settled disj Unknown t e = never e
-settled disj False t e = never e
+settled disj Unknown t e = false-not-true e
+settled disj False t e = false-not-true e
 
-asked-le : (j : Junction) (t : Truth) (n : ℕ) → asked j t n ≤ n
+asked-le : (j : Junction) (t : Truth) (n : ℕ) → rightCost j t n ≤ n
 asked-le conj False n = omega arith
 asked-le conj Unknown n = le-refl n
 asked-le conj True n = le-refl n
@@ -42,7 +42,7 @@ asked-le disj False n = le-refl n
 asked-le disj Unknown n = le-refl n
 asked-le disj True n = omega arith
 
-asked-unknown : (j : Junction) (n : ℕ) → n ≤ asked j Unknown n
+asked-unknown : (j : Junction) (n : ℕ) → n ≤ rightCost j Unknown n
 asked-unknown conj n = le-refl n
 asked-unknown disj n = le-refl n
 
@@ -51,7 +51,7 @@ when-mono : (b : Bool) {m n : ℕ} → m ≤ n → cond b 0 m ≤ cond b 0 n
 when-mono true h = le-refl 0
 when-mono false h = h
 
-asked-mono : (j : Junction) {t u : Truth} {m n : ℕ} → t ⊑ u → m ≤ n → asked j u m ≤ asked j t n
+asked-mono : (j : Junction) {t u : Truth} {m n : ℕ} → t ⊑ u → m ≤ n → rightCost j u m ≤ rightCost j t n
 asked-mono j {t} {u} {m} {n} unknown h = le-trans (asked-le j u m) (le-trans h (asked-unknown j n))
 asked-mono j {t} alike h = when-mono (settles j t) h
 
@@ -78,7 +78,7 @@ when-under false d a m n h = add-le-add (le-refl a) (when-mono d h)
 module _ (s : Truth) (j : Junction) (f : ℕ → Outcome) where
   record Again (t : Truth) (p q : Outcome) : Type 0 where
     says : join j t (q .truth) ≡ join j t (p .truth)
-    pays : asked j t (q .cost) ≤ asked j t (p .cost)
+    pays : rightCost j t (q .cost) ≤ rightCost j t (p .cost)
 
   again-keep :
       (x c : ℕ) (b : Bool) → (T b → c ≡ x) → (cs rest : List ℕ) →

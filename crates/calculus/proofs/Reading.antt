@@ -5,7 +5,7 @@ use mathlib.Core.Bool.{Bool, true, false}
 use Rattle.calculus.specs.Demand.{demand}
 use Rattle.calculus.specs.Reading.{Reading, read, refused, andThen, refusedIn}
 use Rattle.calculus.proofs.Bools.{zero-not-one}
-use Rattle.calculus.proofs.Demand.{met}
+use Rattle.calculus.proofs.Demand.{demand-met}
 use mathlib.Core.List.{List}
 use Rattle.calculus.specs.Listed.{listed}
 
@@ -13,7 +13,7 @@ pub refused-read : {X S A : Type 0} {r : ℕ} {a : A} {s : S} → refused r ≡ 
 refused-read e = let z : _≡_ {A = ℕ} 0 1 = cc in absurd (zero-not-one z)
 
 pub demand-read : {S A : Type 0} (b : Bool) (r : ℕ) (p : Reading S A) {a : A} {s : S} → demand b (refused r) p ≡ read a s → (b ≡ true) × (p ≡ read a s)
-demand-read b r p e = met b e (λ q. refused-read q)
+demand-read b r p e = demand-met b e (λ q. refused-read q)
 
 -- what was read between two steps, and the state there
 pub record Between {S A B : Type 0} (p : Reading S A) (next : A → S → Reading S B) (b : B) (end : S) : Type 0 where

@@ -26,12 +26,12 @@ pub record Written (whole rest out₀ out : List ℕ) (at : ℕ) : Type 0 where
   pub same : length out ≡ length out₀
   pub room : at + length rest ≤ length out₀
 
-pub begin : (whole out₀ : List ℕ) → length whole ≤ length out₀ → Written whole whole out₀ out₀ 0
-begin whole out₀ l = record { front = refl; back = refl; same = refl; room = omega arith }
+pub written-begin : (whole out₀ : List ℕ) → length whole ≤ length out₀ → Written whole whole out₀ out₀ 0
+written-begin whole out₀ l = record { front = refl; back = refl; same = refl; room = omega arith }
 
 module _ {whole out₀ out : List ℕ} {at : ℕ} where
-  pub store : {v : ℕ} {rest : List ℕ} (next : ℕ) → next ≡ at + 1 → Written whole (v ∷ rest) out₀ out at → Written whole rest out₀ (set out at v) next
-  store {v} {rest} next e w =
+  pub written-store : {v : ℕ} {rest : List ℕ} (next : ℕ) → next ≡ at + 1 → Written whole (v ∷ rest) out₀ out at → Written whole rest out₀ (set out at v) next
+  written-store {v} {rest} next e w =
       let l : at < length out = omega arith in
       rw (e, add-one) record {
         front = rw take-suc-set (append-snoc (take at out) v rest ∙ w .front);
@@ -41,9 +41,9 @@ module _ {whole out₀ out : List ℕ} {at : ℕ} where
       }
 
   -- a list, written into the part from `at` to the end
-  pub store-part : (xs : List ℕ) {rest : List ℕ} → Written whole (xs ++ rest) out₀ out at
+  pub written-part : (xs : List ℕ) {rest : List ℕ} → Written whole (xs ++ rest) out₀ out at
       → Written whole rest out₀ (take at out ++ overwrite xs (drop at out)) (at + length xs)
-  store-part xs {rest} w =
+  written-part xs {rest} w =
       let room = rw length-append at (w .room) in
       let so-far : length (take at out) ≡ at = length-take-le at out (omega (arith, w .same)) in
       let long : length (take at out ++ xs) ≡ at + length xs = rw (length-append, so-far) in
@@ -56,11 +56,11 @@ module _ {whole out₀ out : List ℕ} {at : ℕ} where
       }
 
   -- the same with the current content as the old one
-  pub anew : {rest : List ℕ} → Written whole rest out₀ out at → Written whole rest out out at
-  anew w = record { front = w .front; back = refl; same = refl; room = omega arith }
+  pub written-anew : {rest : List ℕ} → Written whole rest out₀ out at → Written whole rest out out at
+  written-anew w = record { front = w .front; back = refl; same = refl; room = omega arith }
 
-  pub finish : Written whole [] out₀ out at → out ≡ overwrite whole out₀
-  finish w =
+  pub written-finish : Written whole [] out₀ out at → out ≡ overwrite whole out₀
+  written-finish w =
       let front : take at out ≡ whole = sym (append-nil (take at out)) ∙ w .front in
       let long : length whole ≡ at = ap length (sym front) ∙ length-take-le at out (omega arith) in
       rw (long, ← w .back, ← front) (sym (take-append-drop at out))

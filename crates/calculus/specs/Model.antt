@@ -27,8 +27,8 @@ pub record Model : Type 0 where
   pub candidate : List ℕ
 
 -- a question asked of the model, by the three-valued rules and by two-valued logic
-abbrev pub asked : Model → Formula → Outcome
-asked b f = eval (closed (b .rows)) f (assignment (b .candidate))
+abbrev pub outcomeOf : Model → Formula → Outcome
+outcomeOf b f = eval (closed (b .rows)) f (assignment (b .candidate))
 
 abbrev pub saysYes : Model → Formula → Bool
 saysYes b f = says (b .rows) f (assignment (b .candidate))
@@ -67,5 +67,5 @@ valued v b = record { rows = map (mapRow (under v)) (b .rows); candidate = map (
 -- answers are at most those that A answered. If B's plot and candidate hold no mark, B's verdict is true exactly when ordinary two-valued
 -- logic .. says yes, and false exactly when it says no."
 pub record Shared (fs : List Fill) (b : Model) (f : Formula) : Type 0 where
-  pub kept : asked b f ⊑ₒ asked (run fs b) f
-  pub two-valued : plain (run fs b) ≡ true → asked (run fs b) f .truth ≡ ofBool (saysYes (run fs b) f)
+  pub kept : outcomeOf b f ⊑ₒ outcomeOf (run fs b) f
+  pub two-valued : plain (run fs b) ≡ true → outcomeOf (run fs b) f .truth ≡ ofBool (saysYes (run fs b) f)

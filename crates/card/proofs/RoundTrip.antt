@@ -16,9 +16,9 @@ use Rattle.calculus.specs.Refusal.{unsound, output-too-short}
 use Rattle.calculus.specs.Row.{Row}
 use Rattle.calculus.proofs.Answers.{demand-done}
 use Rattle.instance.specs.declared.header.Header.{Header}
-use Rattle.instance.specs.Header.{headerStands, maxRelations, maxWords}
+use Rattle.instance.specs.Header.{headerWellFormed, maxRelations, maxWords}
 use Rattle.instance.specs.Blanks.{highest}
-use Rattle.instance.specs.Rows.{rowsStand, wordsOf}
+use Rattle.instance.specs.Rows.{rowsWellFormed, wordsOf}
 use Rattle.instance.specs.Sound.{sound, rows, headerFor}
 use Rattle.instance.proofs.Blanks.{fullRecord, no-blanks, numbered-rows, highest-full}
 use Rattle.instance.proofs.Sound.{sound-gives}
@@ -42,14 +42,14 @@ fullCard h rs = record {
   records = map fullRecord rs;
 }
 
-module _ (h : Header) (rs : List Row) (stands : headerStands (h .relations) (h .arities) ≡ true) (eight : length (h .arities) ≡ maxRelations)
-    (ss : rowsStand (h .relations) (h .arities) rs ≡ true) (fits : length (wordsOf rs) ≤ maxWords) where
+module _ (h : Header) (rs : List Row) (well-formed : headerWellFormed (h .relations) (h .arities) ≡ true) (eight : length (h .arities) ≡ maxRelations)
+    (ss : rowsWellFormed (h .relations) (h .arities) rs ≡ true) (fits : length (wordsOf rs) ≤ maxWords) where
   pub read-card : readCard (cardBytes h rs) ≡ read (fullCard h rs) []
   unfolding readCard cardBytes
   read-card =
       let few : length rs < 256 ^ 2 = omega (arith, rows-at-most rs) in
       let each = rw append-nil at (read-records (h .relations) (h .arities) rs [] ss) in
-      rw (read-head h (length rs) (recordsBytes rs) stands eight few, each)
+      rw (read-head h (length rs) (recordsBytes rs) well-formed eight few, each)
 
   pub decode-rows : (slice : List ℕ) → length (wordsOf rs) ≤ length slice
       → decoded (cardBytes h rs) slice ≡ record {
@@ -75,7 +75,7 @@ decode-encode h ws slice e eight room =
     let s = sound-gives h ws e in
     let size : length (wordsOf (rows h ws)) ≡ h .used = ap length (s .words) ∙ s .in-use in
     let few : h .used ≤ maxWords = s .few in
-    let whole = decode-rows h (rows h ws) (s .standing .header) eight (s .rows-stand) (omega arith) slice (omega arith) in
+    let whole = decode-rows h (rows h ws) (s .well-formed .header) eight (s .rows-well-formed) (omega arith) slice (omega arith) in
     rw (s .header, size, s .words) at whole
 
 -- if encode is accepted, the instance is sound and the card has n bytes

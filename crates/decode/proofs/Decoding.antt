@@ -15,9 +15,9 @@ use Rattle.calculus.specs.Cell.{nulls}
 use Rattle.calculus.specs.Overwrite.{overwrite}
 use Rattle.calculus.specs.Reading.{read, refused, andThen}
 use Rattle.calculus.specs.Refusal.{bytes-left-over, nulls-exhausted, no-room}
-use Rattle.calculus.proofs.Bools.{both, zero-not-one}
+use Rattle.calculus.proofs.Bools.{and-parts, zero-not-one}
 use Rattle.instance.specs.declared.header.Header.{Header}
-use Rattle.instance.specs.Header.{aritiesStand, maxColumns, maxWords, headerWith}
+use Rattle.instance.specs.Header.{aritiesWellFormed, maxColumns, maxWords, headerWith}
 use Rattle.instance.specs.Blanks.{Record, blanksIn, blanks, highest, highestIn, numbered, numberedRows}
 use Rattle.instance.specs.Room.{hasRoom}
 use Rattle.instance.specs.Rows.{wordsOf}
@@ -55,14 +55,14 @@ records-none : (bs : List ℕ) → RecordsRead 0 bs [] bs
 unfolding highest blanks
 records-none bs = record { shorter = omega arith; low = omega arith; few = omega arith }
 
-module _ (n : ℕ) (ars : List ℕ) (stand : aritiesStand n ars ≡ true) where
+module _ (n : ℕ) (ars : List ℕ) (arities-well-formed : aritiesWellFormed n ars ≡ true) where
   one-more : (k : ℕ) (bs : List ℕ) (r : Record) (between : List ℕ) (rs : List Record) (rest : List ℕ) → readRecord n ars bs ≡ read r between
       → RecordsRead k between rs rest → RecordsRead (suc k) bs (r ∷ rs) rest
   unfolding highest blanks
   one-more k bs r between rs rest e s =
       let q = record-read n ars bs e in
       let shorter : length between ≡ length bs - (2 + 3 * ones (getD bs 1 0)) = ap length (q .after) ∙ length-drop (2 + 3 * ones (getD bs 1 0)) bs in
-      let narrow : blanksIn (r .fields) ≤ maxColumns = omega (arith, written-or-blank (r .fields), q .columns, arity-low n ars (getD bs 0 0) stand) in
+      let narrow : blanksIn (r .fields) ≤ maxColumns = omega (arith, written-or-blank (r .fields), q .columns, arity-low n ars (getD bs 0 0) arities-well-formed) in
       let low : highestIn (r .fields) ≤ nulls = q .low in
       record { shorter = omega (arith, s .shorter); low = omega (arith, s .low); few = omega (arith, s .few) }
 
@@ -127,7 +127,7 @@ module _ (card slice : List ℕ) where
           was-read = e;
           whole = rw (h .was-read, e);
           total-is = cc;
-          known = records-read n ars (h .stand) count (drop (n + 3) card) e;
+          known = records-read n ars (h .arities-well-formed) count (drop (n + 3) card) e;
         }
         go (refused r) e a = let z : _≡_ {A = ℕ} 0 1 = cc in absurd (zero-not-one z)
 
@@ -179,10 +179,10 @@ module _ (card slice : List ℕ) where
       pub may-write : t .highest + t .blanks ≤ nulls → hasRoom (t .words) (length slice) ≡ true → WriteRows slice card n ars count (t .highest + 1)
       may-write m r =
           let fits : t .words ≤ length slice =
-          leb-true (t .words) (length slice) (both (leb (t .words) maxWords) (leb (t .words) (length slice)) r .1) in
+          leb-true (t .words) (length slice) (and-parts (leb (t .words) maxWords) (leb (t .words) (length slice)) r .1) in
           record {
             few = h .few;
-            narrow = λ x known. arity-low n ars x (h .stand);
+            narrow = λ x known. arity-low n ars x (h .arities-well-formed);
             reads = rw (c .was-read);
             free = rw (c .was-read) (omega (arith, sum-is, next-is));
             room = rw (c .was-read) (omega (arith, size (t .highest + 1)));

@@ -7,7 +7,7 @@ use native.Mathlib.Omega.{arith}
 use lib.ListN.{length, drop, getD, length-drop}
 use lib.Seq.{drop-drop}
 use Rattle.instance.specs.Blanks.{blanks, highest}
-use Rattle.instance.specs.Header.{aritiesStand, maxColumns}
+use Rattle.instance.specs.Header.{aritiesWellFormed, maxColumns}
 use Rattle.parse.specs.Parse.{readEach}
 use Rattle.decode.specs.declared.measure.Measured.the-variants as measured
 use Rattle.decode.specs.declared.measure.Needed.the-variants as needed
@@ -63,13 +63,13 @@ module _ (card : List ℕ) (start n : ℕ) (ars : List ℕ) (count : ℕ) where
       then = record { within = in-card; fewer = omega arith; few-words = omega arith; few-blanks = omega arith; sum = sum };
     }
 
-    pub next-turn : (arity written h : ℕ) → aritiesStand n ars ≡ true
+    pub next-turn : (arity written h : ℕ) → aritiesWellFormed n ars ≡ true
         → measuredRecord (readRecord n ars (drop at card)) ≡ measured.Record arity written h
         → Turn words blank top at left arity written h
-    next-turn arity written h stand e =
+    next-turn arity written h arities-well-formed e =
         let s = step n ars (drop at card) arity written h e in
         let low : arity ≤ maxColumns =
-        omega (arith, s .arity-is, record-read n ars (drop at card) (s .was-read) .columns, arity-low n ars (getD (drop at card) 0 0) stand) in
+        omega (arith, s .arity-is, record-read n ars (drop at card) (s .was-read) .columns, arity-low n ars (getD (drop at card) 0 0) arities-well-formed) in
         let long : 2 + 3 * written ≤ length card - at = rw (length-drop at card) at (s .long) in
         let fewer : written ≤ arity = s .fewer in
         let rest = measuredRecords (length card) (readRecords n ars (left - 1) (drop (at + (2 + 3 * written)) card)) in

@@ -12,9 +12,9 @@ use Rattle.calculus.specs.declared.answer.Answer.the-variants.{Done, Refused}
 use Rattle.calculus.specs.Padded.{padded}
 use Rattle.calculus.specs.Reading.{read, refused, andThen}
 use Rattle.calculus.specs.Refusal.{cut-short, bad-relation-count, bad-arity}
-use Rattle.calculus.proofs.Bools.{both, zero-not-one}
+use Rattle.calculus.proofs.Bools.{and-parts, zero-not-one}
 use Rattle.calculus.proofs.Padded.{padded-more}
-use Rattle.instance.specs.Header.{isArity, aritiesStand, maxRelations}
+use Rattle.instance.specs.Header.{isArity, aritiesWellFormed, maxRelations}
 use Rattle.parse.specs.Parse.{Parsed, readEach}
 use Rattle.parse.specs.Number.{readNumber}
 use Rattle.parse.proofs.Bytes.{byte-at, byte-cut}
@@ -148,7 +148,7 @@ module _ (card : List ℕ) (n : ℕ) (some : 1 ≤ length card) (is : n ≡ getD
 pub record Opened (card : List ℕ) (n : ℕ) (ars : List ℕ) (count : ℕ) : Type 0 where
   pub was-read : readHead card ≡ read (record { relations = n; arities = ars; count = count }) (drop (n + 3) card)
   pub few : n ≤ maxRelations
-  pub stand : aritiesStand n ars ≡ true
+  pub arities-well-formed : aritiesWellFormed n ars ≡ true
   pub long : n + 3 ≤ length card
 
 -- the same for an answer that is known to be the head's
@@ -171,8 +171,8 @@ head-opened card r k e a = rw e (go (readHead card) refl (rw e at a))
         let size : length (c .between) ≡ length (c .body) - n = ap length (c .arities-read .after) ∙ length-drop n (c .body) in
         record {
           was-read = e ∙ rw (last, count);
-          few = leb-true n maxRelations (both (leb 1 n) (leb n maxRelations) (c .counted) .1);
-          stand = rw (c .arities-are) (c .arities-read .stand (maxRelations - length (c .ars)));
+          few = leb-true n maxRelations (and-parts (leb 1 n) (leb n maxRelations) (c .counted) .1);
+          arities-well-formed = rw (c .arities-are) (c .arities-read .arities-well-formed (maxRelations - length (c .ars)));
           long = omega (arith, t .0, c .arities-read .long, ap length (c .bytes));
         }
     go (refused why) e a = let z : _≡_ {A = ℕ} 0 1 = cc in absurd (zero-not-one z)

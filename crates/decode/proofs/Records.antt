@@ -20,7 +20,7 @@ use Rattle.instance.specs.Blanks.{Field, Record, blanksIn, highestIn, blanks, h
 use Rattle.parse.specs.Parse.{Parsed, readEach}
 use Rattle.parse.proofs.Bytes.{byte-at, byte-cut}
 use Rattle.card.specs.Format.{readFields, readRecord, readRecords}
-use Rattle.card.proofs.Parts.{fields-stand, record-read as parts}
+use Rattle.card.proofs.Parts.{fields-well-formed, record-read as parts}
 use Rattle.decode.specs.declared.measure.Measured.{Measured}
 use Rattle.decode.specs.declared.measure.Measured.the-variants as measured
 use Rattle.decode.specs.declared.measure.Needed.{Needed}
@@ -36,7 +36,7 @@ record FieldsRead (columns bits : ℕ) (bs : List ℕ) (fs : List Field) (rest :
 fields-read : (a bits : ℕ) (bs : List ℕ) {fs : List Field} {rest : List ℕ} → bits < 2 ^ a → readFields a bits bs ≡ read fs rest
     → FieldsRead a bits bs fs rest
 fields-read a bits bs h e = record {
-  columns-are = fields-stand a bits bs e .0;
+  columns-are = fields-well-formed a bits bs e .0;
   were = written-read (ones bits) bs (sym (fields-written a bits bs h) ∙ ap onlyWritten e);
 }
 

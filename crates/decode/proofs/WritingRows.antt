@@ -10,7 +10,7 @@ use lib.ListN.{length, getD, take, drop, length-append, length-drop}
 use lib.Seq.{drop-drop, getD-drop}
 use Rattle.calculus.specs.Cell.{nulls}
 use Rattle.calculus.specs.Overwrite.{overwrite}
-use Rattle.calculus.proofs.Stores.{Written, begin, store-part, finish}
+use Rattle.calculus.proofs.Stores.{Written, written-begin, written-part, written-finish}
 use Rattle.instance.specs.Header.{arityOf}
 use Rattle.instance.specs.Blanks.{Field, Record, blanks, blanksIn, numbered, numberedRows}
 use Rattle.instance.specs.Rows.{wordsOf}
@@ -72,25 +72,25 @@ module _ (start card : List ℕ) (n : ℕ) (ars : List ℕ) (count next : ℕ) w
   abbrev whole : List ℕ
   whole = wordsRead n ars count next (drop (n + 3) card)
 
-  pub record WritingRows (plot : List ℕ) (used free at left : ℕ) : Type 0 where
+  pub record WritingRows (instance : List ℕ) (used free at left : ℕ) : Type 0 where
     pub reads : isRead (readRecords n ars left (drop at card)) ≡ true
     pub low : free + blanks (got [] (readRecords n ars left (drop at card))) ≤ nulls + 1
-    pub stored : Written whole (wordsRead n ars left free (drop at card)) start plot used
+    pub stored : Written whole (wordsRead n ars left free (drop at card)) start instance used
 
   -- what an iteration finds at its record; k records are left after it
-  pub record Found (plot : List ℕ) (used free at k b map a : ℕ) : Type 0 where
+  pub record Found (instance : List ℕ) (used free at k b map a : ℕ) : Type 0 where
     pub known : b < n
     pub in-card : at + 2 + 3 * ones map ≤ length card
     pub fewer : ones map ≤ a
     pub fields : allRead a map (drop (at + 2) card)
     pub low : free + (a - ones map) ≤ nulls + 1
-    pub room : used + (1 + a) ≤ length plot
-    -- the row is written to the part of `plot` from index `used`
+    pub room : used + (1 + a) ≤ length instance
+    -- the row is written to the part of `instance` from index `used`
     pub next-rows :
-        (part : List ℕ) → part ≡ overwrite (b ∷ cellsRead free a map (drop (at + 2) card)) (drop used plot) →
-        WritingRows (take used plot ++ part) (used + (1 + a)) (free + (a - ones map)) (at + 2 + 3 * ones map) k
+        (part : List ℕ) → part ≡ overwrite (b ∷ cellsRead free a map (drop (at + 2) card)) (drop used instance) →
+        WritingRows (take used instance ++ part) (used + (1 + a)) (free + (a - ones map)) (at + 2 + 3 * ones map) k
 
-  module _ (plot : List ℕ) (used free at k b map a : ℕ) (w : WritingRows plot used free at (suc k)) (t : Turn n ars k free (drop at card) b map a) where
+  module _ (instance : List ℕ) (used free at k b map a : ℕ) (w : WritingRows instance used free at (suc k)) (t : Turn n ars k free (drop at card) b map a) where
     row : List ℕ
     row = b ∷ cellsRead free a map (drop (at + 2) card)
 
@@ -108,11 +108,11 @@ module _ (start card : List ℕ) (n : ℕ) (ars : List ℕ) (count next : ℕ) w
     others = wordsRead n ars k (free + (a - ones map)) (drop (at + 2 + 3 * ones map) card)
 
     -- the row and the others are still to be written
-    both : Written whole (row ++ others) start plot used
+    both : Written whole (row ++ others) start instance used
     unfolding row others
     both = rw (t .words, after, drop-drop 2 at card) at (w .stored)
 
-    found : Found plot used free at k b map a
+    found : Found instance used free at k b map a
     unfolding row others
     found = record {
       known = t .known;
@@ -124,23 +124,23 @@ module _ (start card : List ℕ) (n : ℕ) (ars : List ℕ) (count next : ℕ) w
       next-rows = λ part e. record {
         reads = rw after at (t .reads);
         low = omega (arith, w .low, t .free, ap (λ (x : List ℕ). blanks (got [] (readRecords n ars k x))) after);
-        stored = rw (e, ← row-long) (store-part row both);
+        stored = rw (e, ← row-long) (written-part row both);
       };
     }
 
   pub find :
-      (plot : List ℕ) (used free at left : ℕ) → WritingRows plot used free at left → 0 < left →
-      (b map : ℕ) → b ≡ getD card at 0 → map ≡ getD card (at + 1) 0 → Found plot used free at (left - 1) b map (arityOf ars b)
-  find plot used free at left w more b map b-is map-is =
+      (instance : List ℕ) (used free at left : ℕ) → WritingRows instance used free at left → 0 < left →
+      (b map : ℕ) → b ≡ getD card at 0 → map ≡ getD card (at + 1) 0 → Found instance used free at (left - 1) b map (arityOf ars b)
+  find instance used free at left w more b map b-is map-is =
       let one : left ≡ suc (left - 1) = omega arith in
-      let w′ : WritingRows plot used free at (suc (left - 1)) = subst (λ (x : ℕ). WritingRows plot used free at x) one w in
-      rw (b-is, map-is) (found plot used free at (left - 1) _ _ _ w′ (simp (getD-drop, add-zero) at (turn n ars (left - 1) free (drop at card) (w′ .reads))))
+      let w′ : WritingRows instance used free at (suc (left - 1)) = subst (λ (x : ℕ). WritingRows instance used free at x) one w in
+      rw (b-is, map-is) (found instance used free at (left - 1) _ _ _ w′ (simp (getD-drop, add-zero) at (turn n ars (left - 1) free (drop at card) (w′ .reads))))
 
   pub rows-start : WriteRows start card n ars count next → WritingRows start 0 next (n + 3) count
-  rows-start r = record { reads = r .reads; low = r .free; stored = begin whole start (r .room) }
+  rows-start r = record { reads = r .reads; low = r .free; stored = written-begin whole start (r .room) }
 
-  pub rows-end : (plot : List ℕ) (used free at left : ℕ) → WritingRows plot used free at left → left ≤ 0 → plot ≡ overwrite whole start
+  pub rows-end : (instance : List ℕ) (used free at left : ℕ) → WritingRows instance used free at left → left ≤ 0 → instance ≡ overwrite whole start
   unfolding readEach numberedRows wordsOf
-  rows-end plot used free at left w done =
+  rows-end instance used free at left w done =
       let none : left ≡ 0 = omega arith in
-      finish (rw none at (w .stored))
+      written-finish (rw none at (w .stored))

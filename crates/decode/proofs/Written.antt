@@ -13,16 +13,16 @@ use borrow.Author.Tests.{eq-eqb, ne-eqb}
 use Rattle.calculus.specs.Cell.{null}
 use Rattle.calculus.specs.Overwrite.{overwrite}
 use Rattle.calculus.specs.Reading.{read, refused}
-use Rattle.calculus.proofs.Bools.{never}
+use Rattle.calculus.proofs.Bools.{false-not-true}
 use Rattle.calculus.proofs.Reading.{then-read}
-use Rattle.calculus.proofs.Stores.{Written, begin, store, anew, finish}
+use Rattle.calculus.proofs.Stores.{Written, written-begin, written-store, written-anew, written-finish}
 use Rattle.instance.specs.Blanks.{Field, written, blank, numbered}
 use Rattle.instance.proofs.Blanks.{numbered-length}
 use Rattle.parse.specs.Parse.{Parsed, isRead, got}
 use Rattle.parse.specs.Number.{readNumber}
 use Rattle.parse.proofs.Each.{first-read}
 use Rattle.card.specs.Format.{readField, readColumn, readFields}
-use Rattle.card.proofs.Parts.{field-read, fields-stand}
+use Rattle.card.proofs.Parts.{field-read, fields-well-formed}
 
 -- the cells of n columns, if the next blank gets null m
 abbrev pub cellsRead : ℕ → ℕ → ℕ → List ℕ → List ℕ
@@ -35,8 +35,8 @@ pub cells-long : (m n bits : ℕ) (bs : List ℕ) → allRead n bits bs → leng
 cells-long m n bits bs = go (readFields n bits bs) refl
   where
     go : (p : Parsed (List Field)) → readFields n bits bs ≡ p → isRead p ≡ true → length (numbered m (got [] p)) ≡ n
-    go (read fs rest) e h = numbered-length m fs ∙ fields-stand n bits bs e .0
-    go (refused r) e h = never h
+    go (read fs rest) e h = numbered-length m fs ∙ fields-well-formed n bits bs e .0
+    go (refused r) e h = false-not-true h
 
 module _ (k bits m : ℕ) (bs : List ℕ) (h : allRead (suc k) bits bs) where
   -- a column that is written: its cell, and the columns after it
@@ -117,7 +117,7 @@ module _ (start : List ℕ) (relation arity map : ℕ) (fields : List ℕ) (next
             within = omega arith;
             small = omega (arith, w .small);
             reads = rw drop-drop at (col .reads);
-            stored = store (column + 1 + 1) refl stored;
+            stored = written-store (column + 1 + 1) refl stored;
           }
 
       -- the next column is blank
@@ -129,14 +129,14 @@ module _ (start : List ℕ) (relation arity map : ℕ) (fields : List ℕ) (next
             within = omega arith;
             small = omega (arith, w .small);
             reads = col .reads;
-            stored = store (column + 1 + 1) refl stored;
+            stored = written-store (column + 1 + 1) refl stored;
           }
 
     pub row-ends : arity ≤ column → part ≡ overwrite row start
     unfolding readFields numbered
     row-ends done =
         let none : arity - column ≡ 0 = omega arith in
-        finish (rw none at (w .stored))
+        written-finish (rw none at (w .stored))
 
 -- the relation is stored first
 pub row-starts :
@@ -148,7 +148,7 @@ row-starts part relation arity map fields next room reads =
       within = omega arith;
       small = omega arith;
       reads = rw sub-zero reads;
-      stored = rw sub-zero (anew (store 1 refl (begin (relation ∷ cellsRead next arity map fields) part (omega arith))));
+      stored = rw sub-zero (written-anew (written-store 1 refl (written-begin (relation ∷ cellsRead next arity map fields) part (omega arith))));
     }
 
 pub row-whole : (part : List ℕ) (relation : ℕ) (cells : List ℕ) → overwrite (relation ∷ cells) (set part 0 relation) ≡ overwrite (relation ∷ cells) part

@@ -15,9 +15,9 @@ use Rattle.card.specs.Format.{readRecords}
 abbrev pub wordsRead : ℕ → List ℕ → ℕ → ℕ → List ℕ → List ℕ
 wordsRead n ars count next bs = wordsOf (numberedRows next (got [] (readRecords n ars count bs)))
 
-pub record WriteRows (plot card : List ℕ) (n : ℕ) (ars : List ℕ) (count next : ℕ) : Type 0 where
+pub record WriteRows (instance card : List ℕ) (n : ℕ) (ars : List ℕ) (count next : ℕ) : Type 0 where
   pub few : n ≤ maxRelations
   pub narrow : (r : ℕ) → r < n → arityOf ars r ≤ maxColumns
   pub reads : isRead (readRecords n ars count (drop (n + 3) card)) ≡ true
   pub free : next + blanks (got [] (readRecords n ars count (drop (n + 3) card))) ≤ nulls + 1
-  pub room : length (wordsRead n ars count next (drop (n + 3) card)) ≤ length plot
+  pub room : length (wordsRead n ars count next (drop (n + 3) card)) ≤ length instance

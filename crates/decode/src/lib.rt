@@ -44,11 +44,11 @@ fn stored(relations: u32, arities: [u32; 8], used: u32) -> Stored
 }
 
 // Nothing is written before everything is known to fit.
-pub fn decode(card: &[u8], plot: &mut [u32]) -> Stored
-    ensures answer { λ r. ⌜ r .answer ≡ decoded (now (card .entry)) (now (plot .entry)) .answer ⌝ }
-    ensures header { λ r. ⌜ r .header ≡ decoded (now (card .entry)) (now (plot .entry)) .header ⌝ }
-    ensures words { λ r. ⌜ now (plot .exit) ≡ decoded (now (card .entry)) (now (plot .entry)) .words ⌝ }
-    ensures told { λ r. ⌜ Tells (r .answer) (decoded (now (card .entry)) (now (plot .entry)) .answer) (decoded (now (card .entry)) (now (plot .entry)) .header .used) ⌝ }
+pub fn decode(card: &[u8], instance: &mut [u32]) -> Stored
+    ensures answer { λ r. ⌜ r .answer ≡ decoded (now (card .entry)) (now (instance .entry)) .answer ⌝ }
+    ensures header { λ r. ⌜ r .header ≡ decoded (now (card .entry)) (now (instance .entry)) .header ⌝ }
+    ensures words { λ r. ⌜ now (instance .exit) ≡ decoded (now (card .entry)) (now (instance .entry)) .words ⌝ }
+    ensures told { λ r. ⌜ Tells (r .answer) (decoded (now (card .entry)) (now (instance .entry)) .answer) (decoded (now (card .entry)) (now (instance .entry)) .header .used) ⌝ }
 {
     let head = read_head(card);
     let opened = head.answer;
@@ -74,9 +74,16 @@ pub fn decode(card: &[u8], plot: &mut [u32]) -> Stored
     if NULLS < total.highest + total.blanks {
         return refused(NULLS_EXHAUSTED);
     }
-    if !has_room(total.words as usize, plot.len()) {
+    if !has_room(total.words as usize, instance.len()) {
         return refused(NO_ROOM);
     }
-    write_rows(plot, card, relations, &arities, count, total.highest + 1);
+    write_rows(
+        instance,
+        card,
+        relations,
+        &arities,
+        count,
+        total.highest + 1,
+    );
     stored(relations, arities, total.words)
 }

@@ -3,7 +3,7 @@ ghost use mathlib.Core.Path.{_≡_};
 ghost use mathlib.Core.Bool.{true};
 ghost use Prim.Native.Nat.{_^_, _≤_, _<_};
 ghost use lib.ListN.{length, drop};
-ghost use Rattle.instance.specs.Header.{aritiesStand, maxRelations};
+ghost use Rattle.instance.specs.Header.{aritiesWellFormed, maxRelations};
 ghost use Rattle.card.specs.Format.{readRecord, readRecords};
 ghost use Rattle.decode.specs.Measure.{readWritten, measuredFields, measuredRecord, TellsRecord, measuredFrom, TellsRecords};
 use calculus::answer::Answer;
@@ -65,7 +65,7 @@ fn measure_fields(bytes: &[u8], written: u32) -> Answer
 // Measures one record, at the start of the bytes.
 fn measure_record(bytes: &[u8], relations: u32, arities: &[u32; 8]) -> Measured
     requires few { ⌜ relations ≤ maxRelations ⌝ }
-    requires stand { ⌜ aritiesStand relations (now arities) ≡ true ⌝ }
+    requires formed { ⌜ aritiesWellFormed relations (now arities) ≡ true ⌝ }
     ensures answer { λ r. ⌜ r ≡ measuredRecord (readRecord relations (now (arities .entry)) (now (bytes .entry))) ⌝ }
     ensures told { λ r. ⌜ TellsRecord r (readRecord relations (now (arities .entry)) (now (bytes .entry))) ⌝ }
 {
@@ -99,7 +99,7 @@ fn measure_record(bytes: &[u8], relations: u32, arities: &[u32; 8]) -> Measured
 pub fn measure(card: &[u8], start: usize, relations: u32, arities: &[u32; 8], count: u32) -> Needed
     requires within { ⌜ start ≤ length (now card) ⌝ }
     requires few { ⌜ relations ≤ maxRelations ⌝ }
-    requires stand { ⌜ aritiesStand relations (now arities) ≡ true ⌝ }
+    requires formed { ⌜ aritiesWellFormed relations (now arities) ≡ true ⌝ }
     requires counted { ⌜ count < 256 ^ 2 ⌝ }
     ensures answer { λ r. ⌜ r ≡ measuredFrom (now (card .entry)) start relations (now (arities .entry)) count ⌝ }
     ensures told { λ r. ⌜ TellsRecords r (length (now (card .entry))) (readRecords relations (now (arities .entry)) count (drop start (now (card .entry)))) ⌝ }

@@ -15,7 +15,7 @@ use calculus::cell::CONSTANTS;
 use parse::number::byte;
 use parse::number::number;
 
-// Writes one row at the start of a part of `plot`; the row's first blank gets null `next`.
+// Writes one row at the start of a part of `instance`; the row's first blank gets null `next`.
 fn write_row(part: &mut [u32], relation: u32, arity: usize, map: u32, fields: &[u8], next: u32)
     requires { ⌜ 1 + arity ≤ length (now part) ⌝ }
     requires { ⌜ arity ≤ maxColumns ⌝ }
@@ -41,17 +41,17 @@ fn write_row(part: &mut [u32], relation: u32, arity: usize, map: u32, fields: &[
     }
 }
 
-// Writes `count` rows from the first word of `plot`; the first pass has checked the records.
+// Writes `count` rows from the first word of `instance`; the first pass has checked the records.
 pub fn write_rows(
-    plot: &mut [u32],
+    instance: &mut [u32],
     card: &[u8],
     relations: u32,
     arities: &[u32; 8],
     count: u32,
     next: u32,
 )
-    requires { ⌜ WriteRows (now plot) (now card) relations (now arities) count next ⌝ }
-    ensures { λ _. ⌜ now (plot .exit) ≡ overwrite (wordsRead relations (now (arities .entry)) count next (drop (relations + 3) (now (card .entry)))) (now (plot .entry)) ⌝ }
+    requires { ⌜ WriteRows (now instance) (now card) relations (now arities) count next ⌝ }
+    ensures { λ _. ⌜ now (instance .exit) ≡ overwrite (wordsRead relations (now (arities .entry)) count next (drop (relations + 3) (now (card .entry)))) (now (instance .entry)) ⌝ }
 {
     let mut used = 0;
     let mut null = next;
@@ -64,7 +64,7 @@ pub fn write_rows(
         let written = u32::count_ones(map);
         let first = at + 2;
         write_row(
-            &mut plot[used..],
+            &mut instance[used..],
             relation,
             arity,
             map,

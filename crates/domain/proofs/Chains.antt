@@ -10,7 +10,7 @@ use lib.ListN.{length, getD, set, take, replicate, length-set, length-replicate,
 use lib.Seq.{take-suc, take-set-le, drop-set-lt, getD-set-same, getD-set-other, drop-drop}
 use lib.Dec.{eqb}
 use Rattle.calculus.specs.Listed.{listed}
-use Rattle.domain.specs.Chains.{linkUnit, buckets, bucketOf, valueOf, linkOf, valuesOf, Chain, Linked, Chained, Added}
+use Rattle.domain.specs.Chains.{linkUnit, buckets, bucketOf, wordValue, wordLink, valuesOf, Chain, Linked, Chained, Added}
 use Rattle.calculus.specs.Domain.{listing}
 use Rattle.calculus.proofs.Listing.{listing-append}
 
@@ -26,32 +26,32 @@ module _ (c x : ℕ) where
   listed-other [] ne = simp (ne-eqb x c ne)
   listed-other (v ∷ vs) ne = ap (λ (b : Bool). eqb v c || b) (listed-other vs ne)
 
-values-more : (i : ℕ) (ws : List ℕ) → i < length ws → valuesOf (i + 1) ws ≡ valuesOf i ws ++ valueOf (getD ws i 0) ∷ []
-values-more i ws l = ap (λ (k : ℕ). valuesOf k ws) (add-one i) ∙ ap (map valueOf) (take-suc ws i 0 l) ∙ map-append valueOf (take i ws) (getD ws i 0 ∷ [])
+values-more : (i : ℕ) (ws : List ℕ) → i < length ws → valuesOf (i + 1) ws ≡ valuesOf i ws ++ wordValue (getD ws i 0) ∷ []
+values-more i ws l = ap (λ (k : ℕ). valuesOf k ws) (add-one i) ∙ ap (map wordValue) (take-suc ws i 0 l) ∙ map-append wordValue (take i ws) (getD ws i 0 ∷ [])
 
 -- at index p, counted from 1, of the chain of c's bucket through n words
 module _ {ws : List ℕ} {c n p : ℕ} (links : Linked ws n) (s : Chain ws c n p) (l : p ≤ length ws) (at : 0 < p) where
   abbrev here : ℕ
   here = getD ws (p - 1) 0
 
-  here-last : valuesOf p ws ≡ valuesOf (p - 1) ws ++ valueOf here ∷ []
+  here-last : valuesOf p ws ≡ valuesOf (p - 1) ws ++ wordValue here ∷ []
   here-last = let e : p ≡ p - 1 + 1 = omega arith in ap (λ (k : ℕ). valuesOf k ws) e ∙ values-more (p - 1) ws (omega arith)
 
-  next : Chain ws c (p - 1) (linkOf here)
+  next : Chain ws c (p - 1) (wordLink here)
   next = let w = s .within in links (p - 1) c (omega arith) (s .bucket at)
 
-  pub chain-falls : linkOf here < p
+  pub chain-falls : wordLink here < p
   chain-falls = let w = next .within in omega arith
 
   -- c is found
-  pub chain-ends : valueOf here ≡ c → listed c (valuesOf n ws) ≡ true
-  chain-ends e = s .same ∙ ap (listed c) here-last ∙ listed-last c (valueOf here) (valuesOf (p - 1) ws) e
+  pub chain-ends : wordValue here ≡ c → listed c (valuesOf n ws) ≡ true
+  chain-ends e = s .same ∙ ap (listed c) here-last ∙ listed-last c (wordValue here) (valuesOf (p - 1) ws) e
 
   -- or the chain goes on
-  pub chain-goes : (valueOf here ≡ c → ⊥) → Chain ws c n (linkOf here)
+  pub chain-goes : (wordValue here ≡ c → ⊥) → Chain ws c n (wordLink here)
   chain-goes ne = record {
     within = let w = s .within in let v = next .within in omega arith;
-    same = s .same ∙ ap (listed c) here-last ∙ listed-other c (valueOf here) (valuesOf (p - 1) ws) ne ∙ next .same;
+    same = s .same ∙ ap (listed c) here-last ∙ listed-other c (wordValue here) (valuesOf (p - 1) ws) ne ∙ next .same;
     bucket = next .bucket;
   }
 
@@ -89,10 +89,10 @@ module _ {heads ws : List ℕ} {n : ℕ} (s : Chained heads ws n) (room : n < le
   abbrev longer : List ℕ
   longer = set ws n word
 
-  at-value : valueOf (getD longer n 0) ≡ c
+  at-value : wordValue (getD longer n 0) ≡ c
   at-value = rw (getD-set-same ws n word 0 room) (omega arith)
 
-  at-link : linkOf (getD longer n 0) ≡ getD heads (bucketOf c) 0
+  at-link : wordLink (getD longer n 0) ≡ getD heads (bucketOf c) 0
   at-link = rw (getD-set-same ws n word 0 room) (omega arith)
 
   values-last : valuesOf (n + 1) longer ≡ valuesOf n longer ++ c ∷ []
@@ -104,7 +104,7 @@ module _ {heads ws : List ℕ} {n : ℕ} (s : Chained heads ws n) (room : n < le
   links-more : Linked longer (n + 1)
   links-more i d l e = go (eqb i n) refl
     where
-      go : (b : Bool) → eqb i n ≡ b → Chain longer d i (linkOf (getD longer i 0))
+      go : (b : Bool) → eqb i n ≡ b → Chain longer d i (wordLink (getD longer i 0))
       go true q =
           let p : i ≡ n = eqb-true i n q in
           let same : bucketOf c ≡ bucketOf d = rw (p, at-value) at e in

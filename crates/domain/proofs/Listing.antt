@@ -9,7 +9,7 @@ use Rattle.calculus.specs.Row.{Row, cellsOf}
 use Rattle.calculus.specs.Domain.{distinct}
 use Rattle.calculus.specs.Overwrite.{overwrite}
 use Rattle.calculus.proofs.Listing.{listing-distinct}
-use Rattle.domain.specs.Chains.{valueOf, valuesOf, Added}
+use Rattle.domain.specs.Chains.{wordValue, valuesOf, Added}
 use Rattle.domain.proofs.Chains.{added-then, added-none}
 
 -- n values of the cells `all` are listed in a buffer, and the cells of the rows `rest` are still to come
@@ -48,7 +48,7 @@ module _ {all before buffer : List ℕ} {n : ℕ} (s : Listing all before buffer
   values-all = s .added .values ∙ listing-distinct (s .seen) ∙ ap distinct (sym (append-nil (s .seen)) ∙ s .cells)
 
   pub listing-number : n ≡ length (distinct all)
-  listing-number = sym (length-take-le n buffer listing-fits) ∙ sym (length-map (take n buffer) valueOf) ∙ ap length values-all
+  listing-number = sym (length-take-le n buffer listing-fits) ∙ sym (length-map (take n buffer) wordValue) ∙ ap length values-all
 
   pub listing-ends : valuesOf n buffer ++ drop n buffer ≡ overwrite (distinct all) before
   listing-ends = rw (values-all, s .added .kept, listing-number) refl

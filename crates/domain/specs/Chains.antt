@@ -17,19 +17,19 @@ buckets = 1024
 abbrev pub bucketOf : ℕ → ℕ
 bucketOf c = c * 2654435761 % 4294967296 / 4194304
 
-abbrev pub valueOf : ℕ → ℕ
-valueOf w = w % linkUnit
+abbrev pub wordValue : ℕ → ℕ
+wordValue w = w % linkUnit
 
-abbrev pub linkOf : ℕ → ℕ
-linkOf w = w / linkUnit
+abbrev pub wordLink : ℕ → ℕ
+wordLink w = w / linkUnit
 
 -- the values that the first n words hold
 abbrev pub valuesOf : ℕ → List ℕ → List ℕ
-valuesOf n ws = map valueOf (take n ws)
+valuesOf n ws = map wordValue (take n ws)
 
 -- the value at index p, counted from 1, is in the bucket of c, unless p is 0
 abbrev pub InBucket : List ℕ → ℕ → ℕ → Type 0
-InBucket ws c p = 0 < p → bucketOf (valueOf (getD ws (p - 1) 0)) ≡ bucketOf c
+InBucket ws c p = 0 < p → bucketOf (wordValue (getD ws (p - 1) 0)) ≡ bucketOf c
 
 -- the chain of c's bucket through the first n values goes on at index p, counted from 1: if c is among the n, it is among the first p
 pub record Chain (ws : List ℕ) (c n p : ℕ) : Type 0 where
@@ -39,7 +39,7 @@ pub record Chain (ws : List ℕ) (c n p : ℕ) : Type 0 where
 
 -- from each of the first n words, the chain of its bucket goes on at its link
 abbrev pub Linked : List ℕ → ℕ → Type 0
-Linked ws n = (i c : ℕ) → i < n → bucketOf (valueOf (getD ws i 0)) ≡ bucketOf c → Chain ws c i (linkOf (getD ws i 0))
+Linked ws n = (i c : ℕ) → i < n → bucketOf (wordValue (getD ws i 0)) ≡ bucketOf c → Chain ws c i (wordLink (getD ws i 0))
 
 -- the words are linked, and the chain of each bucket starts at its head
 pub record Chained (heads ws : List ℕ) (n : ℕ) : Type 0 where

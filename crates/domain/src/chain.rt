@@ -5,7 +5,7 @@ ghost use mathlib.Core.List.{map, [], _∷_};
 ghost use lib.ListN.{length};
 ghost use Rattle.instance.specs.Header.{maxWords};
 ghost use Rattle.calculus.specs.Listed.{listed};
-ghost use Rattle.domain.specs.Chains.{linkUnit, valueOf, valuesOf, InBucket, Linked, Chained, Added};
+ghost use Rattle.domain.specs.Chains.{linkUnit, wordValue, valuesOf, InBucket, Linked, Chained, Added};
 ghost use Rattle.instance.specs.Rows.{areCells};
 ghost use mathlib.Core.Bool.{true};
 
@@ -64,7 +64,7 @@ pub fn add_cells(list: &mut [u32], heads: &mut [u16; 1024], n: usize, cells: &[u
 
 // Removes the links from a list.
 pub fn unlink(list: &mut [u32])
-    ensures { λ _. ⌜ now (list .exit) ≡ map valueOf (now (list .entry)) ⌝ }
+    ensures { λ _. ⌜ now (list .exit) ≡ map wordValue (now (list .entry)) ⌝ }
 {
     let mut i = 0;
     while i < list.len() {

@@ -4,8 +4,8 @@ ghost use mathlib.Core.Bool.{true};
 ghost use mathlib.Core.List.{_∷_, _++_};
 ghost use Prim.Native.Nat.{ℕ, _+_, _/_, _%_, _≤_, _<_, _*_};
 ghost use lib.ListN.{length, take, drop};
-ghost use Rattle.instance.specs.Header.{headerStands, arityOf, maxRelations, maxColumns};
-ghost use Rattle.instance.specs.Rows.{wordsStand, rowsFrom};
+ghost use Rattle.instance.specs.Header.{headerWellFormed, arityOf, maxRelations, maxColumns};
+ghost use Rattle.instance.specs.Rows.{wordsWellFormed, rowsFrom};
 ghost use Rattle.calculus.specs.Answer.{Tells};
 ghost use Rattle.instance.specs.Sound.{rows};
 ghost use Rattle.card.specs.Encode.{cardBytes, encoded, encodedBytes, recordsBytes, fullMap, fieldsBytes};
@@ -22,7 +22,7 @@ const FULL_MAPS: [u8; 7] = [0, 1, 3, 7, 15, 31, 63];
 
 // Writes the bytes before the records.
 fn write_head(out: &mut [u8], relations: u32, arities: &[u32; 8], count: u32)
-    requires { ⌜ (headerStands relations (now arities) ≡ true) × (length (now arities) ≡ maxRelations) × (relations + 3 ≤ length (now out)) ⌝ }
+    requires { ⌜ (headerWellFormed relations (now arities) ≡ true) × (length (now arities) ≡ maxRelations) × (relations + 3 ≤ length (now out)) ⌝ }
     ensures { λ _. ⌜ now (out .exit) ≡ relations ∷ take relations (now (arities .entry)) ++ count / 256 % 256 ∷ count % 256 ∷ drop (relations + 3) (now (out .entry)) ⌝ }
 {
     out[0] = relations as u8;
@@ -58,7 +58,7 @@ fn write_record(out: &mut [u8], relation: u32, cells: &[u32])
 // Writes the records of the rows in the words, row by row.
 fn write_records(out: &mut [u8], arities: &[u32; 8], words: &[u32])
     requires { ⌜ ((r : ℕ) → arityOf (now arities) r ≤ maxColumns) ⌝ }
-    requires { ⌜ wordsStand maxRelations (now arities) 0 (now words) ≡ true ⌝ }
+    requires { ⌜ wordsWellFormed maxRelations (now arities) 0 (now words) ≡ true ⌝ }
     requires { ⌜ length (recordsBytes (rowsFrom (now arities) 0 (now words))) ≤ length (now out) ⌝ }
     ensures { λ _. ⌜ now (out .exit) ≡ overwrite (recordsBytes (rowsFrom (now (arities .entry)) 0 (now (words .entry)))) (now (out .entry)) ⌝ }
 {
@@ -75,12 +75,12 @@ fn write_records(out: &mut [u8], arities: &[u32; 8], words: &[u32])
 }
 
 // Writes the card of an instance from the first byte, and returns the number of its bytes.
-pub fn encode(header: Header, plot: &[u32], out: &mut [u8]) -> Answer
-    ensures answer { λ r. ⌜ r ≡ encoded header (now (plot .entry)) (now (out .entry)) ⌝ }
-    ensures bytes { λ r. ⌜ now (out .exit) ≡ encodedBytes header (now (plot .entry)) (now (out .entry)) ⌝ }
-    ensures told { λ r. ⌜ Tells r (encoded header (now (plot .entry)) (now (out .entry))) (length (cardBytes header (rows header (now (plot .entry))))) ⌝ }
+pub fn encode(header: Header, instance: &[u32], out: &mut [u8]) -> Answer
+    ensures answer { λ r. ⌜ r ≡ encoded header (now (instance .entry)) (now (out .entry)) ⌝ }
+    ensures bytes { λ r. ⌜ now (out .exit) ≡ encodedBytes header (now (instance .entry)) (now (out .entry)) ⌝ }
+    ensures told { λ r. ⌜ Tells r (encoded header (now (instance .entry)) (now (out .entry))) (length (cardBytes header (rows header (now (instance .entry))))) ⌝ }
 {
-    let Scanned::Rows(count) = scan(header, plot) else {
+    let Scanned::Rows(count) = scan(header, instance) else {
         return Answer::Refused(UNSOUND);
     };
     let relations = header.relations;
@@ -92,6 +92,6 @@ pub fn encode(header: Header, plot: &[u32], out: &mut [u8]) -> Answer
         return Answer::Refused(OUTPUT_TOO_SHORT);
     }
     write_head(out, relations, &arities, count);
-    write_records(&mut out[start..], &arities, &plot[..used]);
+    write_records(&mut out[start..], &arities, &instance[..used]);
     Answer::Done(size as u32)
 }

@@ -55,13 +55,13 @@ unfolding kindOf
 none-above w h = List·getD-eq-default kinds noKind h
 
 -- what a well-formed node says of its children, by its kind
-pub stands-by :
+pub well-formed-by :
     (n : ℕ) (ars ws qs counts : List ℕ) (i : ℕ) (kind : Kind) →
     Ready n ars ws qs counts → i < nodeCount qs → kindOf (wordAt qs i 0) ≡ kind → NodeBy n ars qs i kind
-stands-by n ars ws qs counts i kind r known is = subst (NodeBy n ars qs i) is (r .nodes i known)
+well-formed-by n ars ws qs counts i kind r known is = subst (NodeBy n ars qs i) is (r .nodes i known)
 
 -- what an atom's node says: its relation, the number of rows of that relation, and its arity
-pub record AtomStands (n : ℕ) (ars ws qs counts : List ℕ) (i : ℕ) : Type 0 where
+pub record AtomWellFormed (n : ℕ) (ars ws qs counts : List ℕ) (i : ℕ) : Type 0 where
   pub relation : wordAt qs i 1 < n
   pub eight : wordAt qs i 1 < maxRelations
   pub counted : getD counts (wordAt qs i 1) 0 ≡ length (tuples (wordAt qs i 1) (rowsFrom ars 0 ws))
@@ -69,18 +69,18 @@ pub record AtomStands (n : ℕ) (ars ws qs counts : List ℕ) (i : ℕ) : Type 0
   pub narrow : arityOf ars (wordAt qs i 1) ≤ maxColumns
   pub terms : (j : ℕ) → j < arityOf ars (wordAt qs i 1) → isTerm (wordAt qs i (2 + j)) ≡ true
 
-pub atom-stands :
+pub atom-well-formed :
     (n : ℕ) (ars ws qs counts : List ℕ) (i : ℕ) →
-    Ready n ars ws qs counts → i < nodeCount qs → kindOf (wordAt qs i 0) ≡ rowStands → AtomStands n ars ws qs counts i
-atom-stands n ars ws qs counts i r known is =
-    let by = stands-by n ars ws qs counts i rowStands r known is in
-    let head = headed n ars (r .standing .header) in
+    Ready n ars ws qs counts → i < nodeCount qs → kindOf (wordAt qs i 0) ≡ rowStands → AtomWellFormed n ars ws qs counts i
+atom-well-formed n ars ws qs counts i r known is =
+    let by = well-formed-by n ars ws qs counts i rowStands r known is in
+    let head = headed n ars (r .well-formed .header) in
     let count = r .counted (wordAt qs i 1) (by .0) in
     record {
       relation = by .0;
       eight = omega (arith, by .0, head .few);
       counted = count;
-      few = omega (arith, count, tuples-few (wordAt qs i 1) ars ws, r .standing .few);
+      few = omega (arith, count, tuples-few (wordAt qs i 1) ars ws, r .well-formed .few);
       narrow = head .columns (wordAt qs i 1) (by .0) .1;
       terms = by .1;
     }

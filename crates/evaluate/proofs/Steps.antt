@@ -10,7 +10,7 @@ use Rattle.calculus.specs.declared.truth.Truth.{Truth}
 use Rattle.calculus.specs.declared.truth.Truth.the-variants.{False, Unknown, True}
 use Rattle.calculus.specs.Kleene.{Junction, conj, disj, join, unit}
 use Rattle.calculus.proofs.Outcomes.{settled}
-use Rattle.calculus.specs.Eval.{Outcome, settles, asked, joined, over}
+use Rattle.calculus.specs.Eval.{Outcome, settles, rightCost, joined, over}
 use Rattle.calculus.proofs.Kleene.{join-comm, join-swap}
 use Rattle.evaluate.specs.declared.evaluated.Evaluated.the-variants.{Verdict, Spent}
 use Rattle.evaluate.specs.Within.{within}
@@ -62,10 +62,10 @@ module _ (j : Junction) (b : ℕ) (t : Truth) (n : ℕ) (low : n ≤ b) (o p : O
         let says : join j t (join j (o .truth) (p .truth)) ≡ join j t a =
         ap (λ (x : Truth). join j t (join j x (p .truth))) (w .truth) ∙ ap (join j t) (settled j a (p .truth) s)
         in
-        let skipped : asked j (o .truth) (p .cost) ≡ 0 =
-        ap (λ (x : Truth). asked j x (p .cost)) (w .truth) ∙ ap (λ (x : Bool). cond x 0 (p .cost)) s
+        let skipped : rightCost j (o .truth) (p .cost) ≡ 0 =
+        ap (λ (x : Truth). rightCost j x (p .cost)) (w .truth) ∙ ap (λ (x : Bool). cond x 0 (p .cost)) s
         in
-        let pays : n + (o .cost + asked j (o .truth) (p .cost)) ≡ n + m = omega (arith, w .cost, skipped) in
+        let pays : n + (o .cost + rightCost j (o .truth) (p .cost)) ≡ n + m = omega (arith, w .cost, skipped) in
         ap (within b) (alike says pays) ∙ verdict b (record { truth = join j t a; cost = n + m }) next-low
 
     pub next-more : settles j a ≡ false → sofar j t n (joined j o p) ≡ sofar j (join j t a) (n + m) p
@@ -74,10 +74,10 @@ module _ (j : Junction) (b : ℕ) (t : Truth) (n : ℕ) (low : n ≤ b) (o p : O
         let says : join j t (join j (o .truth) (p .truth)) ≡ join j (join j t a) (p .truth) =
         ap (λ (x : Truth). join j t (join j x (p .truth))) (w .truth) ∙ join-assoc j t a (p .truth)
         in
-        let asks : asked j (o .truth) (p .cost) ≡ p .cost =
-        ap (λ (x : Truth). asked j x (p .cost)) (w .truth) ∙ ap (λ (x : Bool). cond x 0 (p .cost)) s
+        let asks : rightCost j (o .truth) (p .cost) ≡ p .cost =
+        ap (λ (x : Truth). rightCost j x (p .cost)) (w .truth) ∙ ap (λ (x : Bool). cond x 0 (p .cost)) s
         in
-        let pays : n + (o .cost + asked j (o .truth) (p .cost)) ≡ n + m + p .cost = omega (arith, w .cost, asks) in
+        let pays : n + (o .cost + rightCost j (o .truth) (p .cost)) ≡ n + m + p .cost = omega (arith, w .cost, asks) in
         alike says pays
 
 -- the verdict of a walk includes the truth value that it starts from

@@ -16,7 +16,7 @@ use Rattle.instance.specs.Header.{maxColumns}
 use Rattle.query.specs.Words.{wordAt}
 use Rattle.query.specs.Tree.{variableBase, termOf, termsAt}
 use Rattle.query.specs.Check.{isTerm}
-use Rattle.calculus.proofs.Bools.{both}
+use Rattle.calculus.proofs.Bools.{and-parts}
 use Rattle.calculus.proofs.Padded.{padded-more, padded-length, padded-front}
 
 pub below-base : (w : ℕ) → w < variableBase → termOf w ≡ const w
@@ -31,7 +31,7 @@ from-base w h = rw (le-leb variableBase w h)
 pub few-variables : (w : ℕ) → isTerm w ≡ true → variableBase ≤ w → w - variableBase < variables
 few-variables w t h =
     let rest : (leb variableBase w && ltb w (variableBase + variables)) ≡ true = rw (le-ltb w constants (omega arith)) at t in
-    omega (arith, ltb-true w (variableBase + variables) (both (leb variableBase w) (ltb w (variableBase + variables)) rest .1))
+    omega (arith, ltb-true w (variableBase + variables) (and-parts (leb variableBase w) (ltb w (variableBase + variables)) rest .1))
 
 pub terms-more : (qs : List ℕ) (i j k : ℕ) → termsAt qs i j (suc k) ≡ termsAt qs i j k ++ termOf (wordAt qs i (j + k)) ∷ []
 unfolding termsAt

@@ -13,21 +13,21 @@ use Rattle.instance.specs.Rows.{rowsFrom}
 use Rattle.query.specs.Words.{nodeCount, nodeWords, maxNodes, wordAt}
 use Rattle.query.specs.Tree.{formulaAt}
 use Rattle.query.specs.Check.{isTerm}
-use Rattle.query.specs.Passed.{NodeStands}
+use Rattle.query.specs.Passed.{NodeWellFormed}
 use Rattle.evaluate.specs.declared.evaluated.Evaluated.{Evaluated}
 use Rattle.evaluate.specs.Within.{within}
-use Rattle.instance.specs.Standing.{Standing}
+use Rattle.instance.specs.InstanceWellFormed.{InstanceWellFormed}
 
 -- the structure of the rows in the words
 abbrev pub world : List ℕ → List ℕ → Structure
 world ars ws = closed (rowsFrom ars 0 ws)
 
 pub record Ready (n : ℕ) (ars ws qs counts : List ℕ) : Type 0 where
-  pub standing : Standing n ars ws
+  pub well-formed : InstanceWellFormed n ars ws
   pub eight : length ars ≡ maxRelations
   pub whole : nodeCount qs * nodeWords ≡ length qs
   pub nodes-few : nodeCount qs ≤ maxNodes
-  pub nodes : (i : ℕ) → i < nodeCount qs → NodeStands n ars qs i
+  pub nodes : (i : ℕ) → i < nodeCount qs → NodeWellFormed n ars qs i
   pub counted : (r : ℕ) → r < n → getD counts r 0 ≡ length (tuples r (rowsFrom ars 0 ws))
   pub eight-counts : length counts ≡ maxRelations
 
@@ -54,7 +54,7 @@ junctionOf true = conj
 junctionOf false = disj
 
 -- the `arity` words of node i from word 2 are terms
-pub record TermsStand (qs : List ℕ) (i arity : ℕ) (e : List ℕ) : Type 0 where
+pub record TermsWellFormed (qs : List ℕ) (i arity : ℕ) (e : List ℕ) : Type 0 where
   pub known : i < nodeCount qs
   pub narrow : arity ≤ maxColumns
   pub terms : (j : ℕ) → j < arity → isTerm (wordAt qs i (2 + j)) ≡ true

@@ -10,7 +10,7 @@ ghost use Rattle.calculus.specs.Closed.{equality as equalityOf};
 ghost use Rattle.query.specs.Words.{nodeCount, nodeWords, wordAt};
 ghost use Rattle.query.specs.Tree.{termOf, termsAt};
 ghost use Rattle.query.specs.Check.{isTerm};
-ghost use Rattle.evaluate.specs.Ready.{TermsStand};
+ghost use Rattle.evaluate.specs.Ready.{TermsWellFormed};
 use calculus::cell::CONSTANTS;
 use calculus::truth::Truth;
 use query::words::NODE_WORDS;
@@ -48,7 +48,7 @@ pub fn term(query: &[u32], node: usize, j: usize, env: &[u32; 16]) -> u32
 
 // The values of a node's terms, padded with 0; an atom's terms begin at word 2.
 pub fn asked_row(query: &[u32], node: usize, arity: usize, env: &[u32; 16]) -> [u32; 6]
-    requires { ⌜ TermsStand (now query) node arity (now env) ⌝ }
+    requires { ⌜ TermsWellFormed (now query) node arity (now env) ⌝ }
     ensures { λ r. ⌜ r ≡ padded maxColumns (values (now (env .entry)) (termsAt (now (query .entry)) node 2 arity)) ⌝ }
 {
     let mut row = [0u32; 6];

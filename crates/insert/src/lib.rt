@@ -19,10 +19,10 @@ use instance::room::has_room;
 use instance::scan::Scanned;
 use instance::scan::scan;
 
-fn check_insert(header: Header, plot: &[u32], relation: u32, cells: &[u32]) -> Answer
-    ensures { λ r. ⌜ r ≡ inserted header (now (plot .entry)) relation (now (cells .entry)) ⌝ }
+fn check_insert(header: Header, instance: &[u32], relation: u32, cells: &[u32]) -> Answer
+    ensures { λ r. ⌜ r ≡ inserted header (now (instance .entry)) relation (now (cells .entry)) ⌝ }
 {
-    let Scanned::Rows(_) = scan(header, plot) else {
+    let Scanned::Rows(_) = scan(header, instance) else {
         return Answer::Refused(UNSOUND);
     };
     if header.relations <= relation {
@@ -36,7 +36,7 @@ fn check_insert(header: Header, plot: &[u32], relation: u32, cells: &[u32]) -> A
         return Answer::Refused(NOT_A_CELL);
     }
     let used = header.used as usize + (1 + cells.len());
-    if !has_room(used, plot.len()) {
+    if !has_room(used, instance.len()) {
         return Answer::Refused(NO_ROOM);
     }
     Answer::Done(used as u32)
@@ -56,18 +56,18 @@ fn write_row(part: &mut [u32], relation: u32, cells: &[u32])
 }
 
 // Inserts a row after the words in use.
-pub fn insert(header: Header, plot: &mut [u32], relation: u32, cells: &[u32]) -> Stored
-    ensures answer { λ r. ⌜ r .answer ≡ inserted header (now (plot .entry)) relation (now (cells .entry)) ⌝ }
-    ensures header { λ r. ⌜ r .header ≡ insertedHeader header (now (plot .entry)) relation (now (cells .entry)) ⌝ }
-    ensures words { λ r. ⌜ now (plot .exit) ≡ insertedWords header (now (plot .entry)) relation (now (cells .entry)) ⌝ }
-    ensures told { λ r. ⌜ Tells (r .answer) (inserted header (now (plot .entry)) relation (now (cells .entry))) (insertedHeader header (now (plot .entry)) relation (now (cells .entry)) .used) ⌝ }
+pub fn insert(header: Header, instance: &mut [u32], relation: u32, cells: &[u32]) -> Stored
+    ensures answer { λ r. ⌜ r .answer ≡ inserted header (now (instance .entry)) relation (now (cells .entry)) ⌝ }
+    ensures header { λ r. ⌜ r .header ≡ insertedHeader header (now (instance .entry)) relation (now (cells .entry)) ⌝ }
+    ensures words { λ r. ⌜ now (instance .exit) ≡ insertedWords header (now (instance .entry)) relation (now (cells .entry)) ⌝ }
+    ensures told { λ r. ⌜ Tells (r .answer) (inserted header (now (instance .entry)) relation (now (cells .entry))) (insertedHeader header (now (instance .entry)) relation (now (cells .entry)) .used) ⌝ }
 {
-    let answer = check_insert(header, plot, relation, cells);
+    let answer = check_insert(header, instance, relation, cells);
     let Answer::Done(used) = answer else {
         return Stored { answer, header };
     };
     let at = header.used as usize;
-    write_row(&mut plot[at..], relation, cells);
+    write_row(&mut instance[at..], relation, cells);
     let arities = header.arities;
     let grown = header_with(header.relations, arities, used);
     Stored {

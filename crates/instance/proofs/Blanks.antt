@@ -11,27 +11,27 @@ use Rattle.calculus.specs.All.{all}
 use Rattle.calculus.specs.Cell.{constants, nulls, null, isCell}
 use Rattle.calculus.specs.Row.{Row}
 use Rattle.calculus.proofs.All.{all-parts}
-use Rattle.calculus.proofs.Bools.{both, and-true}
+use Rattle.calculus.proofs.Bools.{and-parts, and-intro}
 use Rattle.calculus.proofs.Cells.{cell-below}
 use Rattle.instance.specs.Header.{arityOf}
-use Rattle.instance.specs.Rows.{areCells, rowStands, rowsStand}
+use Rattle.instance.specs.Rows.{areCells, rowWellFormed, rowsWellFormed}
 use Rattle.instance.specs.Blanks.{Field, written, blank, Record, blanksIn, blanks, highestOf, writtenOf, highestIn, highest, numbered, numberedRows}
-use Rattle.instance.proofs.Rows.{stands-row, row-parts}
+use Rattle.instance.proofs.Rows.{row-well-formed, row-parts}
 
 -- a field that stands
-unfoldable pub fieldStands : Field → Bool
-fieldStands (written c) = isCell c
-fieldStands blank = true
+unfoldable pub fieldWellFormed : Field → Bool
+fieldWellFormed (written c) = isCell c
+fieldWellFormed blank = true
 
-abbrev pub fieldsStand : List Field → Bool
-fieldsStand fs = all fieldStands fs
+abbrev pub fieldsWellFormed : List Field → Bool
+fieldsWellFormed fs = all fieldWellFormed fs
 
 -- a record of one of n relations, with a field for each of its columns
-unfoldable pub recordStands : ℕ → List ℕ → Record → Bool
-recordStands n ars r = ltb (r .relation) n && eqb (length (r .fields)) (arityOf ars (r .relation)) && fieldsStand (r .fields)
+unfoldable pub recordWellFormed : ℕ → List ℕ → Record → Bool
+recordWellFormed n ars r = ltb (r .relation) n && eqb (length (r .fields)) (arityOf ars (r .relation)) && fieldsWellFormed (r .fields)
 
-abbrev pub recordsStand : ℕ → List ℕ → List Record → Bool
-recordsStand n ars rs = all (recordStands n ars) rs
+abbrev pub recordsWellFormed : ℕ → List ℕ → List Record → Bool
+recordsWellFormed n ars rs = all (recordWellFormed n ars) rs
 
 -- null m is a cell for m from 1 to 200
 null-cell : (m : ℕ) → 1 ≤ m → m ≤ nulls → isCell (null m) ≡ true
@@ -46,31 +46,31 @@ numbered-length m [] = refl
 numbered-length m (written c ∷ fs) = ap suc (numbered-length m fs)
 numbered-length m (blank ∷ fs) = ap suc (numbered-length (suc m) fs)
 
-numbered-cells : (m : ℕ) (fs : List Field) → fieldsStand fs ≡ true → 1 ≤ m → m + blanksIn fs ≤ suc nulls → areCells (numbered m fs) ≡ true
-unfolding numbered blanksIn fieldStands all
+numbered-cells : (m : ℕ) (fs : List Field) → fieldsWellFormed fs ≡ true → 1 ≤ m → m + blanksIn fs ≤ suc nulls → areCells (numbered m fs) ≡ true
+unfolding numbered blanksIn fieldWellFormed all
 numbered-cells m [] e low high = refl
 numbered-cells m (written c ∷ fs) e low high =
-    let p = both (isCell c) (fieldsStand fs) e in
-    and-true (p .0) (numbered-cells m fs (p .1) low high)
-numbered-cells m (blank ∷ fs) e low high = and-true (null-cell m low (omega arith)) (numbered-cells (suc m) fs e (omega arith) (omega arith))
+    let p = and-parts (isCell c) (fieldsWellFormed fs) e in
+    and-intro (p .0) (numbered-cells m fs (p .1) low high)
+numbered-cells m (blank ∷ fs) e low high = and-intro (null-cell m low (omega arith)) (numbered-cells (suc m) fs e (omega arith) (omega arith))
 
-numbered-row : (n : ℕ) (ars : List ℕ) (m : ℕ) (r : Record) → recordStands n ars r ≡ true → 1 ≤ m → m + blanksIn (r .fields) ≤ suc nulls
-    → rowStands n ars (record { relation = r .relation; cells = numbered m (r .fields) }) ≡ true
-unfolding recordStands
+numbered-row : (n : ℕ) (ars : List ℕ) (m : ℕ) (r : Record) → recordWellFormed n ars r ≡ true → 1 ≤ m → m + blanksIn (r .fields) ≤ suc nulls
+    → rowWellFormed n ars (record { relation = r .relation; cells = numbered m (r .fields) }) ≡ true
+unfolding recordWellFormed
 numbered-row n ars m r e low high =
-    let p = both (ltb (r .relation) n && eqb (length (r .fields)) (arityOf ars (r .relation))) (fieldsStand (r .fields)) e in
-    let q = both (ltb (r .relation) n) (eqb (length (r .fields)) (arityOf ars (r .relation))) (p .0) in
-    stands-row n ars (record { relation = r .relation; cells = numbered m (r .fields) }) (ltb-true (r .relation) n (q .0))
+    let p = and-parts (ltb (r .relation) n && eqb (length (r .fields)) (arityOf ars (r .relation))) (fieldsWellFormed (r .fields)) e in
+    let q = and-parts (ltb (r .relation) n) (eqb (length (r .fields)) (arityOf ars (r .relation))) (p .0) in
+    row-well-formed n ars (record { relation = r .relation; cells = numbered m (r .fields) }) (ltb-true (r .relation) n (q .0))
     (numbered-length m (r .fields) ∙ eqb-true (length (r .fields)) (arityOf ars (r .relation)) (q .1)) (numbered-cells m (r .fields) (p .1) low high)
 
-pub numbered-stand : (n : ℕ) (ars : List ℕ) (m : ℕ) (rs : List Record) → recordsStand n ars rs ≡ true → 1 ≤ m → m + blanks rs ≤ suc nulls
-    → rowsStand n ars (numberedRows m rs) ≡ true
+pub numbered-well-formed : (n : ℕ) (ars : List ℕ) (m : ℕ) (rs : List Record) → recordsWellFormed n ars rs ≡ true → 1 ≤ m → m + blanks rs ≤ suc nulls
+    → rowsWellFormed n ars (numberedRows m rs) ≡ true
 unfolding numberedRows blanks all
-numbered-stand n ars m [] e low high = refl
-numbered-stand n ars m (r ∷ rs) e low high =
-    let p = all-parts (recordStands n ars) r rs e in
-    and-true (numbered-row n ars m r (p .0) low (omega arith))
-    (numbered-stand n ars (m + blanksIn (r .fields)) rs (p .1) (omega arith) (omega arith))
+numbered-well-formed n ars m [] e low high = refl
+numbered-well-formed n ars m (r ∷ rs) e low high =
+    let p = all-parts (recordWellFormed n ars) r rs e in
+    and-intro (numbered-row n ars m r (p .0) low (omega arith))
+    (numbered-well-formed n ars (m + blanksIn (r .fields)) rs (p .1) (omega arith) (omega arith))
 
 -- ---- records without blanks
 
@@ -108,7 +108,7 @@ highest-in (c ∷ cs) e =
     let l' : highestIn (map written cs) ≤ nulls = highest-in cs (p .1) in
     omega arith
 
-pub highest-full : (n : ℕ) (ars : List ℕ) (rs : List Row) → rowsStand n ars rs ≡ true → highest (map fullRecord rs) ≤ nulls
+pub highest-full : (n : ℕ) (ars : List ℕ) (rs : List Row) → rowsWellFormed n ars rs ≡ true → highest (map fullRecord rs) ≤ nulls
 unfolding highest
 highest-full n ars [] e = omega arith
 highest-full n ars (r ∷ rs) e =

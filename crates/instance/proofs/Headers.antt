@@ -9,25 +9,25 @@ use lib.ListN.{length, length-append, length-map}
 use lib.Seq.{take-at}
 use Rattle.calculus.specs.Row.{Row, mapRow}
 use Rattle.instance.specs.declared.header.Header.{Header}
-use Rattle.instance.specs.Header.{headerStands, maxWords, headerWith}
-use Rattle.instance.specs.Rows.{rowsStand, wordsOf}
+use Rattle.instance.specs.Header.{headerWellFormed, maxWords, headerWith}
+use Rattle.instance.specs.Rows.{rowsWellFormed, wordsOf}
 use Rattle.instance.specs.Sound.{sound, rows, headerFor}
-use Rattle.instance.proofs.Rows.{rows-back, rows-back-stand}
+use Rattle.instance.proofs.Rows.{rows-back, rows-words-well-formed}
 
 -- the instance is sound, and has these rows
 pub record Holds (h : Header) (ws : List ℕ) (rs : List Row) : Type 0 where
-  pub stands : sound h ws ≡ true
+  pub is-sound : sound h ws ≡ true
   pub holds : rows h ws ≡ rs
 
 -- The words of rows that stand, followed by any others, are a sound instance under the rows' header.
-pub made : (n : ℕ) (ars : List ℕ) (rs : List Row) (back : List ℕ) → headerStands n ars ≡ true → length (wordsOf rs) ≤ maxWords
-    → rowsStand n ars rs ≡ true → Holds (headerFor n ars rs) (wordsOf rs ++ back) rs
+pub rows-sound : (n : ℕ) (ars : List ℕ) (rs : List Row) (back : List ℕ) → headerWellFormed n ars ≡ true → length (wordsOf rs) ≤ maxWords
+    → rowsWellFormed n ars rs ≡ true → Holds (headerFor n ars rs) (wordsOf rs ++ back) rs
 unfolding sound rows
-made n ars rs back head few stand =
+rows-sound n ars rs back head few stand =
     let e = take-at (wordsOf rs) back (length (wordsOf rs)) refl in
     let within : length (wordsOf rs) ≤ length (wordsOf rs ++ back) = rw length-append (omega arith) in
     record {
-      stands = simp (head, le-leb _ _ few, le-leb _ _ within, e, rows-back-stand n ars rs stand);
+      is-sound = simp (head, le-leb _ _ few, le-leb _ _ within, e, rows-words-well-formed n ars rs stand);
       holds = rw e (rows-back n ars rs stand);
     }
 

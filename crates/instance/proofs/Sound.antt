@@ -10,11 +10,11 @@ use lib.Seq.{length-take-le}
 use Rattle.instance.specs.declared.header.Header.{Header}
 use Rattle.instance.specs.declared.scan.Scanned.the-variants.{Rows, Unsound}
 use Rattle.instance.specs.Header.{maxWords}
-use Rattle.instance.specs.Rows.{rowsStand, wordsOf, rowsFrom}
+use Rattle.instance.specs.Rows.{rowsWellFormed, wordsOf, rowsFrom}
 use Rattle.instance.specs.Sound.{sound, rows, headerFor, tally, scanned}
-use Rattle.instance.specs.Standing.{Standing}
-use Rattle.calculus.proofs.Bools.{both}
-use Rattle.instance.proofs.Rows.{Headed, headed, stand-rows, words-back}
+use Rattle.instance.specs.InstanceWellFormed.{InstanceWellFormed}
+use Rattle.calculus.proofs.Bools.{and-parts}
+use Rattle.instance.proofs.Rows.{Headed, headed, words-rows-well-formed, words-back}
 use Rattle.instance.proofs.Headers.{header-same}
 
 -- the header, the words in use, and the rows
@@ -22,18 +22,18 @@ pub record Sound (h : Header) (ws : List ℕ) : Type 0 where
   pub within : h .used ≤ length ws
   pub few : h .used ≤ maxWords
   pub in-use : length (take (h .used) ws) ≡ h .used
-  pub standing : Standing (h .relations) (h .arities) (take (h .used) ws)
+  pub well-formed : InstanceWellFormed (h .relations) (h .arities) (take (h .used) ws)
   pub headed : Headed (h .relations) (h .arities)
-  pub rows-stand : rowsStand (h .relations) (h .arities) (rows h ws) ≡ true
+  pub rows-well-formed : rowsWellFormed (h .relations) (h .arities) (rows h ws) ≡ true
   pub words : wordsOf (rows h ws) ≡ take (h .used) ws
   pub header : headerFor (h .relations) (h .arities) (rows h ws) ≡ h
 
 pub sound-gives : (h : Header) (ws : List ℕ) → sound h ws ≡ true → Sound h ws
 unfolding sound rows
 sound-gives h ws e =
-    let p = both _ _ e in
-    let q = both _ _ (p .0) in
-    let s = both _ _ (q .0) in
+    let p = and-parts _ _ e in
+    let q = and-parts _ _ (p .0) in
+    let s = and-parts _ _ (q .0) in
     let few = leb-true _ _ (s .1) in
     let within = leb-true _ _ (q .1) in
     let in-use = length-take-le (h .used) ws within in
@@ -42,9 +42,9 @@ sound-gives h ws e =
       within = within;
       few = few;
       in-use = in-use;
-      standing = record { header = s .0; few = omega (arith, in-use); words = p .1 };
+      well-formed = record { header = s .0; few = omega (arith, in-use); words = p .1 };
       headed = headed _ _ (s .0);
-      rows-stand = stand-rows _ _ 0 _ (p .1);
+      rows-well-formed = words-rows-well-formed _ _ 0 _ (p .1);
       words = words;
       header = header-same h (rowsFrom (h .arities) 0 (take (h .used) ws)) (ap length words ∙ in-use);
     }

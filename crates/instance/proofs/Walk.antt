@@ -9,18 +9,18 @@ use lib.ListN.{length, getD, take, drop, length-drop}
 use lib.Seq.{drop-drop, drop-length}
 use Rattle.calculus.specs.Row.{Row}
 use Rattle.calculus.specs.Closed.{tuples}
-use Rattle.calculus.proofs.Lists.{rest}
+use Rattle.calculus.proofs.Lists.{drop-step}
 use Rattle.calculus.proofs.Tuples.{tuples-le}
 use Rattle.instance.specs.Header.{arityOf, maxRelations, maxColumns}
-use Rattle.instance.specs.Rows.{areCells, wordsStand, rowsFrom}
-use Rattle.instance.specs.Standing.{Standing}
+use Rattle.instance.specs.Rows.{areCells, wordsWellFormed, rowsFrom}
+use Rattle.instance.specs.InstanceWellFormed.{InstanceWellFormed}
 use Rattle.instance.proofs.Rows.{headed, at-row, at-cell, cells-first, cells-within}
 
 module _ (n : ℕ) (ars : List ℕ) where
   -- past the cells that are still to come, a row starts
-  past-cells : (left : ℕ) (ws : List ℕ) → wordsStand n ars left ws ≡ true
-      → (wordsStand n ars 0 (drop left ws) ≡ true) × (rowsFrom ars left ws ≡ rowsFrom ars 0 (drop left ws))
-  unfolding wordsStand rowsFrom
+  past-cells : (left : ℕ) (ws : List ℕ) → wordsWellFormed n ars left ws ≡ true
+      → (wordsWellFormed n ars 0 (drop left ws) ≡ true) × (rowsFrom ars left ws ≡ rowsFrom ars 0 (drop left ws))
+  unfolding wordsWellFormed rowsFrom
   past-cells zero ws e = (e, refl)
   past-cells (suc left) [] e = absurd (false≢true e)
   past-cells (suc left) (w ∷ ws) e = past-cells left ws (at-cell n ars left w ws e .1)
@@ -28,10 +28,10 @@ module _ (n : ℕ) (ars : List ℕ) where
 -- a walk that has reached index i: the words from there stand, so a row starts there, or the words end
 pub record Walk (n : ℕ) (ars ws : List ℕ) (i : ℕ) : Type 0 where
   pub within : i ≤ length ws
-  pub stands : wordsStand n ars 0 (drop i ws) ≡ true
+  pub well-formed : wordsWellFormed n ars 0 (drop i ws) ≡ true
 
-pub walk-starts : (n : ℕ) (ars ws : List ℕ) → wordsStand n ars 0 ws ≡ true → Walk n ars ws 0
-walk-starts n ars ws e = record { within = omega arith; stands = e }
+pub walk-starts : (n : ℕ) (ars ws : List ℕ) → wordsWellFormed n ars 0 ws ≡ true → Walk n ars ws 0
+walk-starts n ars ws e = record { within = omega arith; well-formed = e }
 
 -- the row at index i, and the walk after it
 pub record AtRow (n : ℕ) (ars ws : List ℕ) (i : ℕ) : Type 0 where
@@ -50,8 +50,8 @@ module _ (n : ℕ) (ars ws : List ℕ) (i : ℕ) where
   row-here l walk =
       let w = getD ws i 0 in
       let a = arityOf ars w in
-      let here = rest ws i l in
-      let f : wordsStand n ars 0 (w ∷ drop (i + 1) ws) ≡ true = rw here at (walk .stands) in
+      let here = drop-step ws i l in
+      let f : wordsWellFormed n ars 0 (w ∷ drop (i + 1) ws) ≡ true = rw here at (walk .well-formed) in
       let p = at-row n ars w (drop (i + 1) ws) f in
       let q = past-cells n ars a (drop (i + 1) ws) (p .1) in
       let c = cells-first n ars a (drop (i + 1) ws) (p .1) in
@@ -61,7 +61,7 @@ module _ (n : ℕ) (ars ws : List ℕ) (i : ℕ) where
         relation = ltb-true w n (p .0);
         cells = c .1;
         size = c .0;
-        next = record { within = omega (arith, cells-within n ars a (drop (i + 1) ws) (p .1), length-drop (i + 1) ws); stands = rw next at (q .0) };
+        next = record { within = omega (arith, cells-within n ars a (drop (i + 1) ws) (p .1), length-drop (i + 1) ws); well-formed = rw next at (q .0) };
         rows = ap (rowsFrom ars 0) here ∙ ap (λ (rs : List Row). record { relation = w; cells = take a (drop (i + 1) ws) } ∷ rs) (q .1 ∙ ap (rowsFrom ars 0) next);
       }
 
@@ -75,10 +75,10 @@ unfolding rowsFrom
 rows-end ars ws i e = rw (e, drop-length)
 
 -- a relation's number is below eight, and it has at most six columns
-pub relation-few : (n : ℕ) (ars ws : List ℕ) (r : ℕ) → Standing n ars ws → r < n → r < maxRelations
+pub relation-few : (n : ℕ) (ars ws : List ℕ) (r : ℕ) → InstanceWellFormed n ars ws → r < n → r < maxRelations
 relation-few n ars ws r s l = let h = headed n ars (s .header) in omega (arith, h .few)
 
-pub arity-few : (n : ℕ) (ars ws : List ℕ) (r : ℕ) → Standing n ars ws → r < n → arityOf ars r ≤ maxColumns
+pub arity-few : (n : ℕ) (ars ws : List ℕ) (r : ℕ) → InstanceWellFormed n ars ws → r < n → arityOf ars r ≤ maxColumns
 arity-few n ars ws r s l = headed n ars (s .header) .columns r l .1
 
 rows-le : (ars : List ℕ) (left : ℕ) (ws : List ℕ) → length (rowsFrom ars left ws) ≤ length ws

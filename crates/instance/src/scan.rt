@@ -3,7 +3,7 @@ ghost use mathlib.Core.Path.{_≡_};
 ghost use mathlib.Core.Bool.{true};
 ghost use Prim.Native.Nat.{_≤_};
 ghost use lib.ListN.{length};
-ghost use Rattle.instance.specs.Header.{headerStands, maxRelations, maxWords};
+ghost use Rattle.instance.specs.Header.{headerWellFormed, maxRelations, maxWords};
 ghost use Rattle.calculus.specs.Answer.{Tells};
 ghost use Rattle.instance.specs.Sound.{rows, scanned, scannedWords, scannedAs, soundAnswer};
 use super::cells::are_cells;
@@ -18,9 +18,9 @@ pub enum Scanned {
 }
 
 // Whether a header has 1 to 8 relations, of 1 to 6 columns each, and no columns for the others.
-fn header_stands(relations: u32, arities: &[u32; 8]) -> bool
+fn header_well_formed(relations: u32, arities: &[u32; 8]) -> bool
     requires { ⌜ length (now arities) ≡ maxRelations ⌝ }
-    ensures { λ r. ⌜ r ≡ headerStands relations (now (arities .entry)) ⌝ }
+    ensures { λ r. ⌜ r ≡ headerWellFormed relations (now (arities .entry)) ⌝ }
 {
     if relations < 1 {
         return false;
@@ -48,7 +48,7 @@ fn header_stands(relations: u32, arities: &[u32; 8]) -> bool
 
 // The number of rows in the words, or `Unsound` if they are not whole rows of cells.
 fn scan_words(relations: u32, arities: &[u32; 8], words: &[u32]) -> Scanned
-    requires { ⌜ (headerStands relations (now arities) ≡ true) × (length (now words) ≤ maxWords) ⌝ }
+    requires { ⌜ (headerWellFormed relations (now arities) ≡ true) × (length (now words) ≤ maxWords) ⌝ }
     ensures { λ r. ⌜ r ≡ scannedWords relations (now (arities .entry)) (now (words .entry)) ⌝ }
 {
     let mut rows: u32 = 0;
@@ -72,9 +72,9 @@ fn scan_words(relations: u32, arities: &[u32; 8], words: &[u32]) -> Scanned
     Scanned::Rows(rows)
 }
 
-pub fn scan(header: Header, plot: &[u32]) -> Scanned
-    ensures answer { λ r. ⌜ r ≡ scanned header (now (plot .entry)) ⌝ }
-    ensures told { λ r. ⌜ Tells (scannedAs r) (soundAnswer header (now (plot .entry))) (length (rows header (now (plot .entry)))) ⌝ }
+pub fn scan(header: Header, instance: &[u32]) -> Scanned
+    ensures answer { λ r. ⌜ r ≡ scanned header (now (instance .entry)) ⌝ }
+    ensures told { λ r. ⌜ Tells (scannedAs r) (soundAnswer header (now (instance .entry))) (length (rows header (now (instance .entry)))) ⌝ }
 {
     let relations = header.relations;
     let arities = header.arities;
@@ -82,11 +82,11 @@ pub fn scan(header: Header, plot: &[u32]) -> Scanned
     if WORDS < used {
         return Scanned::Unsound;
     }
-    if plot.len() < used {
+    if instance.len() < used {
         return Scanned::Unsound;
     }
-    if !header_stands(relations, &arities) {
+    if !header_well_formed(relations, &arities) {
         return Scanned::Unsound;
     }
-    scan_words(relations, &arities, &plot[..used])
+    scan_words(relations, &arities, &instance[..used])
 }

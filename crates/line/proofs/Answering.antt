@@ -13,13 +13,13 @@ use Rattle.answer.specs.declared.asked.Asked.{Asked}
 use Rattle.answer.specs.declared.asked.Asked.the-variants.{Refused}
 use Rattle.line.specs.Fields.{Fields}
 use Rattle.line.specs.Text.{maxLine}
-use Rattle.line.specs.Line.{askedPlot, askedDecoded, answered, lineFor, lineOf, lineLength, lineOut}
+use Rattle.line.specs.Line.{askedInstance, askedDecoded, answered, lineFor, lineOf, lineLength, lineOut}
 
 module _ (f : Fields) (d : Decoded) {a : Answer} (told : a ≡ d .answer) where
   pub card-refused : {r : ℕ} → a ≡ answer.Refused r → Refused r ≡ askedDecoded f d
   card-refused is = rw (← told, is)
 
-  pub card-read : {used : ℕ} {h : Header} {ws : List ℕ} → a ≡ answer.Done used → h ≡ d .header → ws ≡ d .words → askedPlot f h ws ≡ askedDecoded f d
+  pub card-read : {used : ℕ} {h : Header} {ws : List ℕ} → a ≡ answer.Done used → h ≡ d .header → ws ≡ d .words → askedInstance f h ws ≡ askedDecoded f d
   card-read is head words = rw (head, words, ← told, is)
 
 module _ (input out : List ℕ) where

@@ -9,8 +9,8 @@ use Rattle.calculus.specs.Unify.{unifiesWith}
 use Rattle.calculus.specs.Row.{cellsOf}
 use Rattle.calculus.specs.Cell.{isCell}
 use Rattle.instance.specs.Sound.{sound, rows}
-use Rattle.instance.specs.Header.{aritiesStand, headerStands}
-use Rattle.instance.specs.Rows.{wordsStand, rowsFrom, wordsOf}
+use Rattle.instance.specs.Header.{aritiesWellFormed, headerWellFormed}
+use Rattle.instance.specs.Rows.{wordsWellFormed, rowsFrom, wordsOf}
 use Rattle.card.specs.Decode.{accepted, decodedFrom, decoded}
 use Rattle.instance.specs.Blanks.{blanksIn, blanks, highestOf, writtenOf, highest, numbered, numberedRows}
 use Rattle.parse.specs.Parse.{readByte, readEach}
@@ -31,5 +31,5 @@ abbrev pub input : List ℕ
 input = 0 ∷ 12 ∷ 2 ∷ 1 ∷ 1 ∷ 0 ∷ 2 ∷ 0 ∷ 1 ∷ 0 ∷ 0 ∷ 201 ∷ 1 ∷ 0 ∷ 0 ∷ 32 ∷ 0 ∷ 0 ∷ 0 ∷ 4 ∷ 0 ∷ 0 ∷ 0 ∷ 1 ∷ 0 ∷ 0 ∷ 0 ∷ 2 ∷ 0 ∷ 0 ∷ 0 ∷ 0 ∷ 0 ∷ 0 ∷ 0 ∷ 0 ∷ 0 ∷ 0 ∷ 0 ∷ 0 ∷ 0 ∷ 0 ∷ 0 ∷ 0 ∷ 0 ∷ 0 ∷ 0 ∷ 0 ∷ 0 ∷ 0 ∷ 0 ∷ 1 ∷ 0 ∷ 0 ∷ 0 ∷ 0 ∷ 0 ∷ 30 ∷ 132 ∷ 128 ∷ 0 ∷ 0 ∷ 0 ∷ 0 ∷ 0 ∷ 0 ∷ 0 ∷ 0 ∷ 0 ∷ 0 ∷ 0 ∷ 0 ∷ 0 ∷ 0 ∷ 0 ∷ 0 ∷ 0 ∷ 0 ∷ 0 ∷ 0 ∷ 0 ∷ 0 ∷ 0 ∷ 3 ∷ 0 ∷ 0 ∷ 0 ∷ 3 ∷ 0 ∷ 0 ∷ 0 ∷ 0 ∷ 0 ∷ 0 ∷ 0 ∷ 0 ∷ 0 ∷ 0 ∷ 0 ∷ 0 ∷ 0 ∷ 0 ∷ 0 ∷ 0 ∷ 0 ∷ 0 ∷ 0 ∷ 0 ∷ 0 ∷ 0 ∷ 0 ∷ 0 ∷ 0 ∷ 0 ∷ 0 ∷ 1 ∷ 0 ∷ 0 ∷ 0 ∷ 1 ∷ 0 ∷ 30 ∷ 132 ∷ 128 ∷ 0 ∷ 0 ∷ 0 ∷ 0 ∷ 0 ∷ 0 ∷ 0 ∷ 0 ∷ 0 ∷ 0 ∷ 0 ∷ 0 ∷ 0 ∷ 0 ∷ 0 ∷ 0 ∷ 0 ∷ 0 ∷ 0 ∷ 0 ∷ 1 ∷ 0 ∷ 0 ∷ 201 ∷ 0 ∷ 0 ∷ 0 ∷ 100 ∷ []
 
 pub whole-case : lineOf input ≡ 117 ∷ 110 ∷ 107 ∷ 110 ∷ 111 ∷ 119 ∷ 110 ∷ 32 ∷ 52 ∷ 10 ∷ []
-unfolding eval without distinct tuples some identical stands equality unifiesWith cellsOf isCell sound rows aritiesStand headerStands all wordsStand rowsFrom wordsOf accepted decodedFrom decoded blanksIn blanks highestOf writtenOf highest numbered numberedRows readByte readEach readDigits readHead readField readCardFields readRecord readCard termOf termsAt formulaAt zerosFrom checkTerms checkChild checkNode checkNodes checkQuery rightLength kindOf within askable ask blank askedCard answered lineOf digitsIn lineWith readFields readInput
+unfolding eval without distinct tuples some identical stands equality unifiesWith cellsOf isCell sound rows aritiesWellFormed headerWellFormed all wordsWellFormed rowsFrom wordsOf accepted decodedFrom decoded blanksIn blanks highestOf writtenOf highest numbered numberedRows readByte readEach readDigits readHead readField readCardFields readRecord readCard termOf termsAt formulaAt zerosFrom checkTerms checkChild checkNode checkNodes checkQuery rightLength kindOf within askable ask blank askedCard answered lineOf digitsIn lineWith readFields readInput
 whole-case = refl

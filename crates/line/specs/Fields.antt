@@ -54,7 +54,7 @@ fieldsAt input p = record {
 }
 
 -- places that are within the input
-pub record Standing (input : List ℕ) (p : Places) : Type 0 where
+pub record PlacesWithin (input : List ℕ) (p : Places) : Type 0 where
   pub card : 2 + p .size ≤ length input
   pub words : p .words ≤ length input
   pub words-read : isRead (readNumbers 4 (p .count) (drop (p .words) input)) ≡ true
@@ -69,5 +69,5 @@ foundAs input (found.Refused r) = refused r
 
 -- the places that were found are within the input
 abbrev pub FoundIn : List ℕ → Found → Type 0
-FoundIn input (found.Fields p) = Standing input p
+FoundIn input (found.Fields p) = PlacesWithin input p
 FoundIn input (found.Refused r) = Unit

@@ -29,8 +29,8 @@ abbrev pub lookedAt : ℕ
 lookedAt = (maxNodes + 1) * nodeWords
 
 -- the answer to the question about a plot
-abbrev pub askedPlot : Fields → Header → List ℕ → Asked
-askedPlot f h ws = ask h ws (f .words) (f .candidate) blank (f .budget)
+abbrev pub askedInstance : Fields → Header → List ℕ → Asked
+askedInstance f h ws = ask h ws (f .words) (f .candidate) blank (f .budget)
 
 -- goes on only if the card is accepted
 abbrev pub ifRead : Answer → Asked → Asked
@@ -39,7 +39,7 @@ ifRead (answer.Refused r) a = Refused r
 
 -- "then the card, then the question"
 abbrev pub askedDecoded : Fields → Decoded → Asked
-askedDecoded f d = ifRead (d .answer) (askedPlot f (d .header) (d .words))
+askedDecoded f d = ifRead (d .answer) (askedInstance f (d .header) (d .words))
 
 unfoldable pub askedCard : Fields → Asked
 askedCard f = askedDecoded f (decoded (f .card) blank)
@@ -52,7 +52,7 @@ unfoldable pub answered : List ℕ → Asked
 answered input = askedFields (readInput input)
 
 abbrev pub lineFor : Asked → List ℕ
-lineFor (Verdict truth looks) = verdictLine truth looks
+lineFor (Verdict truth cost) = verdictLine truth cost
 lineFor (Refused r) = refusedLine r
 
 unfoldable pub lineOf : List ℕ → List ℕ

@@ -23,7 +23,7 @@ unfoldable pub lineWith : List ℕ → ℕ → List ℕ
 lineWith word n = word ++ digits n ++ lineFeed ∷ []
 
 abbrev pub verdictLine : Truth → ℕ → List ℕ
-verdictLine t looks = lineWith (wordOf t) looks
+verdictLine t cost = lineWith (wordOf t) cost
 
 abbrev pub refusedLine : ℕ → List ℕ
 refusedLine number = lineWith refusedWord number

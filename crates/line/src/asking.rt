@@ -1,8 +1,8 @@
 // Asks the question of the input.
 ghost use mathlib.Core.Path.{_≡_};
 ghost use Prim.Native.Nat.{min};
-ghost use Rattle.line.specs.Fields.{Standing, fieldsAt};
-ghost use Rattle.line.specs.Line.{lookedAt, askedPlot, askedCard, answered};
+ghost use Rattle.line.specs.Fields.{PlacesWithin, fieldsAt};
+ghost use Rattle.line.specs.Line.{lookedAt, askedInstance, askedCard, answered};
 use super::fields::Found;
 use super::fields::Places;
 use super::fields::find;
@@ -24,9 +24,9 @@ fn looked_at(count: usize) -> usize
 }
 
 // Asks the question at the given places of the input about a plot.
-fn ask_plot(input: &[u8], places: Places, header: Header, plot: &[u32]) -> Asked
-    requires { ⌜ Standing (now input) places ⌝ }
-    ensures { λ r. ⌜ r ≡ askedPlot (fieldsAt (now (input .entry)) places) header (now (plot .entry)) ⌝ }
+fn ask_plot(input: &[u8], places: Places, header: Header, instance: &[u32]) -> Asked
+    requires { ⌜ PlacesWithin (now input) places ⌝ }
+    ensures { λ r. ⌜ r ≡ askedInstance (fieldsAt (now (input .entry)) places) header (now (instance .entry)) ⌝ }
 {
     let mut words = [0u32; LOOKED_AT];
     let count = looked_at(places.count);
@@ -37,7 +37,7 @@ fn ask_plot(input: &[u8], places: Places, header: Header, plot: &[u32]) -> Asked
     let mut list = [0u32; WORDS];
     ask(
         header,
-        plot,
+        instance,
         &words[..count],
         &cells[..arity],
         &mut list,
@@ -47,16 +47,16 @@ fn ask_plot(input: &[u8], places: Places, header: Header, plot: &[u32]) -> Asked
 
 // Decodes the card in the input, and asks the question.
 fn ask_card(input: &[u8], places: Places) -> Asked
-    requires { ⌜ Standing (now input) places ⌝ }
+    requires { ⌜ PlacesWithin (now input) places ⌝ }
     ensures { λ r. ⌜ r ≡ askedCard (fieldsAt (now (input .entry)) places) ⌝ }
 {
     let end = 2 + places.size;
-    let mut plot = [0u32; WORDS];
-    let stored = decode(&input[2..end], &mut plot);
+    let mut instance = [0u32; WORDS];
+    let stored = decode(&input[2..end], &mut instance);
     let answer = stored.answer;
     let header = stored.header;
     match answer {
-        Answer::Done(_) => ask_plot(input, places, header, &plot),
+        Answer::Done(_) => ask_plot(input, places, header, &instance),
         Answer::Refused(why) => Asked::Refused(why),
     }
 }

@@ -25,7 +25,7 @@ pub fn line(input: &[u8], out: &mut [u8]) -> usize
         return 0;
     }
     match answer(input) {
-        Asked::Verdict(truth, looks) => write_verdict(out, truth, looks),
+        Asked::Verdict(truth, cost) => write_verdict(out, truth, cost),
         Asked::Refused(why) => write_refused(out, why),
     }
 }

@@ -32,15 +32,15 @@ fn write_line(out: &mut [u8], word: &[u8], n: u32) -> usize
     end + 1
 }
 
-pub fn write_verdict(out: &mut [u8], truth: Truth, looks: u32) -> usize
+pub fn write_verdict(out: &mut [u8], truth: Truth, cost: u32) -> usize
     requires { ⌜ maxLine ≤ length (now out) ⌝ }
-    ensures length { λ r. ⌜ r ≡ length (verdictLine truth looks) ⌝ }
-    ensures bytes { λ r. ⌜ now (out .exit) ≡ overwrite (verdictLine truth looks) (now (out .entry)) ⌝ }
+    ensures length { λ r. ⌜ r ≡ length (verdictLine truth cost) ⌝ }
+    ensures bytes { λ r. ⌜ now (out .exit) ≡ overwrite (verdictLine truth cost) (now (out .entry)) ⌝ }
 {
     match truth {
-        Truth::True => write_line(out, b"true ", looks),
-        Truth::False => write_line(out, b"false ", looks),
-        Truth::Unknown => write_line(out, b"unknown ", looks),
+        Truth::True => write_line(out, b"true ", cost),
+        Truth::False => write_line(out, b"false ", cost),
+        Truth::Unknown => write_line(out, b"unknown ", cost),
     }
 }
 

@@ -5,12 +5,12 @@ use mathlib.Core.List.{List, [], _∷_}
 use native.Mathlib.Omega.{arith}
 use lib.ListN.{length, getD, take, drop, length-take, length-drop, drop-of-length-le}
 use lib.Seq.{getD-take, getD-drop, length-take-le}
-use Rattle.calculus.proofs.Lists.{rest}
+use Rattle.calculus.proofs.Lists.{drop-step}
 
 -- from index i: the element there, and those from the next index
 pub first-step : (xs : List ℕ) (n i : ℕ) → n ≤ length xs → i < n → drop i (take n xs) ≡ getD xs i 0 ∷ drop (i + 1) (take n xs)
 first-step xs n i m l =
-    rest (take n xs) i (omega (arith, length-take-le n xs m)) ∙ ap (λ (x : ℕ). x ∷ drop (i + 1) (take n xs)) (getD-take n xs i 0 l)
+    drop-step (take n xs) i (omega (arith, length-take-le n xs m)) ∙ ap (λ (x : ℕ). x ∷ drop (i + 1) (take n xs)) (getD-take n xs i 0 l)
 
 -- from index n, none
 pub first-end : (xs : List ℕ) (n i : ℕ) → n ≤ i → drop i (take n xs) ≡ []

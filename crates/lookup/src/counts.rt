@@ -1,12 +1,12 @@
 // How many rows each relation has.
 ghost use mathlib.Core.Path.{_≡_};
 ghost use Rattle.instance.specs.Rows.{rowsFrom};
-ghost use Rattle.instance.specs.Standing.{Standing};
+ghost use Rattle.instance.specs.InstanceWellFormed.{InstanceWellFormed};
 ghost use Rattle.instance.specs.RowCounts.{rowCounts};
 
 // The number of rows of each of the eight relations, in one pass from row to row.
 pub fn row_counts(words: &[u32], arities: &[u32; 8], relations: u32) -> [u32; 8]
-    requires { ⌜ Standing relations (now arities) (now words) ⌝ }
+    requires { ⌜ InstanceWellFormed relations (now arities) (now words) ⌝ }
     ensures { λ r. ⌜ r ≡ rowCounts (rowsFrom (now (arities .entry)) 0 (now (words .entry))) ⌝ }
 {
     let mut counts = [0u32; 8];

@@ -6,7 +6,7 @@ ghost use Rattle.calculus.specs.Closed.{stands, tuples};
 ghost use Rattle.calculus.specs.KindOne.{MeansStands};
 ghost use Rattle.instance.specs.Header.{arityOf, maxColumns};
 ghost use Rattle.instance.specs.Rows.{rowsFrom};
-ghost use Rattle.instance.specs.Standing.{Standing};
+ghost use Rattle.instance.specs.InstanceWellFormed.{InstanceWellFormed};
 use super::row::Match;
 use super::row::compare;
 use calculus::truth::Truth;
@@ -20,7 +20,7 @@ pub fn stands(
     rows: u32,
     row: &[u32; 6],
 ) -> Truth
-    requires { ⌜ Standing relations (now arities) (now words) ⌝ }
+    requires { ⌜ InstanceWellFormed relations (now arities) (now words) ⌝ }
     requires { ⌜ (relation < relations) × (length (now row) ≡ maxColumns) ⌝ }
     requires { ⌜ rows ≡ length (tuples relation (rowsFrom (now arities) 0 (now words))) ⌝ }
     ensures answer { λ r. ⌜ r ≡ stands (tuples relation (rowsFrom (now (arities .entry)) 0 (now (words .entry)))) (take (arityOf (now (arities .entry)) relation) (now (row .entry))) ⌝ }

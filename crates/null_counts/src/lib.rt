@@ -33,19 +33,19 @@ fn count_words(words: &[u32]) -> [u32; 200]
     counts
 }
 
-pub fn null_counts(header: Header, plot: &[u32], counts: &mut [u32]) -> Answer
-    ensures answer { λ r. ⌜ r ≡ counted header (now (plot .entry)) (now (counts .entry)) ⌝ }
-    ensures words { λ r. ⌜ now (counts .exit) ≡ countedWords header (now (plot .entry)) (now (counts .entry)) ⌝ }
-    ensures told { λ r. ⌜ Tells r (counted header (now (plot .entry)) (now (counts .entry))) nulls ⌝ }
+pub fn null_counts(header: Header, instance: &[u32], counts: &mut [u32]) -> Answer
+    ensures answer { λ r. ⌜ r ≡ counted header (now (instance .entry)) (now (counts .entry)) ⌝ }
+    ensures words { λ r. ⌜ now (counts .exit) ≡ countedWords header (now (instance .entry)) (now (counts .entry)) ⌝ }
+    ensures told { λ r. ⌜ Tells r (counted header (now (instance .entry)) (now (counts .entry))) nulls ⌝ }
 {
-    let Scanned::Rows(_) = scan(header, plot) else {
+    let Scanned::Rows(_) = scan(header, instance) else {
         return Answer::Refused(UNSOUND);
     };
     if counts.len() < 200 {
         return Answer::Refused(OUTPUT_TOO_SHORT);
     }
     let used = header.used as usize;
-    let found = count_words(&plot[..used]);
+    let found = count_words(&instance[..used]);
     let mut i = 0;
     while i < 200 {
         counts[i] = found[i];

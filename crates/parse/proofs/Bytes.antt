@@ -7,15 +7,15 @@ use lib.ListN.{length, getD, drop, drop-of-length-le}
 use Rattle.calculus.specs.Demand.{demand}
 use Rattle.calculus.specs.Reading.{read, refused}
 use Rattle.calculus.specs.Refusal.{cut-short}
-use Rattle.calculus.proofs.Lists.{rest}
+use Rattle.calculus.proofs.Lists.{drop-step}
 use Rattle.calculus.proofs.Reading.{refused-read, demand-read}
 use Rattle.parse.specs.Parse.{readByte}
 
 module _ (rule : ℕ → Bool) (why : ℕ) where
-  pub byte-read : (bs : List ℕ) {x : ℕ} {rest : List ℕ} → readByte rule why bs ≡ read x rest → (bs ≡ x ∷ rest) × (rule x ≡ true)
+  pub byte-read : (bs : List ℕ) {x : ℕ} {drop-step : List ℕ} → readByte rule why bs ≡ read x drop-step → (bs ≡ x ∷ drop-step) × (rule x ≡ true)
   unfolding readByte
   byte-read [] e = refused-read e
-  byte-read (b ∷ bs) {x} {rest} e =
+  byte-read (b ∷ bs) {x} {drop-step} e =
       let d = demand-read (rule b) why (read b bs) e in
       let same : x ≡ b = cc (d .1) in
       (cc (d .1), ap rule same ∙ d .0)
@@ -24,7 +24,7 @@ module _ (rule : ℕ → Bool) (why : ℕ) where
   pub byte-at : (bs : List ℕ) (i : ℕ) → i < length bs
       → readByte rule why (drop i bs) ≡ demand (rule (getD bs i 0)) (refused why) (read (getD bs i 0) (drop (i + 1) bs))
   unfolding readByte
-  byte-at bs i l = rw (rest bs i l)
+  byte-at bs i l = rw (drop-step bs i l)
 
   pub byte-cut : (bs : List ℕ) (i : ℕ) → length bs ≤ i → readByte rule why (drop i bs) ≡ refused cut-short
   unfolding readByte

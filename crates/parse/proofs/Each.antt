@@ -6,7 +6,7 @@ use mathlib.Core.List.{List, [], _∷_}
 use native.Mathlib.Omega.{arith}
 use lib.ListN.{length}
 use Rattle.calculus.specs.Reading.{read, refused, andThen}
-use Rattle.calculus.proofs.Bools.{never}
+use Rattle.calculus.proofs.Bools.{false-not-true}
 use Rattle.calculus.proofs.Reading.{then-read}
 use Rattle.parse.specs.Parse.{Parsed, readEach, isRead, got}
 
@@ -35,8 +35,8 @@ module _ {A : Type 0} where
     where
       parts : (p : Parsed (List A)) → isRead (consed x p) ≡ true → (isRead p ≡ true) × (got [] (consed x p) ≡ x ∷ got [] p)
       parts (read xs bs) e = (refl, refl)
-      parts (refused r) e = never e
-  first-read (refused r) next h = never h
+      parts (refused r) e = false-not-true e
+  first-read (refused r) next h = false-not-true h
 
 module _ {A : Type 0} (item : List ℕ → Parsed A) where
   -- What holds of no items, and of an item before others if it holds of those, holds of all items that are read. P is about their number, the bytes, the

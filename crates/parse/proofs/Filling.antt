@@ -8,7 +8,7 @@ use native.Mathlib.Omega.{arith}
 use lib.ListN.{length, drop, set, length-drop}
 use Rattle.calculus.specs.Overwrite.{overwrite}
 use Rattle.calculus.specs.Reading.{read}
-use Rattle.calculus.proofs.Stores.{Written, begin, store, finish}
+use Rattle.calculus.proofs.Stores.{Written, written-begin, written-store, written-finish}
 use Rattle.parse.specs.Parse.{readEach, isRead}
 use Rattle.parse.specs.Number.{readNumber, readNumbers, numbersOf}
 use Rattle.parse.proofs.Each.{each-length}
@@ -29,7 +29,7 @@ fill-start width count at bytes out within reads room =
       few = omega arith;
       within = within;
       reads = rw (sub-zero count) reads;
-      written = rw (sub-zero count) (begin (numbersOf width count (drop at bytes)) out (omega arith));
+      written = rw (sub-zero count) (written-begin (numbersOf width count (drop at bytes)) out (omega arith));
     }
 
 module _ {width count at : ℕ} {bytes out₀ out : List ℕ} {next i : ℕ} (f : Filling width count at bytes out₀ out next i) where
@@ -41,19 +41,19 @@ module _ {width count at : ℕ} {bytes out₀ out : List ℕ} {next i : ℕ} (f 
       let one : width ≤ length (drop next bytes) = numbers-room width (count - (i + 1)) (drop next bytes) (rw (left l) at (f .reads)) in
       omega (arith, length-drop next bytes)
 
-  pub fill-more : {x : ℕ} → i < count → readNumber width (drop next bytes) ≡ read x (drop (next + width) bytes)
+  pub numbers-filled-more : {x : ℕ} → i < count → readNumber width (drop next bytes) ≡ read x (drop (next + width) bytes)
       → Filling width count at bytes out₀ (set out i x) (next + width) (i + 1)
-  fill-more {x} l number =
+  numbers-filled-more {x} l number =
       let m = numbers-more width (count - (i + 1)) x (drop next bytes) (drop (next + width) bytes) number (rw (left l) at (f .reads)) in
       record {
         few = omega arith;
         within = fill-room l;
         reads = m .0;
-        written = store (i + 1) refl (rw (left l, m .1) at (f .written));
+        written = written-store (i + 1) refl (rw (left l, m .1) at (f .written));
       }
 
   pub fill-end : count ≤ i → out ≡ overwrite (numbersOf width count (drop at bytes)) out₀
   unfolding readEach
   fill-end l =
       let none : count - i ≡ 0 = omega arith in
-      finish (rw none at (f .written))
+      written-finish (rw none at (f .written))

@@ -11,7 +11,7 @@ use lib.Dec.{leb}
 use lib.Seq.{drop-drop, take-at}
 use Rattle.calculus.specs.Reading.{read, refused, andThen}
 use Rattle.calculus.specs.Refusal.{cut-short}
-use Rattle.calculus.proofs.Lists.{rest}
+use Rattle.calculus.proofs.Lists.{drop-step}
 use Rattle.calculus.proofs.Reading.{refused-read}
 use Rattle.parse.specs.Parse.{Parsed, readEach, isRead, got}
 use Rattle.parse.specs.Number.{readDigits, readNumber, readNumbers, readBytes, numbersOf}
@@ -21,7 +21,7 @@ use Rattle.parse.proofs.Each.{each-first, each-length}
 pub digit-more : (high left : ℕ) {width : ℕ} (bytes : List ℕ) (at : ℕ) → width ≡ suc left → at < length bytes
     → readDigits high width (drop at bytes) ≡ readDigits (high * 256 + getD bytes at 0) left (drop (at + 1) bytes)
 unfolding readDigits
-digit-more high left bytes at one l = rw (one, rest bytes at l)
+digit-more high left bytes at one l = rw (one, drop-step bytes at l)
 
 -- fewer than n bytes are refused
 abbrev pub Cuts : {A : Type 0} → ℕ → (List ℕ → Parsed A) → Type 0
@@ -33,13 +33,13 @@ pub record Takes {A : Type 0} (n : ℕ) (p : List ℕ → Parsed A) : Type 0 whe
   pub cut : Cuts n p
 
 -- if something was read, there were enough bytes for it
-pub took : {A : Type 0} {n : ℕ} {p : List ℕ → Parsed A} → Takes n p → (bs : List ℕ) {a : A} {rest : List ℕ} → p bs ≡ read a rest
-    → (n ≤ length bs) × (rest ≡ drop n bs)
-took {n = n} {p = p} t bs {a} {rest} e = go (leb n (length bs)) refl
+pub took : {A : Type 0} {n : ℕ} {p : List ℕ → Parsed A} → Takes n p → (bs : List ℕ) {a : A} {drop-step : List ℕ} → p bs ≡ read a drop-step
+    → (n ≤ length bs) × (drop-step ≡ drop n bs)
+took {n = n} {p = p} t bs {a} {drop-step} e = go (leb n (length bs)) refl
   where
-    go : (b : Bool) → leb n (length bs) ≡ b → (n ≤ length bs) × (rest ≡ drop n bs)
+    go : (b : Bool) → leb n (length bs) ≡ b → (n ≤ length bs) × (drop-step ≡ drop n bs)
     go true l = let enough = leb-true n (length bs) l in (enough, cc (t .whole bs enough .1, e))
-    go false l = let short : refused cut-short ≡ read a rest = cc (t .cut bs (leb-false n (length bs) l), e) in refused-read short
+    go false l = let short : refused cut-short ≡ read a drop-step = cc (t .cut bs (leb-false n (length bs) l), e) in refused-read short
 
 module _ {A B : Type 0} {m n : ℕ} {p : List ℕ → Parsed A} {f : A → List ℕ → Parsed B} (t : Takes m p) where
   pub cuts-then : ((a : A) → Cuts n (f a)) → Cuts (m + n) (λ bs. andThen (p bs) f)
@@ -111,15 +111,15 @@ module _ (width : ℕ) where
   numbers-room count bs e = took (takes-number width) bs (each-first (readNumber width) count bs e .was-read) .0
 
   -- the first number, and the numbers after it
-  pub numbers-more : (count x : ℕ) (bs rest : List ℕ) → readNumber width bs ≡ read x rest → isRead (readNumbers width (suc count) bs) ≡ true
-      → (isRead (readNumbers width count rest) ≡ true) × (numbersOf width (suc count) bs ≡ x ∷ numbersOf width count rest)
-  numbers-more count x bs rest first e =
+  pub numbers-more : (count x : ℕ) (bs drop-step : List ℕ) → readNumber width bs ≡ read x drop-step → isRead (readNumbers width (suc count) bs) ≡ true
+      → (isRead (readNumbers width count drop-step) ≡ true) × (numbersOf width (suc count) bs ≡ x ∷ numbersOf width count drop-step)
+  numbers-more count x bs drop-step first e =
       let f = each-first (readNumber width) count bs e in
       let same : f .one ≡ x = cc (f .was-read) in
-      let after : f .between ≡ rest = cc (f .was-read) in
+      let after : f .between ≡ drop-step = cc (f .was-read) in
       (rw after at (f .reads), rw (same, after) at (f .all))
 
   -- the numbers are at the front of a list
-  pub numbers-front : (count : ℕ) (bs rest list : List ℕ) → isRead (readNumbers width count bs) ≡ true → list ≡ numbersOf width count bs ++ rest
+  pub numbers-front : (count : ℕ) (bs drop-step list : List ℕ) → isRead (readNumbers width count bs) ≡ true → list ≡ numbersOf width count bs ++ drop-step
       → take count list ≡ numbersOf width count bs
-  numbers-front count bs rest list e stands = rw stands (take-at (numbersOf width count bs) rest count (each-length (readNumber width) count bs e))
+  numbers-front count bs drop-step list e stands = rw stands (take-at (numbersOf width count bs) drop-step count (each-length (readNumber width) count bs e))

@@ -9,7 +9,7 @@ use borrow.Author.Tests.{ltb-true, eqb-true, eqb-false}
 use lib.ListN.{length-set, getD}
 use lib.Seq.{getD-set-same, getD-set-other}
 use lib.Dec.{ltb, eqb}
-use Rattle.calculus.proofs.Bools.{both}
+use Rattle.calculus.proofs.Bools.{and-parts}
 use Rattle.calculus.specs.Formula.{variables}
 use Rattle.instance.specs.Header.{arityOf}
 use Rattle.query.specs.Words.{Kind, rowStands, equals, negates, noKind, joins, ranges, kindOf, wordAt, nodeCount, maxNodes}
@@ -58,8 +58,8 @@ module _ (count : ℕ) (few : count ≤ maxNodes) (mask i child : ℕ) (s : Scop
   unfolding checkChild
   child-passed {t} e =
       let p = demand-read (isChild count i child s) _ _ e in
-      let q = both (ltb i child && ltb child count) (eqb (getD (s .named) child 0) 0) (p .0) in
-      let o = both (ltb i child) (ltb child count) (q .0) in
+      let q = and-parts (ltb i child && ltb child count) (eqb (getD (s .named) child 0) 0) (p .0) in
+      let o = and-parts (ltb i child) (ltb child count) (q .0) in
       let b = ltb-true i child (o .0) in
       let a = ltb-true child count (o .1) in
       let z = eqb-true (getD (s .named) child 0) 0 (q .1) in
@@ -98,31 +98,31 @@ terms-passed qs mask i j (suc k) s {t} e =
 
 module _ (n : ℕ) (ars qs : List ℕ) where
   -- node i stands in its scope, by its kind; s tells which nodes are named
-  abbrev pub StandsIn : Scopes → ℕ → ℕ → Kind → Type 0
-  StandsIn s i mask rowStands = (wordAt qs i 1 < n) × BoundTerms qs mask i 2 (arityOf ars (wordAt qs i 1))
-  StandsIn s i mask equals = BoundTerms qs mask i 1 2
-  StandsIn s i mask negates = ChildIn (nodeCount qs) s i (wordAt qs i 1) mask
-  StandsIn s i mask (joins j) = ChildIn (nodeCount qs) s i (wordAt qs i 1) mask × ChildIn (nodeCount qs) s i (wordAt qs i 2) mask
-  StandsIn s i mask (ranges j) = (wordAt qs i 1 < variables) × ChildIn (nodeCount qs) s i (wordAt qs i 2) (binding mask (wordAt qs i 1))
-  StandsIn s i mask noKind = ⊥
+  abbrev pub WellFormedIn : Scopes → ℕ → ℕ → Kind → Type 0
+  WellFormedIn s i mask rowStands = (wordAt qs i 1 < n) × BoundTerms qs mask i 2 (arityOf ars (wordAt qs i 1))
+  WellFormedIn s i mask equals = BoundTerms qs mask i 1 2
+  WellFormedIn s i mask negates = ChildIn (nodeCount qs) s i (wordAt qs i 1) mask
+  WellFormedIn s i mask (joins j) = ChildIn (nodeCount qs) s i (wordAt qs i 1) mask × ChildIn (nodeCount qs) s i (wordAt qs i 2) mask
+  WellFormedIn s i mask (ranges j) = (wordAt qs i 1 < variables) × ChildIn (nodeCount qs) s i (wordAt qs i 2) (binding mask (wordAt qs i 1))
+  WellFormedIn s i mask noKind = ⊥
 
-  stands-kept : {s t : Scopes} (i mask : ℕ) (k : Kind) → Kept s t → StandsIn s i mask k → StandsIn t i mask k
-  stands-kept i mask rowStands κ p = p
-  stands-kept i mask equals κ p = p
-  stands-kept i mask negates κ p = child-kept κ p
-  stands-kept i mask (joins j) κ p = (child-kept κ (p .0), child-kept κ (p .1))
-  stands-kept i mask (ranges j) κ p = (p .0, child-kept κ (p .1))
-  stands-kept i mask noKind κ p = p
+  well-formed-kept : {s t : Scopes} (i mask : ℕ) (k : Kind) → Kept s t → WellFormedIn s i mask k → WellFormedIn t i mask k
+  well-formed-kept i mask rowStands κ p = p
+  well-formed-kept i mask equals κ p = p
+  well-formed-kept i mask negates κ p = child-kept κ p
+  well-formed-kept i mask (joins j) κ p = (child-kept κ (p .0), child-kept κ (p .1))
+  well-formed-kept i mask (ranges j) κ p = (p .0, child-kept κ (p .1))
+  well-formed-kept i mask noKind κ p = p
 
   -- what a passed check of a node says
   pub record NodePassed (s : Scopes) (i mask : ℕ) (k : Kind) (t : Scopes) : Type 0 where
-    pub stands : StandsIn t i mask k
+    pub well-formed : WellFormedIn t i mask k
     pub kept : Kept s t
     pub long : Long t
 
   module _ (few : nodeCount qs ≤ maxNodes) (s : Scopes) (l : Long s) where
-    unchanged : {t : Scopes} (i mask : ℕ) (k : Kind) → StandsIn s i mask k → t ≡ s → NodePassed s i mask k t
-    unchanged i mask k p e = rw e (record { stands = p; kept = λ j m h. h; long = l })
+    unchanged : {t : Scopes} (i mask : ℕ) (k : Kind) → WellFormedIn s i mask k → t ≡ s → NodePassed s i mask k t
+    unchanged i mask k p e = rw e (record { well-formed = p; kept = λ j m h. h; long = l })
 
     by-passed : {t : Scopes} (i mask : ℕ) (k : Kind) → checkBy n ars qs i mask s k ≡ passed t → NodePassed s i mask k t
     by-passed i mask rowStands e =
@@ -137,14 +137,14 @@ module _ (n : ℕ) (ars qs : List ℕ) where
     by-passed i mask negates e =
         let p = demand-read (restIsZero qs i 2) _ _ e in
         let c = child-passed (nodeCount qs) few mask i (wordAt qs i 1) s l (p .1) in
-        record { stands = c .named; kept = c .kept; long = c .long }
+        record { well-formed = c .named; kept = c .kept; long = c .long }
     by-passed i mask (joins j) e =
         let p = demand-read (restIsZero qs i 3) _ _ e in
         let b = then-read (checkChild (nodeCount qs) mask i (wordAt qs i 1) s) (λ first. checkChild (nodeCount qs) mask i (wordAt qs i 2)) (p .1) in
         let c = child-passed (nodeCount qs) few mask i (wordAt qs i 1) s l (b .first) in
         let d = child-passed (nodeCount qs) few mask i (wordAt qs i 2) (b .state) (c .long) (b .second) in
         record {
-          stands = (child-kept (d .kept) (c .named), d .named);
+          well-formed = (child-kept (d .kept) (c .named), d .named);
           kept = λ j m h. d .kept j m (c .kept j m h);
           long = d .long;
         }
@@ -152,7 +152,7 @@ module _ (n : ℕ) (ars qs : List ℕ) where
         let p = demand-read (restIsZero qs i 3) _ _ e in
         let q = demand-read (ltb (wordAt qs i 1) variables) _ _ (p .1) in
         let c = child-passed (nodeCount qs) few (binding mask (wordAt qs i 1)) i (wordAt qs i 2) s l (q .1) in
-        record { stands = (ltb-true _ _ (q .0), c .named); kept = c .kept; long = c .long }
+        record { well-formed = (ltb-true _ _ (q .0), c .named); kept = c .kept; long = c .long }
     by-passed i mask noKind e = refused-read e
 
     -- the node is named, and stands by its kind in its scope
@@ -164,23 +164,23 @@ module _ (n : ℕ) (ars qs : List ℕ) where
         (eqb-true _ _ (p .0), by-passed i (getD (s .masks) i 0) (kindOf (wordAt qs i 0)) (p .1))
 
   -- each of the k nodes from i stands in its scope
-  abbrev pub AllStand : Scopes → ℕ → ℕ → Type 0
-  AllStand t i k = (j : ℕ) → i ≤ j → j < i + k → StandsIn t j (getD (t .masks) j 0) (kindOf (wordAt qs j 0))
+  abbrev pub AllWellFormed : Scopes → ℕ → ℕ → Type 0
+  AllWellFormed t i k = (j : ℕ) → i ≤ j → j < i + k → WellFormedIn t j (getD (t .masks) j 0) (kindOf (wordAt qs j 0))
 
   one-more : {s t : Scopes} (i k : ℕ) → getD (s .named) i 0 ≡ 1 → NodePassed s i (getD (s .masks) i 0) (kindOf (wordAt qs i 0)) t → (u : Scopes) → Kept t u
-      → AllStand u (suc i) k → AllStand u i (suc k)
+      → AllWellFormed u (suc i) k → AllWellFormed u i (suc k)
   one-more {s} {t} i k named p u κ all j l m = go (eqb j i) refl
     where
-      go : (b : Bool) → eqb j i ≡ b → StandsIn u j (getD (u .masks) j 0) (kindOf (wordAt qs j 0))
+      go : (b : Bool) → eqb j i ≡ b → WellFormedIn u j (getD (u .masks) j 0) (kindOf (wordAt qs j 0))
       go true e =
           let f = eqb-true j i e in
           let same = κ i _ (p .kept i (getD (s .masks) i 0) (record { named = named; scope = refl })) .scope in
-          rw (f, same) (stands-kept i (getD (s .masks) i 0) (kindOf (wordAt qs i 0)) κ (p .stands))
+          rw (f, same) (well-formed-kept i (getD (s .masks) i 0) (kindOf (wordAt qs i 0)) κ (p .well-formed))
       go false e = let n = eqb-false j i e in all j (omega arith) (omega arith)
 
   -- if the check of nodes is passed, those that were named stay so, and each node stands
   pub nodes-passed : nodeCount qs ≤ maxNodes → (i k : ℕ) (s : Scopes) {t : Scopes} → Long s → checkNodes n ars qs i k s ≡ passed t
-      → Kept s t × AllStand t i k
+      → Kept s t × AllWellFormed t i k
   unfolding checkNodes
   nodes-passed few i zero s {t} l e = let z : t ≡ s = cc in (λ j m h. rw z h, λ j a b. absurd (omega arith))
   nodes-passed few i (suc k) s {t} l e =

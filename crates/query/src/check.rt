@@ -3,7 +3,7 @@ ghost use mathlib.Core.Path.{_≡_};
 ghost use mathlib.Core.Bool.{true};
 ghost use Prim.Native.Nat.{_≤_};
 ghost use lib.ListN.{length};
-ghost use Rattle.instance.specs.Header.{headerStands, maxRelations};
+ghost use Rattle.instance.specs.Header.{headerWellFormed, maxRelations};
 ghost use Rattle.query.specs.Words.{nodeCount, maxNodes, rightLength};
 ghost use Rattle.query.specs.Check.{checkNodes, checkQuery, checkNumber};
 ghost use Rattle.query.specs.Answers.{scopes, Long, Answers};
@@ -21,7 +21,7 @@ fn check_nodes(
     named: &mut [u32; 100],
     masks: &mut [u32; 100],
 ) -> u32
-    requires { ⌜ (headerStands relations (now arities) ≡ true) × (length (now arities) ≡ maxRelations) × (nodeCount (now query) ≤ maxNodes)
+    requires { ⌜ (headerWellFormed relations (now arities) ≡ true) × (length (now arities) ≡ maxRelations) × (nodeCount (now query) ≤ maxNodes)
         × Long (scopes (now named) (now masks)) ⌝ }
     ensures { λ r. ⌜ Answers (checkNodes relations (now (arities .entry)) (now (query .entry)) 0 (nodeCount (now (query .entry)))
         (scopes (now (named .entry)) (now (masks .entry))))
@@ -41,7 +41,7 @@ fn check_nodes(
 
 // The number of the first refusal of a question of the right length and its candidate, or 0.
 pub fn check(relations: u32, arities: &[u32; 8], query: &[u32], candidate: &[u32]) -> u32
-    requires { ⌜ (headerStands relations (now arities) ≡ true) × (length (now arities) ≡ maxRelations) × (rightLength (now query) ≡ true) ⌝ }
+    requires { ⌜ (headerWellFormed relations (now arities) ≡ true) × (length (now arities) ≡ maxRelations) × (rightLength (now query) ≡ true) ⌝ }
     ensures { λ r. ⌜ r ≡ checkNumber (checkQuery relations (now (arities .entry)) (now (query .entry)) (now (candidate .entry))) ⌝ }
 {
     if (COLUMNS as usize) < candidate.len() {

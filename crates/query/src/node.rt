@@ -5,7 +5,7 @@ ghost use mathlib.Core.List.{List};
 ghost use Prim.Native.Nat.{ℕ, _+_, _*_, _≤_, _<_};
 ghost use lib.ListN.{length};
 ghost use Rattle.calculus.specs.Kleene.{Junction};
-ghost use Rattle.instance.specs.Header.{headerStands, maxRelations};
+ghost use Rattle.instance.specs.Header.{headerWellFormed, maxRelations};
 ghost use Rattle.query.specs.Words.{nodeWords, maxNodes, rowStands, equals, negates, joins, ranges};
 ghost use Rattle.query.specs.Scope.{Scopes};
 ghost use Rattle.query.specs.Check.{restIsZero, checkChild, checkBy, checkNode};
@@ -65,7 +65,7 @@ fn check_child(
 
 // Kind 1.
 fn check_atom(relations: u32, arities: &[u32; 8], query: &[u32], node: usize, mask: u32) -> u32
-    requires { ⌜ (headerStands relations (now arities) ≡ true) × (length (now arities) ≡ maxRelations) × (node * nodeWords + nodeWords ≤ length (now query)) ⌝ }
+    requires { ⌜ (headerWellFormed relations (now arities) ≡ true) × (length (now arities) ≡ maxRelations) × (node * nodeWords + nodeWords ≤ length (now query)) ⌝ }
     ensures { λ r. ⌜ ((s : Scopes) → Answers (checkBy relations (now (arities .entry)) (now (query .entry)) node mask s rowStands) r s) ⌝ }
 {
     let relation = query[node * NODE_WORDS + 1];
@@ -196,7 +196,7 @@ pub fn check_node(
     named: &mut [u32; 100],
     masks: &mut [u32; 100],
 ) -> u32
-    requires { ⌜ (headerStands relations (now arities) ≡ true) × (length (now arities) ≡ maxRelations) × AtNode (now query) node (scopes (now named) (now masks)) ⌝ }
+    requires { ⌜ (headerWellFormed relations (now arities) ≡ true) × (length (now arities) ≡ maxRelations) × AtNode (now query) node (scopes (now named) (now masks)) ⌝ }
     ensures { λ r. ⌜ Answers (checkNode relations (now (arities .entry)) (now (query .entry)) node
         (scopes (now (named .entry)) (now (masks .entry))))
         r (scopes (now (named .exit)) (now (masks .exit))) ⌝ }

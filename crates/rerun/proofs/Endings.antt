@@ -18,7 +18,7 @@ use Rattle.instance.specs.declared.header.Header.{Header}
 use Rattle.instance.specs.Header.{maxColumns}
 use Rattle.instance.specs.Sound.{sound, rows}
 use Rattle.instance.specs.Run.{filledWords, modelOf, filledAnswers}
-use Rattle.instance.proofs.Run.{ran}
+use Rattle.instance.proofs.Run.{fills-follow-model}
 use Rattle.query.proofs.Passed as passed
 use Rattle.answer.specs.declared.asked.Asked.{Asked}
 use Rattle.answer.specs.declared.asked.Asked.the-variants as asked
@@ -29,8 +29,8 @@ use Rattle.answer.proofs.RerunLaws.{verdict-asked, not-refused, demand-three}
 use Rattle.rerun.specs.declared.reran.Reran.{Reran}
 use Rattle.rerun.specs.declared.reran.Reran.the-variants.{Refused}
 use Rattle.rerun.specs.Fills.{fillsOf, filledCandidate, stored}
-use Rattle.rerun.specs.Rerun.{bothRuns, firstOf, secondOf, bookWords, runA, runB, listA, hasPlace, begun, reran, reranWords, reranCandidate, reranAnswers, reranBuffer, Claim, TellsRuns}
-use Rattle.rerun.proofs.BookLaws.{candidate-run}
+use Rattle.rerun.specs.Rerun.{bothRuns, firstOf, secondOf, modelWords, runA, runB, bufferA, hasPlace, begun, reran, reranWords, reranCandidate, reranAnswers, reranBuffer, Claim, TellsRuns}
+use Rattle.rerun.proofs.ModelLaws.{candidate-run}
 
 -- asking does not shorten the buffer
 longer : (h : Header) (ws qs candidate buffer : List ℕ) → length buffer ≤ length (askedBuffer h ws qs candidate buffer)
@@ -115,30 +115,30 @@ module _ (h : Header) (ws qs candidate buffer : List ℕ) (budget : ℕ) (fills 
       (is-asked : b ≡ ask h ws′ qs candidate′ list budget) (is-listed : buffer′ ≡ askedBuffer h ws′ qs candidate′ list)
     where
       is-sound : sound h ws ≡ true
-      is-sound = verdict-asked h ws qs candidate buffer budget t n (sym e) .0 .stands
+      is-sound = verdict-asked h ws qs candidate buffer budget t n (sym e) .0 .is-sound
 
-      book-words : ws′ ≡ bookWords h ws qs candidate buffer budget fills out
-      book-words = is-words ∙ ran h (fillsOf fills) ws candidate is-sound .words
+      model-words : ws′ ≡ modelWords h ws qs candidate buffer budget fills out
+      model-words = is-words ∙ fills-follow-model h (fillsOf fills) ws candidate is-sound .words
 
-      book-candidate : candidate′ ≡ run (fillsOf fills) (modelOf h ws candidate) .candidate
-      book-candidate = is-candidate ∙ candidate-run h (fillsOf fills) ws candidate is-sound
+      model-candidate : candidate′ ≡ run (fillsOf fills) (modelOf h ws candidate) .candidate
+      model-candidate = is-candidate ∙ candidate-run h (fillsOf fills) ws candidate is-sound
 
       pub verdicts : Ends (bothRuns (asked.Verdict t n) b) ws′ candidate′ buffer′ out′
       unfolding begun reran reranWords reranCandidate reranAnswers reranBuffer
       verdicts =
           let p = le-leb (length fills) (length out) l in
           let q = sym e in
-          let is-b : b ≡ runB h ws qs candidate buffer budget fills out = rw (← book-words, ← book-candidate, ← is-list) is-asked in
-          let listed : buffer′ ≡ askedBuffer h (bookWords h ws qs candidate buffer budget fills out) qs (run (fillsOf fills) (modelOf h ws candidate) .candidate) (listA h ws qs candidate buffer budget fills out) = rw (← book-words, ← book-candidate, ← is-list) is-listed in
+          let is-b : b ≡ runB h ws qs candidate buffer budget fills out = rw (← model-words, ← model-candidate, ← is-list) is-asked in
+          let listed : buffer′ ≡ askedBuffer h (modelWords h ws qs candidate buffer budget fills out) qs (run (fillsOf fills) (modelOf h ws candidate) .candidate) (bufferA h ws qs candidate buffer budget fills out) = rw (← model-words, ← model-candidate, ← is-list) is-listed in
           let claimed : (u : Truth) (k : ℕ) → runA h ws qs candidate buffer budget fills out ≡ asked.Verdict u k → (firstOf (bothRuns (asked.Verdict t n) b) ≡ asked.Verdict u k) × Rerun h ws qs candidate (fillsOf fills) u k (secondOf (bothRuns (asked.Verdict t n) b)) =
           λ u k v.
           let d = demand-three h ws qs candidate buffer budget (fillsOf fills) list budget (rw is-list (longer h ws qs candidate buffer)) (omega arith) u k v in
-          let is-second : b ≡ ask h (filledWords h (fillsOf fills) ws) qs (run (fillsOf fills) (modelOf h ws candidate) .candidate) list budget = rw (is-asked, is-words, book-candidate) refl in
+          let is-second : b ≡ ask h (filledWords h (fillsOf fills) ws) qs (run (fillsOf fills) (modelOf h ws candidate) .candidate) list budget = rw (is-asked, is-words, model-candidate) refl in
           (first-both t n b (d .truth) (d .cost) (is-second ∙ d .answers) ∙ e ∙ v, rw (second-both t n b, is-second) d)
           in (
             rw (p, q) (ap (bothRuns (asked.Verdict t n)) is-b),
             (
-              rw (p, q) book-words,
-              (rw (p, q) book-candidate, (rw (p, q) listed, (rw (p, q) (rw (is-stored, ran h (fillsOf fills) ws candidate is-sound .answered) refl), (λ l′. claimed, told (rw (p, q) (ap (bothRuns (asked.Verdict t n)) is-b)))))),
+              rw (p, q) model-words,
+              (rw (p, q) model-candidate, (rw (p, q) listed, (rw (p, q) (rw (is-stored, fills-follow-model h (fillsOf fills) ws candidate is-sound .answered) refl), (λ l′. claimed, told (rw (p, q) (ap (bothRuns (asked.Verdict t n)) is-b)))))),
             ),
           )

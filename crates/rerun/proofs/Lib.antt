@@ -1,3 +1,3 @@
 pub mod FillLaws
-pub mod BookLaws
+pub mod ModelLaws
 pub mod Endings

@@ -10,7 +10,7 @@ use Rattle.calculus.specs.declared.answer.Answer.the-variants as answer
 use Rattle.calculus.specs.declared.truth.Truth.{Truth}
 use Rattle.calculus.specs.Answer.{after}
 use Rattle.calculus.specs.Refusal.{output-too-short}
-use Rattle.calculus.specs.Model.{Model, run, answers, asked as outcome}
+use Rattle.calculus.specs.Model.{Model, run, answers, outcomeOf as outcome}
 use Rattle.instance.specs.declared.header.Header.{Header}
 use Rattle.instance.specs.Rows.{wordsOf}
 use Rattle.instance.specs.Run.{modelOf}
@@ -50,22 +50,22 @@ module _ (h : Header) (ws qs candidate buffer : List ℕ) (budget : ℕ) (fills 
   abbrev pub start : Model
   start = modelOf h ws candidate
 
-  abbrev pub book : Model
-  book = run (fillsOf fills) start
+  abbrev pub modelAfter : Model
+  modelAfter = run (fillsOf fills) start
 
   -- "afterwards the words in use are the book's rows, all other words and the head are A's"
-  abbrev pub bookWords : List ℕ
-  bookWords = wordsOf (book .rows) ++ drop (h .used) ws
+  abbrev pub modelWords : List ℕ
+  modelWords = wordsOf (modelAfter .rows) ++ drop (h .used) ws
 
   -- "B asks with the book's candidate", and with the buffer that A left
   abbrev pub runA : Asked
   runA = ask h ws qs candidate buffer budget
 
-  abbrev pub listA : List ℕ
-  listA = askedBuffer h ws qs candidate buffer
+  abbrev pub bufferA : List ℕ
+  bufferA = askedBuffer h ws qs candidate buffer
 
   abbrev pub runB : Asked
-  runB = ask h bookWords qs (book .candidate) listA budget
+  runB = ask h modelWords qs (modelAfter .candidate) bufferA budget
 
   -- the slice for the answers is at least as long as the slice of the fills
   abbrev pub hasPlace : Bool
@@ -80,16 +80,16 @@ module _ (h : Header) (ws qs candidate buffer : List ℕ) (budget : ℕ) (fills 
 
   -- what is left of the instance's words, the candidate, the slice for the answers and the buffer
   unfoldable pub reranWords : List ℕ
-  reranWords = after begun bookWords ws
+  reranWords = after begun modelWords ws
 
   unfoldable pub reranCandidate : List ℕ
-  reranCandidate = after begun (book .candidate) candidate
+  reranCandidate = after begun (modelAfter .candidate) candidate
 
   unfoldable pub reranAnswers : List ℕ
   reranAnswers = after begun (stored (answers (fillsOf fills) start) out) out
 
   unfoldable pub reranBuffer : List ℕ
-  reranBuffer = cond hasPlace (after begun (askedBuffer h bookWords qs (book .candidate) listA) listA) buffer
+  reranBuffer = cond hasPlace (after begun (askedBuffer h modelWords qs (modelAfter .candidate) bufferA) bufferA) buffer
 
   -- demand 3 for the answer, if there is room for the fills' answers and A gets a verdict: r has it, and B is not refused, keeps it if it is true or
   -- false, costs no more, and is the verdict of two-valued logic if no null is left
@@ -101,4 +101,4 @@ module _ (h : Header) (ws qs candidate buffer : List ℕ) (budget : ℕ) (fills 
   -- the answer in the paper's numbers: that of run A, and that of run B on what the fills left
   pub record TellsRuns (r : Reran) : Type 0 where
     pub first : TellsVerdict (firstOf r) (firstOf reran) (outcome start (formulaOf (h .arities) qs))
-    pub second : TellsVerdict (secondOf r) (secondOf reran) (outcome (modelOf h bookWords (book .candidate)) (formulaOf (h .arities) qs))
+    pub second : TellsVerdict (secondOf r) (secondOf reran) (outcome (modelOf h modelWords (modelAfter .candidate)) (formulaOf (h .arities) qs))

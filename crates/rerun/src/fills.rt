@@ -15,13 +15,13 @@ use substitute::replace;
 use substitute::substitute;
 
 // "each accepted one is made in the candidate too"
-fn fill(header: Header, plot: &mut [u32], candidate: &mut [u32], mark: u32, cell: u32) -> Answer
+fn fill(header: Header, instance: &mut [u32], candidate: &mut [u32], mark: u32, cell: u32) -> Answer
     requires { ⌜ length (now candidate) ≤ maxWords ⌝ }
-    ensures answer { λ r. ⌜ r ≡ substituted header (now (plot .entry)) mark cell ⌝ }
-    ensures words { λ r. ⌜ now (plot .exit) ≡ substitutedWords header (now (plot .entry)) mark cell ⌝ }
-    ensures candidate { λ r. ⌜ now (candidate .exit) ≡ after (substituted header (now (plot .entry)) mark cell) (map (put mark cell) (now (candidate .entry))) (now (candidate .entry)) ⌝ }
+    ensures answer { λ r. ⌜ r ≡ substituted header (now (instance .entry)) mark cell ⌝ }
+    ensures words { λ r. ⌜ now (instance .exit) ≡ substitutedWords header (now (instance .entry)) mark cell ⌝ }
+    ensures candidate { λ r. ⌜ now (candidate .exit) ≡ after (substituted header (now (instance .entry)) mark cell) (map (put mark cell) (now (candidate .entry))) (now (candidate .entry)) ⌝ }
 {
-    let answer = substitute(header, plot, mark, cell);
+    let answer = substitute(header, instance, mark, cell);
     if let Answer::Done(_) = answer {
         replace(candidate, mark, cell);
     }
@@ -48,19 +48,19 @@ fn store(answers: &mut [u32], answer: Answer)
 // Makes the fills one by one; each gets the instance and the candidate as the last one left them.
 pub fn fill_all(
     header: Header,
-    plot: &mut [u32],
+    instance: &mut [u32],
     candidate: &mut [u32],
     fills: &[u32],
     answers: &mut [u32],
 )
     requires { ⌜ (length (now candidate) ≤ maxWords) × (length (now fills) ≤ length (now answers)) ⌝ }
-    ensures words { λ _. ⌜ now (plot .exit) ≡ filledWords header (fillsOf (now (fills .entry))) (now (plot .entry)) ⌝ }
-    ensures candidate { λ _. ⌜ now (candidate .exit) ≡ filledCandidate header (fillsOf (now (fills .entry))) (now (plot .entry)) (now (candidate .entry)) ⌝ }
-    ensures answers { λ _. ⌜ now (answers .exit) ≡ stored (filledAnswers header (fillsOf (now (fills .entry))) (now (plot .entry))) (now (answers .entry)) ⌝ }
+    ensures words { λ _. ⌜ now (instance .exit) ≡ filledWords header (fillsOf (now (fills .entry))) (now (instance .entry)) ⌝ }
+    ensures candidate { λ _. ⌜ now (candidate .exit) ≡ filledCandidate header (fillsOf (now (fills .entry))) (now (instance .entry)) (now (candidate .entry)) ⌝ }
+    ensures answers { λ _. ⌜ now (answers .exit) ≡ stored (filledAnswers header (fillsOf (now (fills .entry))) (now (instance .entry))) (now (answers .entry)) ⌝ }
 {
     let mut i = 0;
     while i + 1 < fills.len() {
-        let answer = fill(header, plot, candidate, fills[i], fills[i + 1]);
+        let answer = fill(header, instance, candidate, fills[i], fills[i + 1]);
         store(&mut answers[i..], answer);
         i += 2;
     }

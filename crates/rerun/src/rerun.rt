@@ -11,7 +11,7 @@ use instance::header::Header;
 // Two words of `fills` are a fill: a null's number and a cell; its answer goes to the same indices of `answers`. No fill is made if run A is refused.
 pub fn rerun(
     header: Header,
-    plot: &mut [u32],
+    instance: &mut [u32],
     query: &[u32],
     candidate: &mut [u32],
     buffer: &mut [u32],
@@ -19,22 +19,22 @@ pub fn rerun(
     fills: &[u32],
     answers: &mut [u32],
 ) -> Reran
-    ensures answer { λ r. ⌜ r ≡ reran header (now (plot .entry)) (now (query .entry)) (now (candidate .entry)) (now (buffer .entry)) budget (now (fills .entry)) (now (answers .entry)) ⌝ }
-    ensures words { λ r. ⌜ now (plot .exit) ≡ reranWords header (now (plot .entry)) (now (query .entry)) (now (candidate .entry)) (now (buffer .entry)) budget (now (fills .entry)) (now (answers .entry)) ⌝ }
-    ensures candidate { λ r. ⌜ now (candidate .exit) ≡ reranCandidate header (now (plot .entry)) (now (query .entry)) (now (candidate .entry)) (now (buffer .entry)) budget (now (fills .entry)) (now (answers .entry)) ⌝ }
-    ensures buffer { λ r. ⌜ now (buffer .exit) ≡ reranBuffer header (now (plot .entry)) (now (query .entry)) (now (candidate .entry)) (now (buffer .entry)) budget (now (fills .entry)) (now (answers .entry)) ⌝ }
-    ensures answers { λ r. ⌜ now (answers .exit) ≡ reranAnswers header (now (plot .entry)) (now (query .entry)) (now (candidate .entry)) (now (buffer .entry)) budget (now (fills .entry)) (now (answers .entry)) ⌝ }
-    ensures claim { λ r. ⌜ Claim header (now (plot .entry)) (now (query .entry)) (now (candidate .entry)) (now (buffer .entry)) budget (now (fills .entry)) (now (answers .entry)) r ⌝ }
-    ensures told { λ r. ⌜ TellsRuns header (now (plot .entry)) (now (query .entry)) (now (candidate .entry)) (now (buffer .entry)) budget (now (fills .entry)) (now (answers .entry)) r ⌝ }
+    ensures answer { λ r. ⌜ r ≡ reran header (now (instance .entry)) (now (query .entry)) (now (candidate .entry)) (now (buffer .entry)) budget (now (fills .entry)) (now (answers .entry)) ⌝ }
+    ensures words { λ r. ⌜ now (instance .exit) ≡ reranWords header (now (instance .entry)) (now (query .entry)) (now (candidate .entry)) (now (buffer .entry)) budget (now (fills .entry)) (now (answers .entry)) ⌝ }
+    ensures candidate { λ r. ⌜ now (candidate .exit) ≡ reranCandidate header (now (instance .entry)) (now (query .entry)) (now (candidate .entry)) (now (buffer .entry)) budget (now (fills .entry)) (now (answers .entry)) ⌝ }
+    ensures buffer { λ r. ⌜ now (buffer .exit) ≡ reranBuffer header (now (instance .entry)) (now (query .entry)) (now (candidate .entry)) (now (buffer .entry)) budget (now (fills .entry)) (now (answers .entry)) ⌝ }
+    ensures answers { λ r. ⌜ now (answers .exit) ≡ reranAnswers header (now (instance .entry)) (now (query .entry)) (now (candidate .entry)) (now (buffer .entry)) budget (now (fills .entry)) (now (answers .entry)) ⌝ }
+    ensures claim { λ r. ⌜ Claim header (now (instance .entry)) (now (query .entry)) (now (candidate .entry)) (now (buffer .entry)) budget (now (fills .entry)) (now (answers .entry)) r ⌝ }
+    ensures told { λ r. ⌜ TellsRuns header (now (instance .entry)) (now (query .entry)) (now (candidate .entry)) (now (buffer .entry)) budget (now (fills .entry)) (now (answers .entry)) r ⌝ }
 {
     if answers.len() < fills.len() {
         return Reran::Refused(OUTPUT_TOO_SHORT);
     }
-    match ask(header, plot, query, candidate, buffer, budget) {
+    match ask(header, instance, query, candidate, buffer, budget) {
         Asked::Refused(why_a) => Reran::Refused(why_a),
         Asked::Verdict(truth_a, cost_a) => {
-            fill_all(header, plot, candidate, fills, answers);
-            match ask(header, plot, query, candidate, buffer, budget) {
+            fill_all(header, instance, candidate, fills, answers);
+            match ask(header, instance, query, candidate, buffer, budget) {
                 Asked::Refused(why_b) => Reran::Refused(why_b),
                 Asked::Verdict(truth_b, cost_b) => Reran::Verdicts(
                     truth_a,

@@ -40,12 +40,12 @@ pub fn replace(words: &mut [u32], mark: u32, cell: u32) -> u32
     count
 }
 
-pub fn substitute(header: Header, plot: &mut [u32], mark: u32, cell: u32) -> Answer
-    ensures answer { λ r. ⌜ r ≡ substituted header (now (plot .entry)) mark cell ⌝ }
-    ensures words { λ r. ⌜ now (plot .exit) ≡ substitutedWords header (now (plot .entry)) mark cell ⌝ }
-    ensures told { λ r. ⌜ Tells r (substituted header (now (plot .entry)) mark cell) (held mark (rows header (now (plot .entry)))) ⌝ }
+pub fn substitute(header: Header, instance: &mut [u32], mark: u32, cell: u32) -> Answer
+    ensures answer { λ r. ⌜ r ≡ substituted header (now (instance .entry)) mark cell ⌝ }
+    ensures words { λ r. ⌜ now (instance .exit) ≡ substitutedWords header (now (instance .entry)) mark cell ⌝ }
+    ensures told { λ r. ⌜ Tells r (substituted header (now (instance .entry)) mark cell) (held mark (rows header (now (instance .entry)))) ⌝ }
 {
-    let Scanned::Rows(_) = scan(header, plot) else {
+    let Scanned::Rows(_) = scan(header, instance) else {
         return Answer::Refused(UNSOUND);
     };
     if mark < 1 {
@@ -58,7 +58,7 @@ pub fn substitute(header: Header, plot: &mut [u32], mark: u32, cell: u32) -> Ans
         return Answer::Refused(NOT_A_CELL);
     }
     let used = header.used as usize;
-    let count = replace(&mut plot[..used], mark, cell);
+    let count = replace(&mut instance[..used], mark, cell);
     if count == 0 {
         return Answer::Refused(NULL_ABSENT);
     }

@@ -33,7 +33,7 @@ module _ (c : tie.After-known-told3) where
   opened = c .before .before .before .before .before
 
   carded :
-      CardRead (start opened .args .card .now) (start opened .args .plot .now) (head opened .read-head .result .relations) (head opened .read-head .result .arities)
+      CardRead (start opened .args .card .now) (start opened .args .instance .now) (head opened .read-head .result .relations) (head opened .read-head .result .arities)
       (opened .before .opened .given .0 .0) (headed opened) (c .before .needed .given .0 .0)
   carded = card-read _ _ _ _ _ (headed opened) _ (sym (c .before .before .before .measure .ensures .0) ∙ c .before .needed .given .1)
 
@@ -42,7 +42,7 @@ module _ (c : tie.Else3) where
   abbrev all : tie.After-known-told3
   all = c .before .before .before .before .before .before .before
 
-  room : hasRoom (all .before .needed .given .0 .0 .words) (length (start (opened all) .args .plot .now)) ≡ true
+  room : hasRoom (all .before .needed .given .0 .0 .words) (length (start (opened all) .args .instance .now)) ≡ true
   room = sym (c .before .has-room .ensures) ∙ not-false (c .before .has-room .result) (c .if3 .left)
 
 read-head-requires : tie.Need-read-head-requires
@@ -61,7 +61,7 @@ returns : tie.Need-returns
 returns c =
     let head = c .before .before .before .before .before in
     decode-told _ _
-    (down _ (head .before .before .before .args .plot .now) (c .before .before .opened2 .given .0 .0) (c .refused .ensures .0) (c .refused .ensures .1)
+    (down _ (head .before .before .before .args .instance .now) (c .before .before .opened2 .given .0 .0) (c .refused .ensures .0) (c .refused .ensures .1)
     (head-turned _ _ _ (ap (λ r. r .answer) (sym (head .read-head .ensures .0)) ∙ c .before .before .opened2 .given .1)))
 
 cast-start : tie.Need-cast-start
@@ -73,7 +73,7 @@ add-start c = search needs
 measure-requires : tie.Need-measure-requires
 measure-requires c κs =
     let h = headed (c .before) in
-    (h .long, (h .few, (h .stand, counted (c .before))))
+    (h .long, (h .few, (h .arities-well-formed, counted (c .before))))
 
 enum-known-needed : tie.Need-enum-known-needed
 enum-known-needed c = search needs
@@ -89,7 +89,7 @@ returns-2 c =
     let measured = c .before .before .before .before in
     let opened = measured .before .before in
     decode-told _ _
-    (down _ (start opened .args .plot .now) (c .before .before .needed2 .given .0 .0) (c .refused2 .ensures .0) (c .refused2 .ensures .1)
+    (down _ (start opened .args .instance .now) (c .before .before .needed2 .given .0 .0) (c .refused2 .ensures .0) (c .refused2 .ensures .1)
     (records-turned _ _ _ _ _ (headed opened) _ (sym (measured .measure .ensures .0) ∙ c .before .before .needed2 .given .1)))
 
 refused-requires-3 : tie.Need-refused-requires-3

@@ -10,7 +10,7 @@ use Rattle.calculus.specs.Row.{Row, cellsOf}
 use Rattle.instance.specs.Header.{arityOf, maxRelations}
 use Rattle.instance.specs.Rows.{rowsFrom}
 use Rattle.instance.proofs.Walk.{Walk, walk-starts, AtRow, row-here, rows-end, relation-few, row-lent}
-use Rattle.domain.specs.Chains.{valueOf, Chained}
+use Rattle.domain.specs.Chains.{wordValue, Chained}
 use Rattle.domain.proofs.Chains.{chained-starts}
 use Rattle.domain.proofs.Listing.{Listing, listing-starts, listing-row, listing-room, listing-fits, listing-number, listing-ends}
 use Rattle.domain.proofs.list_values.Statement.{statement}
@@ -140,7 +140,7 @@ unlink-requires c κs = search needs
 same-length : tie.Need-same-length Inv-loop μ-loop
 same-length c =
     let e = c .before .before .before .before .before .loop in
-    let l = ap length (c .before .before .unlink .ensures) ∙ length-map (take (e .n) (e .buffer)) valueOf in
+    let l = ap length (c .before .before .unlink .ensures) ∙ length-map (take (e .n) (e .buffer)) wordValue in
     length-front (e .buffer) (c .before .before .unlink .last .0) (e .n) l ∙ e .inv .3 .added .long
 
 returns : tie.Need-returns Inv-loop μ-loop

@@ -13,7 +13,7 @@ use Rattle.instance.specs.Sound.{sound, rows}
 use Rattle.instance.proofs.Rows.{headed}
 use Rattle.instance.proofs.Sound.{scanned-sound, scanned-unsound, scanned-rows, Sound, sound-gives}
 use Rattle.card.specs.Encode.{cardBytes}
-use Rattle.encode.proofs.RecordSteps.{more-stand}
+use Rattle.encode.proofs.RecordSteps.{more-well-formed}
 use Rattle.encode.proofs.Encoding.{all-written, record-size, card-size, refused-unsound, refused-short, done, encode-told}
 use Rattle.encode.proofs.encode.Statement.{statement}
 use Rattle.encode.proofs.encode.Tie as tie
@@ -26,7 +26,7 @@ module _ (c : tie.After-struct-known) where
   h = start .args .header
 
   abbrev ws : List ℕ
-  ws = start .args .plot .now
+  ws = start .args .instance .now
 
   abbrev out : List ℕ
   out = start .args .out .now
@@ -34,14 +34,14 @@ module _ (c : tie.After-struct-known) where
   abbrev count : ℕ
   count = c .before .before .before .count .given .0 .0
 
-  stands : sound h ws ≡ true
-  stands = scanned-sound h ws count (sym (c .before .before .before .before .before .scan .ensures .0) ∙ c .before .before .before .count .given .1)
+  is-sound : sound h ws ≡ true
+  is-sound = scanned-sound h ws count (sym (c .before .before .before .before .before .scan .ensures .0) ∙ c .before .before .before .count .given .1)
 
   is-count : length (rows h ws) ≡ count
   is-count = scanned-rows h ws count (sym (c .before .before .before .before .before .scan .ensures .0) ∙ c .before .before .before .count .given .1)
 
   abbrev given : Sound h ws
-  given = sound-gives h ws stands
+  given = sound-gives h ws is-sound
 
   eight : length (h .arities) ≡ maxRelations
   eight = search needs
@@ -50,7 +50,7 @@ module _ (c : tie.After-struct-known) where
   size = h .relations + 3 + (3 * h .used - count)
 
   is-size : length (cardBytes h (rows h ws)) ≡ size
-  is-size = rw is-count at (card-size h ws stands eight)
+  is-size = rw is-count at (card-size h ws is-sound eight)
 
 -- after the head was written
 abbrev begun : tie.After-write-head → tie.After-struct-known
@@ -84,18 +84,18 @@ cast-size : tie.Need-cast-size
 cast-size c = search needs
 
 sub-size : tie.Need-sub-size
-sub-size c = omega (arith, record-size (h c) (ws c) (stands c) (eight c), is-count c)
+sub-size c = omega (arith, record-size (h c) (ws c) (is-sound c) (eight c), is-count c)
 
 add-size : tie.Need-add-size
 add-size c = search needs
 
 returns-2 : tie.Need-returns-2
-returns-2 c = encode-told _ _ _ (refused-short _ _ _ (stands (c .before)) (omega (arith, is-size (c .before))))
+returns-2 c = encode-told _ _ _ (refused-short _ _ _ (is-sound (c .before)) (omega (arith, is-size (c .before))))
 
 write-head-requires : tie.Need-write-head-requires
 write-head-requires c κs =
     let b = c .before .before .before in
-    (given b .standing .header, eight b, omega arith)
+    (given b .well-formed .header, eight b, omega arith)
 
 sub-write-records : tie.Need-sub-write-records
 sub-write-records c = search needs
@@ -117,9 +117,9 @@ write-records-requires c κs =
     let g = given b in (
       g .headed .narrow,
       (
-        more-stand (h b .relations) maxRelations (h b .arities) (g .headed .few) 0 _ (g .standing .words),
+        more-well-formed (h b .relations) maxRelations (h b .arities) (g .headed .few) 0 _ (g .well-formed .words),
         simp (length-take, length-drop)
-            (omega (arith, record-size (h b) (ws b) (stands b) (eight b), is-count b, w .write-head .kept .0, w .before .before .before .if1 .left)),
+            (omega (arith, record-size (h b) (ws b) (is-sound b) (eight b), is-count b, w .write-head .kept .0, w .before .before .before .if1 .left)),
       ),
     )
 
@@ -137,11 +137,11 @@ returns-3 c =
     let w = c .before .before .before .before .before .before .before .before in
     let b = begun w in
     let room : length (cardBytes (h b) (rows (h b) (ws b))) ≤ length (out b) = rw (is-size b) (w .before .before .before .if1 .left) in
-    let d = done (h b) (ws b) (out b) (stands b) room in
+    let d = done (h b) (ws b) (out b) (is-sound b) room in
     let records = c .before .before .write-records in
     encode-told (h b) (ws b) (out b) (
       rw (is-size b) at (d .0),
-      all-written (h b) (ws b) (stands b) (eight b) (out b) (w .write-head .last .0) (records .last .0) (count b) (is-count b) room (w .write-head .ensures) (records .ensures) ∙ d .1,
+      all-written (h b) (ws b) (is-sound b) (eight b) (out b) (w .write-head .last .0) (records .last .0) (count b) (is-count b) room (w .write-head .ensures) (records .ensures) ∙ d .1,
     )
 
 pub encode-spec : {M : Type 1} → statement M

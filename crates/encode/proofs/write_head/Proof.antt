@@ -6,8 +6,8 @@ use native.Mathlib.Omega.{arith}
 use lib.ListN.{length, take, drop, getD, set, length-set, length-take, length-append}
 use lib.Seq.{drop-set-lt, length-take-le, getD-take, drop-length}
 use Rattle.instance.proofs.Rows.{headed}
-use Rattle.calculus.proofs.Lists.{rest}
-use Rattle.calculus.proofs.Stores.{Written, begin, store, anew, finish}
+use Rattle.calculus.proofs.Lists.{drop-step}
+use Rattle.calculus.proofs.Stores.{Written, written-begin, written-store, written-anew, written-finish}
 use Rattle.encode.proofs.write_head.Statement.{statement}
 use Rattle.encode.proofs.write_head.Tie as tie
 
@@ -32,15 +32,15 @@ module _ (c : tie.Start Inv-loop μ-loop) where
   starts : Written (whole (c .args .relations) (c .args .arities .now) (c .args .count)) (take (c .args .relations) (c .args .arities .now) ++ counted (c .args .count))
       (c .args .out .now) (set (c .args .out .now) 0 (c .args .relations)) 1
   starts =
-      store 1 refl
-      (begin (whole (c .args .relations) (c .args .arities .now) (c .args .count)) (c .args .out .now)
+      written-store 1 refl
+      (written-begin (whole (c .args .relations) (c .args .arities .now) (c .args .count)) (c .args .out .now)
       (simp (length-append, length-take) (omega arith)))
 
 -- the next arity
 next : (n i : ℕ) (ars vs : List ℕ) → i < n → n ≤ length ars → drop i (take n ars) ++ vs ≡ getD ars i 0 ∷ drop (i + 1) (take n ars) ++ vs
 next n i ars vs l long =
     let within : i < length (take n ars) = simp length-take (omega arith) in
-    rw (rest (take n ars) i within, getD-take n ars i 0 l)
+    rw (drop-step (take n ars) i within, getD-take n ars i 0 l)
 
 -- the whole head, before the bytes that keep their content
 closing : (n count : ℕ) (ars out : List ℕ) → n ≤ length ars
@@ -65,7 +65,7 @@ slice-write-out : tie.Need-slice-write-out Inv-loop μ-loop
 slice-write-out c = omega arith
 
 loop-holds : tie.Need-loop-holds Inv-loop μ-loop
-loop-holds c = (omega arith, anew (starts c))
+loop-holds c = (omega arith, written-anew (starts c))
 
 mul-out : tie.Need-mul-out Inv-loop μ-loop
 mul-out c = omega (arith, few (c .before .before))
@@ -89,7 +89,7 @@ loop-less : tie.Need-loop-less Inv-loop μ-loop
 loop-less c = omega arith
 
 loop-again : tie.Need-loop-again Inv-loop μ-loop
-loop-again c = (omega arith, store _ refl (goes-on (c .before)))
+loop-again c = (omega arith, written-store _ refl (goes-on (c .before)))
 
 module _ (c : tie.After-loop Inv-loop μ-loop) where
   ends : Written (whole (c .before .before .args .relations) (c .before .before .args .arities .now) (c .before .before .args .count)) (counted (c .before .before .args .count))
@@ -126,8 +126,8 @@ same-length c = simp length-set (c .before .loop .inv .1 .same ∙ length-set (c
 returns : tie.Need-returns Inv-loop μ-loop
 returns c =
     let n = c .before .before .args .relations in
-    let w = store (n + 3) (omega arith) (store (n + 2) (omega arith) (ends c)) in
-    finish w ∙ closing n (c .before .before .args .count) (c .before .before .args .arities .now) (c .before .before .args .out .now) (omega (arith, few (c .before .before)))
+    let w = written-store (n + 3) (omega arith) (written-store (n + 2) (omega arith) (ends c)) in
+    written-finish w ∙ closing n (c .before .before .args .count) (c .before .before .args .arities .now) (c .before .before .args .out .now) (omega (arith, few (c .before .before)))
 
 pub write-head-spec : {M : Type 1} → statement M
 write-head-spec =

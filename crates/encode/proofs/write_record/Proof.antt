@@ -5,7 +5,7 @@ use mathlib.Core.List.{List, _∷_, _++_, []}
 use native.Mathlib.Omega.{arith}
 use lib.ListN.{length, drop, getD, length-set, set}
 use lib.Seq.{drop-length, drop-set-lt}
-use Rattle.calculus.proofs.Stores.{Written, begin, store, finish, anew}
+use Rattle.calculus.proofs.Stores.{Written, written-begin, written-store, written-finish, written-anew}
 use Rattle.card.specs.Encode.{fieldBytes, fieldsBytes, fullMap}
 use Rattle.encode.proofs.RecordSteps.{fields-size, fields-rest, full-maps}
 use Rattle.encode.proofs.write_record.Statement.{statement}
@@ -34,7 +34,7 @@ module _ (c : tie.Start Inv-loop μ-loop) where
   starts : Written (whole (c .args .relation) cs) (fieldsBytes cs) (c .args .out .now) started 2
   starts =
       rw (full-maps (length cs) (c .pre .1))
-      (store 2 refl (store 1 refl (begin (whole (c .args .relation) cs) (c .args .out .now) (omega (arith, fields-size cs, c .pre .2)))))
+      (written-store 2 refl (written-store 1 refl (written-begin (whole (c .args .relation) cs) (c .args .out .now) (omega (arith, fields-size cs, c .pre .2)))))
 
 -- the cell at index i
 module _ (c : tie.In-loop Inv-loop μ-loop) where
@@ -59,7 +59,7 @@ slice-write-out-2 : tie.Need-slice-write-out-2 Inv-loop μ-loop
 slice-write-out-2 c = simp length-set (omega (arith, c .pre .2))
 
 loop-holds : tie.Need-loop-holds Inv-loop μ-loop
-loop-holds c = (omega arith, omega arith, anew (starts c))
+loop-holds c = (omega arith, omega arith, written-anew (starts c))
 
 mul-c : tie.Need-mul-c Inv-loop μ-loop
 mul-c c = omega arith
@@ -101,7 +101,7 @@ loop-less : tie.Need-loop-less Inv-loop μ-loop
 loop-less c = omega arith
 
 loop-again : tie.Need-loop-again Inv-loop μ-loop
-loop-again c = (omega arith, omega arith, store _ (omega arith) (store _ (omega arith) (store _ refl (goes-on (c .before)))))
+loop-again c = (omega arith, omega arith, written-store _ (omega arith) (written-store _ (omega arith) (written-store _ refl (goes-on (c .before)))))
 
 same-length : tie.Need-same-length Inv-loop μ-loop
 same-length c = c .before .loop .inv .2 .same ∙ starts (c .before .before) .same
@@ -116,7 +116,7 @@ returns c =
     let kept : drop (length all) (started s) ≡ drop (length all) out =
     drop-set-lt (length all) (set out 0 (s .args .relation)) 1 (map-byte s) (omega arith) ∙ drop-set-lt (length all) out 0 (s .args .relation) (omega arith)
     in
-    finish (rw (e, drop-length) at (c .before .loop .inv .2)) ∙ ap (λ (l : List ℕ). all ++ l) kept
+    written-finish (rw (e, drop-length) at (c .before .loop .inv .2)) ∙ ap (λ (l : List ℕ). all ++ l) kept
 
 pub write-record-spec : {M : Type 1} → statement M
 write-record-spec =

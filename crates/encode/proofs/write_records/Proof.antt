@@ -6,7 +6,7 @@ use native.Mathlib.Omega.{arith}
 use borrow.Author.Needs.{needs}
 use lib.ListN.{length, take, drop, getD, length-append, length-drop}
 use Rattle.calculus.specs.Row.{Row}
-use Rattle.calculus.proofs.Stores.{Written, begin, store-part, finish}
+use Rattle.calculus.proofs.Stores.{Written, written-begin, written-part, written-finish}
 use Rattle.instance.specs.Header.{arityOf, maxRelations, maxColumns}
 use Rattle.instance.specs.Rows.{rowsFrom}
 use Rattle.instance.proofs.Walk.{Walk, walk-starts, AtRow, row-here, rows-end, row-lent}
@@ -25,7 +25,7 @@ abbrev μ-loop : tie.MeasureT-loop
 μ-loop out₀ arities words at₀ i₀ out at i = length words - i
 
 loop-holds : tie.Need-loop-holds Inv-loop μ-loop
-loop-holds c = (walk-starts _ _ _ (c .before .before .pre .1 .0), begin _ _ (c .before .before .pre .1 .1))
+loop-holds c = (walk-starts _ _ _ (c .before .before .pre .1 .0), written-begin _ _ (c .before .before .pre .1 .1))
 
 -- the row at index i
 module _ (c : tie.In-loop Inv-loop μ-loop) where
@@ -146,7 +146,7 @@ loop-again c =
     let sum : i b + 1 + a b ≡ i b + (1 + a b) = omega arith in
     let next : at + (2 + 3 * (i b + 1 + a b - (i b + 1))) ≡ at + length (recordBytes (row b)) = omega (arith, size b) in
     let part = rw (row-lent (ws b) (i b) (a b), part-to-end out at) at (c .before .before .write-record .ensures) in
-    rw (next, sum, put-to-end out at _ (omega (arith, fits b)), part) (here b .next, store-part (recordBytes (row b)) (to-come b))
+    rw (next, sum, put-to-end out at _ (omega (arith, fits b)), part) (here b .next, written-part (recordBytes (row b)) (to-come b))
 
 same-length : tie.Need-same-length Inv-loop μ-loop
 same-length c = c .before .loop .inv .1 .same
@@ -157,7 +157,7 @@ returns c =
     let start = c .before .before .before .before in
     let ws = start .args .words .now in
     let e : c .before .loop .i ≡ length ws = omega (arith, c .before .loop .inv .0 .within) in
-    finish (rw (rows-end (start .args .arities .now) ws _ e) at (c .before .loop .inv .1))
+    written-finish (rw (rows-end (start .args .arities .now) ws _ e) at (c .before .loop .inv .1))
 
 pub write-records-spec : {M : Type 1} → statement M
 write-records-spec =

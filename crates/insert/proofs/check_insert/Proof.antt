@@ -19,7 +19,7 @@ use Rattle.instance.proofs.Sound.{scanned-sound, scanned-unsound, sound-gives}
 use borrow.Author.Needs.{needs}
 use Rattle.insert.proofs.check_insert.Statement.{statement}
 use Rattle.insert.proofs.check_insert.Tie as tie
-use Rattle.calculus.proofs.Bools.{both}
+use Rattle.calculus.proofs.Bools.{and-parts}
 use lib.Dec.{leb}
 use Rattle.instance.specs.Header.{maxWords}
 
@@ -38,10 +38,10 @@ module _ (c : tie.After-enum-told) where
   h = c .before .before .before .before .before .args .header
 
   abbrev ws : List ℕ
-  ws = c .before .before .before .before .before .args .plot .now
+  ws = c .before .before .before .before .before .args .instance .now
 
-  stands : sound h ws ≡ true
-  stands = scanned-sound h ws _ (sym (c .before .before .scan .ensures .0) ∙ c .enum-told .given .1)
+  is-sound : sound h ws ≡ true
+  is-sound = scanned-sound h ws _ (sym (c .before .before .scan .ensures .0) ∙ c .enum-told .given .1)
 
 returns : tie.Need-returns
 unfolding inserted enterable
@@ -49,20 +49,20 @@ returns c = simp (scanned-unsound _ _ (sym (c .before .before .scan .ensures .0)
 
 returns-2 : tie.Need-returns-2
 unfolding inserted enterable
-returns-2 c = simp (stands (c .before .before), le-ltb _ _ (c .if1 .taken))
+returns-2 c = simp (is-sound (c .before .before), le-ltb _ _ (c .if1 .taken))
 
 mul-if2 : tie.Need-mul-if2
 mul-if2 c = search needs
 
 array-read-if2 : tie.Need-array-read-if2
-array-read-if2 c = omega (arith, sound-gives _ _ (stands (c .before .before .before)) .headed .few)
+array-read-if2 c = omega (arith, sound-gives _ _ (is-sound (c .before .before .before)) .headed .few)
 
 cast-if2 : tie.Need-cast-if2
 cast-if2 c = search needs
 
 returns-3 : tie.Need-returns-3
 unfolding inserted enterable
-returns-3 c = simp (stands (c .before .before .before .before), lt-ltb _ _ (c .before .before .if1 .left), ne-eqb _ _ (c .if2 .taken))
+returns-3 c = simp (is-sound (c .before .before .before .before), lt-ltb _ _ (c .before .before .if1 .left), ne-eqb _ _ (c .if2 .taken))
 
 are-cells-requires : tie.Need-are-cells-requires
 are-cells-requires c κs = search needs
@@ -86,7 +86,7 @@ module _ (c : tie.After-are-cells) where
   unfolding inserted enterable
   so-far b e =
       let f : areCells cells ≡ b = sym (c .are-cells .ensures) ∙ e in
-      simp (stands told, lt-ltb _ _ (c .before .before .before .if1 .left), eq-eqb _ _ (c .before .if2 .left), f)
+      simp (is-sound told, lt-ltb _ _ (c .before .before .before .if1 .left), eq-eqb _ _ (c .before .if2 .left), f)
 
 returns-4 : tie.Need-returns-4
 returns-4 c = sym (so-far (c .before) false (not-true _ (c .if3 .taken)))
@@ -112,7 +112,7 @@ cast-t14 : tie.Need-cast-t14
 cast-t14 c =
     let a = c .before .before .before .before in
     let room : hasRoom (needed a) (length (ws (told a))) ≡ true = sym (c .before .has-room .ensures) ∙ not-false _ (c .if4 .left) in
-    omega (arith, leb-true (needed a) maxWords (both (leb (needed a) maxWords) (leb (needed a) (length (ws (told a)))) room .0))
+    omega (arith, leb-true (needed a) maxWords (and-parts (leb (needed a) maxWords) (leb (needed a) (length (ws (told a)))) room .0))
 
 returns-6 : tie.Need-returns-6
 returns-6 c =

@@ -43,7 +43,7 @@ module _ (c : tie.After-struct-known) where
   h = answered .before .before .before .before .args .header
 
   abbrev ws : List ℕ
-  ws = answered .before .before .before .before .args .plot .now
+  ws = answered .before .before .before .before .args .instance .now
 
   abbrev r : ℕ
   r = answered .before .before .before .before .args .relation

@@ -9,9 +9,9 @@ use lib.ListN.{length, drop, getD, set}
 use lib.Seq.{drop-length}
 use Rattle.calculus.specs.Cell.{constants, nulls, null}
 use Rattle.instance.specs.Header.{maxWords}
-use Rattle.calculus.proofs.Lists.{rest}
+use Rattle.calculus.proofs.Lists.{drop-step}
 use Rattle.instance.proofs.Counts.{Census, census-other, census-null}
-use Rattle.calculus.proofs.Counts.{count-le}
+use Rattle.calculus.proofs.Counts.{countOf-le}
 use Rattle.null_counts.proofs.count_words.Statement.{statement}
 use Rattle.null_counts.proofs.count_words.Tie as tie
 use Rattle.calculus.proofs.Counting.{counting-starts, counting-ends}
@@ -68,7 +68,7 @@ module _ (c : tie.In-loop Inv-loop μ-loop) where
   behind = drop (c .before .loop .i + 1) ws
 
   seen : Census ws (w ∷ behind) counts
-  seen = rw (rest ws (c .before .loop .i) (omega arith)) at (c .before .loop .inv .1)
+  seen = rw (drop-step ws (c .before .loop .i) (omega arith)) at (c .before .loop .inv .1)
 
   at-null : constants < w → w ≤ constants + nulls → Census ws behind (set counts place (getD counts place 0 + 1))
   at-null l g =
@@ -79,7 +79,7 @@ module _ (c : tie.In-loop Inv-loop μ-loop) where
   at-other ne = census-other ws behind counts w ne seen
 
   below : (k : ℕ) → k < nulls → getD counts k 0 ≤ maxWords
-  below k l = omega (arith, c .before .loop .inv .1 .each k l, count-le (null (1 + k)) ws)
+  below k l = omega (arith, c .before .loop .inv .1 .each k l, countOf-le (null (1 + k)) ws)
 
 add-counts : tie.Need-add-counts Inv-loop μ-loop
 add-counts c = omega (arith, below (c .before .before .before) (place (c .before .before .before)) (omega (arith, leb-true)))

@@ -24,10 +24,10 @@ use Rattle.instance.proofs.Counts.{nulls-size}
 use Rattle.calculus.specs.Row.{cellsOf}
 
 abbrev Inv-loop : tie.InvT-loop
-Inv-loop plot counts₀ used found i₀ counts i = (i ≤ nulls) × (length counts ≡ length counts₀) × (counts ≡ take i found ++ drop i counts₀)
+Inv-loop instance counts₀ used found i₀ counts i = (i ≤ nulls) × (length counts ≡ length counts₀) × (counts ≡ take i found ++ drop i counts₀)
 
 abbrev μ-loop : tie.MeasureT-loop
-μ-loop plot counts₀ used found i₀ counts i = nulls - i
+μ-loop instance counts₀ used found i₀ counts i = nulls - i
 
 scan-requires : tie.Need-scan-requires Inv-loop μ-loop
 scan-requires c κs = search needs
@@ -44,10 +44,10 @@ module _ (c : tie.After-enum-told Inv-loop μ-loop) where
   h = c .before .before .before .before .before .args .header
 
   abbrev ws : List ℕ
-  ws = c .before .before .before .before .before .args .plot .now
+  ws = c .before .before .before .before .before .args .instance .now
 
-  stands : sound h ws ≡ true
-  stands = scanned-sound h ws _ (sym (c .before .before .scan .ensures .0) ∙ c .enum-told .given .1)
+  is-sound : sound h ws ≡ true
+  is-sound = scanned-sound h ws _ (sym (c .before .before .scan .ensures .0) ∙ c .enum-told .given .1)
 
 returns : tie.Need-returns Inv-loop μ-loop
 unfolding counted countedWords
@@ -55,16 +55,16 @@ returns c = let e = scanned-unsound _ _ (sym (c .before .before .scan .ensures .
 
 returns-2 : tie.Need-returns-2 Inv-loop μ-loop
 unfolding counted countedWords
-returns-2 c = let e = stands (c .before) in let n = lt-leb _ _ (c .if1 .taken) in counts-told _ _ (c .before .before .before .before .before .before .args .counts .now) (simp (e, n), simp (e, n))
+returns-2 c = let e = is-sound (c .before) in let n = lt-leb _ _ (c .if1 .taken) in counts-told _ _ (c .before .before .before .before .before .before .args .counts .now) (simp (e, n), simp (e, n))
 
 cast-used : tie.Need-cast-used Inv-loop μ-loop
 cast-used c = search needs
 
 slice-aggregate-count-words : tie.Need-slice-aggregate-count-words Inv-loop μ-loop
-slice-aggregate-count-words c = sym (sound-gives _ _ (stands (c .before .before .before)) .in-use)
+slice-aggregate-count-words c = sym (sound-gives _ _ (is-sound (c .before .before .before)) .in-use)
 
 count-words-requires : tie.Need-count-words-requires Inv-loop μ-loop
-count-words-requires c κs = sound-gives _ _ (stands (c .before .before .before)) .standing .few
+count-words-requires c κs = sound-gives _ _ (is-sound (c .before .before .before)) .well-formed .few
 
 loop-holds : tie.Need-loop-holds Inv-loop μ-loop
 loop-holds c = (omega arith, refl, refl)
@@ -75,7 +75,7 @@ module _ (c : tie.After-count-words Inv-loop μ-loop) where
   told = c .before .before .before .before
 
   found-is : c .count-words .result ≡ nullCounts (rows (h told) (ws told))
-  found-is = c .count-words .ensures ∙ table-same _ _ (λ k. sym (held-words (h told) (ws told) (stands told) (1 + k))) nulls
+  found-is = c .count-words .ensures ∙ table-same _ _ (λ k. sym (held-words (h told) (ws told) (is-sound told) (1 + k))) nulls
 
   found-size : length (c .count-words .result) ≡ nulls
   found-size = ap length (c .count-words .ensures) ∙ nulls-size _
@@ -117,7 +117,7 @@ unfolding counted countedWords
 returns-3 c =
     let b = c .before .before in
     let e : c .before .loop .i ≡ nulls = omega arith in
-    let s = stands (told b) in
+    let s = is-sound (told b) in
     let n = le-leb _ _ (b .before .before .before .if1 .left) in
     counts-told _ _ (b .before .before .before .before .before .before .before .before .before .args .counts .now) (
       simp (s, n),

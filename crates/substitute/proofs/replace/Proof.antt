@@ -12,7 +12,7 @@ use Rattle.calculus.specs.Cell.{null, put}
 use Rattle.calculus.proofs.Cells.{put-null, put-other}
 use Rattle.calculus.specs.Fill.{countOf}
 use Rattle.instance.proofs.Passes.{upto, upto-none, upto-all, upto-here, upto-set, upto-kept}
-use Rattle.calculus.proofs.Counts.{count-rest}
+use Rattle.calculus.proofs.Counts.{countOf-drop-step}
 use Rattle.substitute.proofs.replace.Statement.{statement}
 use Rattle.substitute.proofs.replace.Tie as tie
 
@@ -67,10 +67,10 @@ module _ (c : tie.In-loop Inv-loop μ-loop) where
   kept ne = c .before .loop .inv .3 ∙ upto-kept _ i was within (put-other m cell _ (λ e. ne (here ∙ e)))
 
   one-more : getD words i 0 ≡ null m → countOf (null m) (drop i was) ≡ suc (countOf (null m) (drop (i + 1) was))
-  one-more e = count-rest _ was i within ∙ simp (eq-eqb _ _ (sym here ∙ e))
+  one-more e = countOf-drop-step _ was i within ∙ simp (eq-eqb _ _ (sym here ∙ e))
 
   no-more : (getD words i 0 ≡ null m → ⊥) → countOf (null m) (drop i was) ≡ countOf (null m) (drop (i + 1) was)
-  no-more ne = count-rest _ was i within ∙ simp (ne-eqb _ _ (λ e. ne (here ∙ e)))
+  no-more ne = countOf-drop-step _ was i within ∙ simp (ne-eqb _ _ (λ e. ne (here ∙ e)))
 
 mul-words : tie.Need-mul-words Inv-loop μ-loop
 mul-words c = omega arith

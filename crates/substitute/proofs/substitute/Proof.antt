@@ -38,10 +38,10 @@ module _ (c : tie.After-enum-told) where
   h = start .args .header
 
   abbrev ws : List ℕ
-  ws = start .args .plot .now
+  ws = start .args .instance .now
 
-  stands : sound h ws ≡ true
-  stands = scanned-sound h ws _ (sym (c .before .before .scan .ensures .0) ∙ c .enum-told .given .1)
+  is-sound : sound h ws ≡ true
+  is-sound = scanned-sound h ws _ (sym (c .before .before .scan .ensures .0) ∙ c .enum-told .given .1)
 
 -- what is known once the fill has been made
 module _ (c : tie.After-slice-known2) where
@@ -55,7 +55,7 @@ module _ (c : tie.After-slice-known2) where
   cell = start told .args .cell
 
   count-is : c .before .before .replace .result ≡ held m (rows (h told) (ws told))
-  count-is = c .before .before .replace .ensures .0 ∙ sym (held-words (h told) (ws told) (stands told) m)
+  count-is = c .before .before .replace .ensures .0 ∙ sym (held-words (h told) (ws told) (is-sound told) m)
 
   marked : isMark m ≡ true
   marked = simp (le-leb _ _ (c .before .before .before .before .before .before .before .before .if1 .left), le-leb _ _ (c .before .before .before .before .before .before .before .if2 .left))
@@ -75,7 +75,7 @@ same-length-2 c = search needs
 
 returns-2 : tie.Need-returns-2
 unfolding substituted substitutedWords
-returns-2 c = let e = stands (c .before) in let n = lt-leb _ _ (c .if1 .taken) in fill-told _ _ _ _ (simp (e, n), simp (e, n))
+returns-2 c = let e = is-sound (c .before) in let n = lt-leb _ _ (c .if1 .taken) in fill-told _ _ _ _ (simp (e, n), simp (e, n))
 
 same-length-3 : tie.Need-same-length-3
 same-length-3 c = search needs
@@ -83,7 +83,7 @@ same-length-3 c = search needs
 returns-3 : tie.Need-returns-3
 unfolding substituted substitutedWords
 returns-3 c =
-    let e = stands (c .before .before) in
+    let e = is-sound (c .before .before) in
     let s = le-leb _ _ (c .before .if1 .left) in
     let n = lt-leb _ _ (c .if2 .taken) in
     fill-told _ _ _ _ (simp (e, s, n), simp (e, s, n))
@@ -97,7 +97,7 @@ same-length-4 c = search needs
 returns-4 : tie.Need-returns-4
 unfolding substituted substitutedWords
 returns-4 c =
-    let e = stands (c .before .before .before .before) in
+    let e = is-sound (c .before .before .before .before) in
     let s = le-leb _ _ (c .before .before .before .if1 .left) in
     let n = le-leb _ _ (c .before .before .if2 .left) in
     let f : isCell _ ≡ false = sym (c .before .is-cell .ensures) ∙ not-true _ (c .if3 .taken) in
@@ -107,14 +107,14 @@ cast-used : tie.Need-cast-used
 cast-used c = search needs
 
 slice-relend-prefix-replace : tie.Need-slice-relend-prefix-replace
-slice-relend-prefix-replace c = sound-gives _ _ (stands (c .before .before .before .before .before)) .within
+slice-relend-prefix-replace c = sound-gives _ _ (is-sound (c .before .before .before .before .before)) .within
 
 slice-aggregate-replace : tie.Need-slice-aggregate-replace
-slice-aggregate-replace c = sym (sound-gives _ _ (stands (c .before .before .before .before .before .before)) .in-use)
+slice-aggregate-replace c = sym (sound-gives _ _ (is-sound (c .before .before .before .before .before .before)) .in-use)
 
 replace-requires : tie.Need-replace-requires
 replace-requires c κs =
-    (c .before .before .before .before .if2 .left, sound-gives _ _ (stands (c .before .before .before .before .before .before)) .standing .few)
+    (c .before .before .before .before .if2 .left, sound-gives _ _ (is-sound (c .before .before .before .before .before .before)) .well-formed .few)
 
 same-length-5 : tie.Need-same-length-5
 same-length-5 c = search needs
@@ -125,8 +125,8 @@ returns-5 c =
     let e = c .before in
     let z = le-ltb 0 (held (m e) (rows (h (told e)) (ws (told e)))) (omega (arith, count-is e)) in
     fill-told _ _ _ _ (
-      simp (stands (told e), marked e, cell-is e, z),
-      simp (stands (told e), marked e, cell-is e, z)
+      simp (is-sound (told e), marked e, cell-is e, z),
+      simp (is-sound (told e), marked e, cell-is e, z)
           (ap (λ (l : List ℕ). l ++ drop (h (told e) .used) (ws (told e)))
           (e .before .before .replace .ensures .1 ∙ absent-same (m e) (cell e) _ (sym (e .before .before .replace .ensures .0) ∙ c .if4 .taken))
           ∙ take-append-drop (h (told e) .used) (ws (told e))),
@@ -141,10 +141,10 @@ returns-6 c =
     let e = c .before in
     let z = lt-ltb 0 (held (m e) (rows (h (told e)) (ws (told e)))) (omega (arith, count-is e)) in
     fill-told _ _ _ _ (
-      simp (stands (told e), marked e, cell-is e, z) (ap Done (count-is e)),
-      simp (stands (told e), marked e, cell-is e, z)
+      simp (is-sound (told e), marked e, cell-is e, z) (ap Done (count-is e)),
+      simp (is-sound (told e), marked e, cell-is e, z)
           (ap (λ (l : List ℕ). l ++ drop (h (told e) .used) (ws (told e)))
-          (e .before .before .replace .ensures .1 ∙ sym (filled-words _ _ (stands (told e)) (m e) (cell e)))),
+          (e .before .before .replace .ensures .1 ∙ sym (filled-words _ _ (is-sound (told e)) (m e) (cell e)))),
     )
 
 pub substitute-spec : {M : Type 1} → statement M

@@ -28,7 +28,7 @@ use borrow.Author.Tests.{not-true, not-false}
 use Rattle.query.specs.Words.{rightLength}
 use Rattle.query.specs.Tree.{formulaOf}
 use Rattle.instance.specs.Run.{modelOf}
-use Rattle.calculus.specs.Model.{asked}
+use Rattle.calculus.specs.Model.{outcomeOf}
 use Rattle.answer.specs.Ask.{ask, askedBuffer, evaluatedAs}
 use Rattle.answer.specs.Numbers.{TellsVerdict}
 use Rattle.answer.specs.declared.asked.Asked.{Asked}
@@ -42,7 +42,7 @@ module _ (c : tie.After-struct-known) where
   h = start .args .header
 
   abbrev ws : List ℕ
-  ws = start .args .plot .now
+  ws = start .args .instance .now
 
   abbrev qs : List ℕ
   qs = start .args .query .now
@@ -62,14 +62,14 @@ module _ (c : tie.After-struct-known) where
   is-scanned : scanned h ws ≡ Rows count
   is-scanned = sym (c .before .before .before .before .before .scan .ensures .0) ∙ c .before .before .before .count .given .1
 
-  stands : sound h ws ≡ true
-  stands = scanned-sound h ws count is-scanned
+  is-sound : sound h ws ≡ true
+  is-sound = scanned-sound h ws count is-scanned
 
   abbrev given : Sound h ws
-  given = sound-gives h ws stands
+  given = sound-gives h ws is-sound
 
   cells : h .used ≡ count + length (cellsOf (rows h ws))
-  cells = rw (scanned-rows h ws count is-scanned) at (cells-count h ws stands)
+  cells = rw (scanned-rows h ws count is-scanned) at (cells-count h ws is-sound)
 
   eight : length (h .arities) ≡ maxRelations
   eight = search needs
@@ -78,7 +78,7 @@ module _ (c : tie.After-struct-known) where
   told :
       {r : Asked} {left : List ℕ} → (r ≡ ask h ws qs cs buffer budget) × (left ≡ askedBuffer h ws qs cs buffer) →
       (r ≡ ask h ws qs cs buffer budget) ×
-      ((left ≡ askedBuffer h ws qs cs buffer) × TellsVerdict r (ask h ws qs cs buffer budget) (asked (modelOf h ws cs) (formulaOf (h .arities) qs)))
+      ((left ≡ askedBuffer h ws qs cs buffer) × TellsVerdict r (ask h ws qs cs buffer budget) (outcomeOf (modelOf h ws cs) (formulaOf (h .arities) qs)))
   told p = ask-told h ws qs cs buffer budget p
 
 -- after the question's length was tested
@@ -104,7 +104,7 @@ module _ (c : tie.Else3) where
 
   asks : Asks (h first) (ws first) (qs first) (cs first) (buffer first)
   asks = record {
-    stands = stands first;
+    is-sound = is-sound first;
     right = right (length-known (c .before));
     scopes = checked (c .before) .0;
     passes = checked (c .before) .1;
@@ -150,16 +150,16 @@ right-length-requires c κs = search needs
 returns-2 : tie.Need-returns-2
 returns-2 c =
     let b = c .before .before in
-    told b (length-asked (h b) (ws b) (qs b) (cs b) (buffer b) (budget b) (stands b) (sym (c .before .right-length .ensures) ∙ not-true _ (c .if1 .taken)))
+    told b (length-asked (h b) (ws b) (qs b) (cs b) (buffer b) (budget b) (is-sound b) (sym (c .before .right-length .ensures) ∙ not-true _ (c .if1 .taken)))
 
 check-requires : tie.Need-check-requires
-check-requires c κs = let b = scan (c .before) in (given b .standing .header, eight b, right (c .before))
+check-requires c κs = let b = scan (c .before) in (given b .well-formed .header, eight b, right (c .before))
 
 returns-3 : tie.Need-returns-3
 returns-3 c =
     let l = c .before .before .before in
     let b = scan l in
-    told b (check-asked (h b) (ws b) (qs b) (cs b) (buffer b) (budget b) (stands b) (right l) _ (c .before .check .ensures) (c .if2 .taken))
+    told b (check-asked (h b) (ws b) (qs b) (cs b) (buffer b) (budget b) (is-sound b) (right l) _ (c .before .check .ensures) (c .if2 .taken))
 
 cast-if3 : tie.Need-cast-if3
 cast-if3 c = search needs
@@ -172,20 +172,20 @@ returns-4 c =
     let k = c .before in
     let b = scan (length-known k) in
     told b
-    (buffer-asked (h b) (ws b) (qs b) (cs b) (buffer b) (budget b) (stands b) (right (length-known k)) (checked k .0) (checked k .1) (omega (arith, cells b)))
+    (buffer-asked (h b) (ws b) (qs b) (cs b) (buffer b) (budget b) (is-sound b) (right (length-known k)) (checked k .0) (checked k .1) (omega (arith, cells b)))
 
 slice-aggregate-list-values : tie.Need-slice-aggregate-list-values
 slice-aggregate-list-values c = sym (given (first (c .before)) .in-use)
 
 list-values-requires : tie.Need-list-values-requires
 unfolding rows
-list-values-requires c κs = let t = c .before .before .before in (given (first t) .standing, asks t .room)
+list-values-requires c κs = let t = c .before .before .before in (given (first t) .well-formed, asks t .room)
 
 slice-aggregate-row-counts : tie.Need-slice-aggregate-row-counts
 slice-aggregate-row-counts c = sym (given (first (tested (c .before .before))) .in-use)
 
 row-counts-requires : tie.Need-row-counts-requires
-row-counts-requires c κs = given (first (tested (c .before .before .before))) .standing
+row-counts-requires c κs = given (first (tested (c .before .before .before))) .well-formed
 
 slice-aggregate-evaluate-top : tie.Need-slice-aggregate-evaluate-top
 slice-aggregate-evaluate-top c = sym (given (first (tested (listed (c .before .before)))) .in-use)
@@ -203,7 +203,7 @@ evaluate-top-requires c κs =
     let t = tested l in
     let b = first t in
     let q = checked (t .before) in
-    made-ready (h b) (ws b) (qs b) (cs b) (stands b) (eight b) (right (length-known (t .before))) (q .0) (q .1) _ _ (counted .row-counts .ensures) (are-listed l .1)
+    made-ready (h b) (ws b) (qs b) (cs b) (is-sound b) (eight b) (right (length-known (t .before))) (q .0) (q .1) _ _ (counted .row-counts .ensures) (are-listed l .1)
 
 enum-known-truth : tie.Need-enum-known-truth
 enum-known-truth c = search needs

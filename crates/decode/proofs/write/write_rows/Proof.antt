@@ -13,11 +13,11 @@ use Rattle.decode.proofs.write.write_rows.Statement.{statement}
 use Rattle.decode.proofs.write.write_rows.Tie as tie
 
 abbrev Inv-loop : tie.InvT-loop
-Inv-loop plot₀ card relations arities count next used₀ null₀ at₀ left₀ plot used null at left =
-    WritingRows plot₀ card relations arities count next plot used null at left
+Inv-loop plot₀ card relations arities count next used₀ null₀ at₀ left₀ instance used null at left =
+    WritingRows plot₀ card relations arities count next instance used null at left
 
 abbrev μ-loop : tie.MeasureT-loop
-μ-loop plot₀ card relations arities count next used₀ null₀ at₀ left₀ plot used null at left = left
+μ-loop plot₀ card relations arities count next used₀ null₀ at₀ left₀ instance used null at left = left
 
 -- what an iteration finds at its record, whose first two bytes are b and map
 module _ (c : tie.In-loop Inv-loop μ-loop) where
@@ -33,8 +33,8 @@ module _ (c : tie.In-loop Inv-loop μ-loop) where
   abbrev FoundIn : ℕ → ℕ → Type 0
   FoundIn b map =
       let at = c .before .loop in
-      Found (start .args .plot .now) card (start .args .relations) arities (start .args .count) (start .args .next)
-      (at .plot) (at .used) (at .null) (at .at) (at .left - 1) b map (arityOf arities b)
+      Found (start .args .instance .now) card (start .args .relations) arities (start .args .count) (start .args .next)
+      (at .instance) (at .used) (at .null) (at .at) (at .left - 1) b map (arityOf arities b)
 
   in-turn : (b map : ℕ) → b ≡ getD card (c .before .loop .at) 0 → map ≡ getD card (c .before .loop .at + 1) 0 → FoundIn b map
   in-turn = find _ _ _ _ _ _ _ _ _ _ _ (c .before .loop .inv) (c .loop-test .taken)
@@ -42,7 +42,7 @@ module _ (c : tie.In-loop Inv-loop μ-loop) where
   in-card : c .before .loop .at + 2 ≤ length card
   in-card = omega (arith, in-turn _ _ refl refl .in-card)
 
-  inside : c .before .loop .used ≤ length (c .before .loop .plot)
+  inside : c .before .loop .used ≤ length (c .before .loop .instance)
   inside = omega (arith, c .before .loop .inv .stored .room, c .before .loop .inv .stored .same)
 
 module _ (c : tie.After-byte2 Inv-loop μ-loop) where
@@ -114,7 +114,7 @@ write-row-requires : tie.Need-write-row-requires Inv-loop μ-loop
 write-row-requires c κs =
     let b = c .before .before .before in
     let at = turn b .before .loop in
-    simp part-to-end (omega (arith, here b .room, length-drop (at .used) (at .plot)), (narrow b, (omega (arith, here b .low), here b .fields)))
+    simp part-to-end (omega (arith, here b .room, length-drop (at .used) (at .instance)), (narrow b, (omega (arith, here b .low), here b .fields)))
 
 add-used : tie.Need-add-used Inv-loop μ-loop
 add-used c = omega (arith, narrow (bytes c))
@@ -149,7 +149,7 @@ loop-less c = omega arith
 loop-again : tie.Need-loop-again Inv-loop μ-loop
 loop-again c =
     let at = turn (bytes c) .before .loop in
-    rw (put-to-end (at .plot) (at .used) _ (inside (turn (bytes c))))
+    rw (put-to-end (at .instance) (at .used) _ (inside (turn (bytes c))))
     (here (bytes c) .next-rows (c .before .before .write-row .last .0) (simp part-to-end at (c .before .before .write-row .ensures)))
 
 same-length : tie.Need-same-length Inv-loop μ-loop

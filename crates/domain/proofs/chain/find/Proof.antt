@@ -6,7 +6,7 @@ use mathlib.Core.List.{List}
 use native.Mathlib.Omega.{arith}
 use lib.ListN.{length, getD}
 use Rattle.calculus.specs.Listed.{listed}
-use Rattle.domain.specs.Chains.{valueOf, linkOf, valuesOf, Chain}
+use Rattle.domain.specs.Chains.{wordValue, wordLink, valuesOf, Chain}
 use Rattle.domain.proofs.Chains.{chain-falls, chain-ends, chain-goes, chain-none}
 use Rattle.domain.proofs.chain.find.Statement.{statement}
 use Rattle.domain.proofs.chain.find.Tie as tie
@@ -43,13 +43,13 @@ module _ (c : tie.In-loop Inv-loop μ-loop) where
   within : place ≤ length list
   within = omega (arith, c .before .loop .inv .within)
 
-  found : valueOf w ≡ cell → listed cell (valuesOf head list) ≡ true
+  found : wordValue w ≡ cell → listed cell (valuesOf head list) ≡ true
   found e = chain-ends (c .before .before .pre .1) (c .before .loop .inv) within (omega arith) e
 
-  other : (valueOf w ≡ cell → ⊥) → Chain list cell head (linkOf w)
+  other : (wordValue w ≡ cell → ⊥) → Chain list cell head (wordLink w)
   other ne = chain-goes (c .before .before .pre .1) (c .before .loop .inv) within (omega arith) ne
 
-  falls : linkOf w < place
+  falls : wordLink w < place
   falls = chain-falls (c .before .before .pre .1) (c .before .loop .inv) within (omega arith)
 
 mul-w : tie.Need-mul-w Inv-loop μ-loop

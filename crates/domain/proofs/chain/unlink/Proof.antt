@@ -5,12 +5,12 @@ use mathlib.Core.List.{List}
 use native.Mathlib.Omega.{arith}
 use lib.ListN.{length, getD, set, length-set}
 use Rattle.instance.proofs.Passes.{upto, upto-none, upto-all, upto-here, upto-set}
-use Rattle.domain.specs.Chains.{valueOf}
+use Rattle.domain.specs.Chains.{wordValue}
 use Rattle.domain.proofs.chain.unlink.Statement.{statement}
 use Rattle.domain.proofs.chain.unlink.Tie as tie
 
 abbrev Inv-loop : tie.InvT-loop
-Inv-loop list₀ i₀ list i = (i ≤ length list₀) × (length list ≡ length list₀) × (list ≡ upto valueOf i list₀)
+Inv-loop list₀ i₀ list i = (i ≤ length list₀) × (length list ≡ length list₀) × (list ≡ upto wordValue i list₀)
 
 abbrev μ-loop : tie.MeasureT-loop
 μ-loop list₀ i₀ list i = length list₀ - i
@@ -40,11 +40,11 @@ loop-again : tie.Need-loop-again Inv-loop μ-loop
 loop-again c =
     let b = c .before .before .loop in
     let was = c .before .before .before .args .list .now in
-    let here : getD (b .list) (b .i) 0 ≡ getD was (b .i) 0 = ap (λ (l : List ℕ). getD l (b .i) 0) (b .inv .2) ∙ upto-here valueOf (b .i) was in (
+    let here : getD (b .list) (b .i) 0 ≡ getD was (b .i) 0 = ap (λ (l : List ℕ). getD l (b .i) 0) (b .inv .2) ∙ upto-here wordValue (b .i) was in (
       omega arith,
       length-set (b .list) _ _ ∙ b .inv .1,
-      ap (λ (l : List ℕ). set l (b .i) (valueOf (getD (b .list) (b .i) 0))) (b .inv .2) ∙
-          ap (λ (v : ℕ). set (upto valueOf (b .i) was) (b .i) (valueOf v)) here ∙ upto-set valueOf (b .i) was (omega arith),
+      ap (λ (l : List ℕ). set l (b .i) (wordValue (getD (b .list) (b .i) 0))) (b .inv .2) ∙
+          ap (λ (v : ℕ). set (upto wordValue (b .i) was) (b .i) (wordValue v)) here ∙ upto-set wordValue (b .i) was (omega arith),
     )
 
 same-length : tie.Need-same-length Inv-loop μ-loop

@@ -12,7 +12,7 @@ use Rattle.query.specs.Words.{noKind, negates, joins, ranges, kindOf, wordAt, n
 use Rattle.evaluate.specs.declared.evaluated.Evaluated.{Evaluated}
 use Rattle.evaluate.specs.declared.evaluated.Evaluated.the-variants.{Spent}
 use Rattle.evaluate.specs.Ready.{world, Right, junctionOf}
-use Rattle.evaluate.proofs.Children.{joins-by, ranges-by, none-above, stands-by, negated-spent, negated-verdict, both-left-spent, both-settled, both-low, both-right-spent, both-verdict, right-low, Walking, set-again, set-back, walk-starts, walk-ends, walk-spent, walk-settled, walk-more}
+use Rattle.evaluate.proofs.Children.{joins-by, ranges-by, none-above, well-formed-by, negated-spent, negated-verdict, both-left-spent, both-settled, both-low, both-right-spent, both-verdict, right-low, Walking, set-again, set-back, walk-starts, walk-ends, walk-spent, walk-settled, walk-more}
 use borrow.Fn.Kinds.{In}
 use borrow.Fn.PlainCycle.{Measures, is, falls, and}
 use Rattle.evaluate.proofs.nodes.both.Reads as both
@@ -97,7 +97,7 @@ both-word-requires-2 t c κs = (c .before .before .before .before .pre .1 .0 .kn
 -- what is known of the two children of a node that joins them
 module _ (t : ℕ) (s : both-lts.Start (both-claims t) (both-at t) both.Post) where
   both-down : NodeBy (s .args .relations) (s .args .arities .now) (s .args .query .now) (s .args .node) (joins (junctionOf (s .args .every)))
-  both-down = stands-by _ _ _ _ _ _ (joins (junctionOf (s .args .every))) (s .pre .1 .0 .ready) (s .pre .1 .0 .known) (s .pre .1 .1)
+  both-down = well-formed-by _ _ _ _ _ _ (joins (junctionOf (s .args .every))) (s .pre .1 .0 .ready) (s .pre .1 .0 .known) (s .pre .1 .1)
 
 -- the left child's answer, as the answer for the node that word 1 names
 module _ (t : ℕ) (e : both-lts.After-evaluate (both-claims t) (both-at t) both.Post) where
@@ -233,7 +233,7 @@ unfolding kindOf
 evaluate-equality-requires t c κs =
     let ev = c .before .before .before .before .before .before .pre .1 in
     let is = ap kindOf (sym (c .before .before .word .ensures) ∙ c .before .match .keys2) in
-    ((ev .known, ev .sixteen), (stands-by _ _ _ _ _ _ equals (ev .ready) (ev .known) is, is))
+    ((ev .known, ev .sixteen), (well-formed-by _ _ _ _ _ _ equals (ev .ready) (ev .known) is, is))
 
 evaluate-negated-requires : (t : ℕ) → evaluate-lts.Need-negated-requires (evaluate-claims t) (evaluate-at t) evaluate.Post
 unfolding kindOf
@@ -274,13 +274,13 @@ evaluate-returns-6 t c =
     let word = c .before .before in
     let ev = word .before .before .before .before .pre .1 in
     let none : word .word .result ≡ 0 = omega (arith, c .if1 .taken) in
-    absurd (stands-by _ _ _ _ _ _ noKind (ev .ready) (ev .known) (ap kindOf (sym (word .word .ensures) ∙ none)))
+    absurd (well-formed-by _ _ _ _ _ _ noKind (ev .ready) (ev .known) (ap kindOf (sym (word .word .ensures) ∙ none)))
 
 evaluate-returns-7 : (t : ℕ) → evaluate-lts.Need-returns-7 (evaluate-claims t) (evaluate-at t) evaluate.Post
 evaluate-returns-7 t c =
     let word = c .before .before .before .before in
     let ev = word .before .before .before .before .pre .1 in
-    absurd (stands-by _ _ _ _ _ _ noKind (ev .ready) (ev .known) (ap kindOf (sym (word .word .ensures)) ∙ none-above (word .word .result) (c .if3 .left)))
+    absurd (well-formed-by _ _ _ _ _ _ noKind (ev .ready) (ev .known) (ap kindOf (sym (word .word .ensures)) ∙ none-above (word .word .result) (c .if3 .left)))
 
 negated-word-requires : (t : ℕ) → negated-lts.Need-word-requires (negated-claims t) (negated-at t) negated.Post
 negated-word-requires t c κs = (c .before .before .before .pre .1 .0 .known, omega arith)
@@ -289,7 +289,7 @@ negated-evaluate-requires : (t : ℕ) → negated-lts.Need-evaluate-requires (ne
 negated-evaluate-requires t c κs =
     let start = c .before .before .before .before .before in
     let ev = start .pre .1 .0 in
-    let down = stands-by _ _ _ _ _ _ negates (ev .ready) (ev .known) (start .pre .1 .1) in
+    let down = well-formed-by _ _ _ _ _ _ negates (ev .ready) (ev .known) (start .pre .1 .1) in
     rw (c .before .word .ensures)
     (omega (arith, down .0, down .1, start .pre .0), record { ready = ev .ready; listed = ev .listed; known = down .1; sixteen = ev .sixteen })
 
@@ -303,7 +303,7 @@ negated-returns : (t : ℕ) → negated-lts.Need-returns (negated-claims t) (neg
 negated-returns t c =
     let start = c .before .before .before .before .before .before .before .before in
     let ev = start .pre .1 .0 in
-    let down = stands-by _ _ _ _ _ _ negates (ev .ready) (ev .known) (start .pre .1 .1) in
+    let down = well-formed-by _ _ _ _ _ _ negates (ev .ready) (ev .known) (start .pre .1 .1) in
     let child = c .before .before .evaluate .ensures in
     (child .0, negated-spent _ _ _ _ (ev .known) (start .pre .1 .1) (down .0) _ _ (rw (c .before .before .before .before .word .ensures, c .enum-told .given .1) at (child .1)))
 
@@ -315,7 +315,7 @@ negated-returns-2 t c =
     let asked = c .before .before .before .before in
     let start = asked .before .before .before .before .before .before in
     let ev = start .pre .1 .0 in
-    let down = stands-by _ _ _ _ _ _ negates (ev .ready) (ev .known) (start .pre .1 .1) in
+    let down = well-formed-by _ _ _ _ _ _ negates (ev .ready) (ev .known) (start .pre .1 .1) in
     let child = asked .evaluate .ensures in
     (child .0, rw (c .not .ensures .0) (negated-verdict _ _ _ _ (ev .known) (start .pre .1 .1) (down .0) _ _ _ _ (rw (c .before .before .before .before .before .before .word .ensures, c .before .before .truth .given .1) at (child .1))))
 
@@ -330,7 +330,7 @@ walk-μ-loop query node every env₀ budget values relations arities words count
 -- what is known of the child of a node that ranges over values
 module _ (t : ℕ) (s : walk-lts.Start (walk-claims t) (walk-at t) walk.Post walk-Inv-loop walk-μ-loop) where
   walk-down : NodeBy (s .args .relations) (s .args .arities .now) (s .args .query .now) (s .args .node) (ranges (junctionOf (s .args .every)))
-  walk-down = stands-by _ _ _ _ _ _ (ranges (junctionOf (s .args .every))) (s .pre .1 .0 .ready) (s .pre .1 .0 .known) (s .pre .1 .1)
+  walk-down = well-formed-by _ _ _ _ _ _ (ranges (junctionOf (s .args .every))) (s .pre .1 .0 .ready) (s .pre .1 .0 .known) (s .pre .1 .1)
 
 -- once the child was evaluated for a value
 module _ (t : ℕ) (e : walk-lts.After-evaluate (walk-claims t) (walk-at t) walk.Post walk-Inv-loop walk-μ-loop) where

@@ -10,7 +10,7 @@ use Rattle.instance.specs.Rows.{rowsFrom}
 use Rattle.query.specs.Tree.{termsAt}
 use Rattle.evaluate.proofs.TermLaws.{row-six, row-front}
 use Rattle.evaluate.proofs.Budget.{spent, verdict, verdicts}
-use Rattle.evaluate.proofs.Children.{atom-stands, atom-right, AtomStands}
+use Rattle.evaluate.proofs.Children.{atom-well-formed, atom-right, AtomWellFormed}
 use borrow.Author.Needs.{needs}
 use Rattle.evaluate.proofs.nodes.atom.Statement.{statement}
 use Rattle.evaluate.proofs.nodes.atom.Tie as tie
@@ -24,8 +24,8 @@ module _ (s : tie.Start) where
   abbrev is : kindOf (wordAt (s .args .query .now) (s .args .node) 0) ≡ rowStands
   is = s .pre .1
 
-  node : AtomStands (s .args .relations) (s .args .arities .now) (s .args .words .now) (s .args .query .now) (s .args .counts .now) (s .args .node)
-  node = atom-stands _ _ _ _ _ _ (s .pre .0 .0) known is
+  node : AtomWellFormed (s .args .relations) (s .args .arities .now) (s .args .words .now) (s .args .query .now) (s .args .counts .now) (s .args .node)
+  node = atom-well-formed _ _ _ _ _ _ (s .pre .0 .0) known is
 
 -- after the word with its relation was read
 abbrev start : tie.After-word → tie.Start
@@ -72,7 +72,7 @@ stands-requires c κs =
     let w = c .before .before .before .before .before in
     let a = node (start w) in
     let six = row-six _ _ _ _ _ (c .before .asked-row .ensures) (rw (w .word .ensures) (a .narrow)) in
-    (start w .pre .0 .0 .standing, ((omega (arith, w .word .ensures, a .relation), six), rw (w .word .ensures) (a .counted)))
+    (start w .pre .0 .0 .well-formed, ((omega (arith, w .word .ensures, a .relation), six), rw (w .word .ensures) (a .counted)))
 
 returns-2 : tie.Need-returns-2
 returns-2 c =

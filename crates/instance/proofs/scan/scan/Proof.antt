@@ -7,7 +7,7 @@ use borrow.Author.Tests.{le-leb, lt-leb, not-true, not-false}
 use lib.ListN.{length-take}
 use lib.Seq.{length-take-le}
 use Rattle.instance.specs.Sound.{sound, rows, scanned, scannedWords}
-use Rattle.instance.specs.Header.{headerStands}
+use Rattle.instance.specs.Header.{headerWellFormed}
 use Rattle.instance.proofs.Told.{scan-told}
 use borrow.Author.Needs.{needs}
 use Rattle.instance.proofs.scan.scan.Statement.{statement}
@@ -24,31 +24,31 @@ returns-2 : tie.Need-returns-2
 unfolding scanned sound
 returns-2 c = scan-told _ _ (simp (lt-leb _ _ (c .if2 .taken), and-false))
 
-header-stands-requires : tie.Need-header-stands-requires
-header-stands-requires c κs = search needs
+header-well-formed-requires : tie.Need-header-well-formed-requires
+header-well-formed-requires c κs = search needs
 
 returns-3 : tie.Need-returns-3
 unfolding scanned sound
 returns-3 c =
-    let e : headerStands _ _ ≡ false = sym (c .before .header-stands .ensures) ∙ not-true _ (c .if3 .taken) in
+    let e : headerWellFormed _ _ ≡ false = sym (c .before .header-well-formed .ensures) ∙ not-true _ (c .if3 .taken) in
     scan-told _ _ (simp e)
 
 slice-aggregate-scan-words : tie.Need-slice-aggregate-scan-words
 slice-aggregate-scan-words c = sym (length-take-le _ _ (c .before .before .before .before .before .if2 .left))
 
-stands : (c : tie.Else3) → headerStands (c .before .before .before .before .before .before .before .before .args .header .relations)
+well-formed : (c : tie.Else3) → headerWellFormed (c .before .before .before .before .before .before .before .before .args .header .relations)
     (c .before .before .before .before .before .before .before .before .args .header .arities) ≡ true
-stands c = sym (c .before .header-stands .ensures) ∙ not-false _ (c .if3 .left)
+well-formed c = sym (c .before .header-well-formed .ensures) ∙ not-false _ (c .if3 .left)
 
 scan-words-requires : tie.Need-scan-words-requires
-scan-words-requires c κs = (stands (c .before .before), simp (length-take) (omega arith))
+scan-words-requires c κs = (well-formed (c .before .before), simp (length-take) (omega arith))
 
 returns-4 : tie.Need-returns-4
 unfolding scanned sound scannedWords rows
 returns-4 c =
     let e = c .before .before .before in
     let given = e .before .before .before .before .before .before .before .before .args in
-    scan-told (given .header) (given .plot .now) (c .scan-words .ensures ∙ simp (stands e, le-leb _ _ (e .before .before .before .before .if1 .left), le-leb _ _ (e .before .before .before .if2 .left)))
+    scan-told (given .header) (given .instance .now) (c .scan-words .ensures ∙ simp (well-formed e, le-leb _ _ (e .before .before .before .before .if1 .left), le-leb _ _ (e .before .before .before .if2 .left)))
 
 pub scan-spec : {M : Type 1} → statement M
 scan-spec =
@@ -57,7 +57,7 @@ scan-spec =
     cast-used
     returns
     returns-2
-    header-stands-requires
+    header-well-formed-requires
     returns-3
     slice-aggregate-scan-words
     scan-words-requires

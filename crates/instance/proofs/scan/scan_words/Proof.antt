@@ -16,7 +16,7 @@ use Rattle.instance.specs.Rows.{areCells}
 use Rattle.instance.specs.Sound.{scannedWords}
 use Rattle.instance.proofs.Rows.{Headed, headed}
 use Rattle.instance.proofs.ScanSteps.{scanFrom, scan-end, scan-row, scan-cells, scan-short}
-use Rattle.calculus.proofs.Lists.{rest}
+use Rattle.calculus.proofs.Lists.{drop-step}
 use Rattle.instance.proofs.scan.scan_words.Statement.{statement}
 use Rattle.instance.proofs.scan.scan_words.Tie as tie
 
@@ -59,13 +59,13 @@ module _ (c : tie.In-loop Inv-loop μ-loop) where
   abbrev behind : List ℕ
   behind = drop (i + 1) ws
 
-  abbrev stands : Headed n ars
-  stands = headed n ars (c .before .before .before .pre .0)
+  abbrev well-formed : Headed n ars
+  well-formed = headed n ars (c .before .before .before .pre .0)
 
   at-row : (b : Bool) → ltb w n ≡ b → scannedWords n ars ws ≡ cond b (scanFrom n ars (k + 1) (arityOf ars w) behind) Unsound
   at-row b e =
       c .before .loop .inv .2
-      ∙ ap (scanFrom n ars k 0) (rest ws i (omega arith))
+      ∙ ap (scanFrom n ars k 0) (drop-step ws i (omega arith))
       ∙ scan-row n ars k w behind
       ∙ ap (λ (b : Bool). cond b (scanFrom n ars (k + 1) (arityOf ars w) behind) Unsound) e
 
@@ -89,19 +89,19 @@ add-first : tie.Need-add-first Inv-loop μ-loop
 add-first c = omega arith
 
 cast-next : tie.Need-cast-next Inv-loop μ-loop
-cast-next c = omega (arith, stands (c .before .before) .few)
+cast-next c = omega (arith, well-formed (c .before .before) .few)
 
 mul-next : tie.Need-mul-next Inv-loop μ-loop
-mul-next c = omega (arith, stands (c .before .before) .few)
+mul-next c = omega (arith, well-formed (c .before .before) .few)
 
 element-copy-out-next : tie.Need-element-copy-out-next Inv-loop μ-loop
-element-copy-out-next c = omega (arith, stands (c .before .before) .few)
+element-copy-out-next c = omega (arith, well-formed (c .before .before) .few)
 
 cast-next-2 : tie.Need-cast-next-2 Inv-loop μ-loop
-cast-next-2 c = omega (arith, stands (c .before .before .before) .columns (w (c .before .before .before)) (c .before .if1 .left))
+cast-next-2 c = omega (arith, well-formed (c .before .before .before) .columns (w (c .before .before .before)) (c .before .if1 .left))
 
 add-next : tie.Need-add-next Inv-loop μ-loop
-add-next c = omega (arith, stands (c .before .before .before) .columns (w (c .before .before .before)) (c .before .if1 .left))
+add-next c = omega (arith, well-formed (c .before .before .before) .columns (w (c .before .before .before)) (c .before .if1 .left))
 
 returns-2 : tie.Need-returns-2 Inv-loop μ-loop
 returns-2 c = sym (too-few (c .before .before .before .before) (c .before .before .if1 .left) (c .if2 .taken))

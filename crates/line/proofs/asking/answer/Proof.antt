@@ -2,15 +2,15 @@
 use mathlib.Core.Path.{_≡_, _∙_}
 use Rattle.calculus.specs.Reading.{refused}
 use Rattle.line.specs.declared.fields.Found.the-variants as found
-use Rattle.line.specs.Fields.{Standing, readInput, foundAs}
+use Rattle.line.specs.Fields.{PlacesWithin, readInput, foundAs}
 use Rattle.line.specs.Line.{answered}
 use borrow.Author.Needs.{needs}
 use Rattle.line.proofs.asking.answer.Statement.{statement}
 use Rattle.line.proofs.asking.answer.Tie as tie
 
 -- the fields are at the places that were found
-standing : (c : tie.After-known-told) → Standing (c .before .before .before .before .before .args .input .now) (c .before .places .given .0 .0)
-standing c = rw (c .before .places .given .1) at (c .before .before .before .find .ensures .0)
+well-formed : (c : tie.After-known-told) → PlacesWithin (c .before .before .before .before .before .args .input .now) (c .before .places .given .0 .0)
+well-formed c = rw (c .before .places .given .1) at (c .before .before .before .find .ensures .0)
 
 find-requires : tie.Need-find-requires
 find-requires c κs = search needs
@@ -19,7 +19,7 @@ enum-known-places : tie.Need-enum-known-places
 enum-known-places c = search needs
 
 ask-card-requires : tie.Need-ask-card-requires
-ask-card-requires c κs = standing c
+ask-card-requires c κs = well-formed c
 
 enum-known-why : tie.Need-enum-known-why
 enum-known-why c = search needs

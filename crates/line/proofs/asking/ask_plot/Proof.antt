@@ -94,7 +94,7 @@ returns c =
     let listed = c .before .before .before .before .before .before in
     let b = first listed in
     c .before .ask .ensures .0 ∙ rw (words listed, cells listed)
-    (first-words (start b .args .header) (start b .args .plot .now) (numbersOf 3 (places b .arity) (drop (places b .cells) (input b))) blank (places b .budget) (places b .count) (count b) (drop (places b .words) (input b)) (b .before .looked-at .ensures) (start b .pre .words-read))
+    (first-words (start b .args .header) (start b .args .instance .now) (numbersOf 3 (places b .arity) (drop (places b .cells) (input b))) blank (places b .budget) (places b .count) (count b) (drop (places b .words) (input b)) (b .before .looked-at .ensures) (start b .pre .words-read))
 
 pub ask-plot-spec : {M : Type 1} → statement M
 ask-plot-spec =

@@ -4,8 +4,8 @@ use mathlib.Core.Path.{refl}
 use native.Mathlib.Omega.{arith}
 use borrow.Author.Needs.{needs}
 use lib.ListN.{length, drop, drop-of-length-le}
-use Rattle.calculus.proofs.Lists.{rest}
-use Rattle.calculus.proofs.Stores.{Written, begin, store, finish}
+use Rattle.calculus.proofs.Lists.{drop-step}
+use Rattle.calculus.proofs.Stores.{Written, written-begin, written-store, written-finish}
 use Rattle.line.proofs.text.copy.Statement.{statement}
 use Rattle.line.proofs.text.copy.Tie as tie
 
@@ -16,7 +16,7 @@ abbrev μ-loop : tie.MeasureT-loop
 μ-loop out₀ text i₀ out i = length text - i
 
 loop-holds : tie.Need-loop-holds Inv-loop μ-loop
-loop-holds c = (omega arith, begin _ _ (c .pre))
+loop-holds c = (omega arith, written-begin _ _ (c .pre))
 
 shared-slice-read-out : tie.Need-shared-slice-read-out Inv-loop μ-loop
 shared-slice-read-out c = search needs
@@ -34,7 +34,7 @@ loop-again : tie.Need-loop-again Inv-loop μ-loop
 loop-again c =
     let l = c .before .before .loop in
     let text = c .before .before .before .args .text .now in
-    (omega arith, store _ refl (rw (rest text (l .i) (omega arith)) at (l .inv .1)))
+    (omega arith, written-store _ refl (rw (drop-step text (l .i) (omega arith)) at (l .inv .1)))
 
 same-length : tie.Need-same-length Inv-loop μ-loop
 same-length c = search needs
@@ -43,7 +43,7 @@ returns : tie.Need-returns Inv-loop μ-loop
 returns c =
     let l = c .before .loop in
     let text = c .before .before .args .text .now in
-    finish (rw (drop-of-length-le text {i = l .i} (omega arith)) at (l .inv .1))
+    written-finish (rw (drop-of-length-le text {i = l .i} (omega arith)) at (l .inv .1))
 
 pub copy-spec : {M : Type 1} → statement M
 copy-spec =

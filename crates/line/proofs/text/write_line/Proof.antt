@@ -35,8 +35,8 @@ module _ (c : tie.After-slice-known3) where
   few : length ds ≤ maxDigits
   few = digits-few (start .args .n) (start .fits .n .fits)
 
-  stands : putMid (length word) (length (copied .copy .last .0) - length word) (copied .copy .last .0) (c .before .before .decimal .last .0) ≡ overwrite (word ++ ds) out
-  stands = with-word word ds out _ _ (omega arith) (copied .copy .ensures) (c .before .before .decimal .ensures .1)
+  placed : putMid (length word) (length (copied .copy .last .0) - length word) (copied .copy .last .0) (c .before .before .decimal .last .0) ≡ overwrite (word ++ ds) out
+  placed = with-word word ds out _ _ (omega arith) (copied .copy .ensures) (c .before .before .decimal .ensures .1)
 
   room : length (overwrite (word ++ ds) out) ≡ length out
   room = overwrite-length (word ++ ds) out (rw length-append (omega (arith, few)))
@@ -63,18 +63,18 @@ add-end : tie.Need-add-end
 add-end c = omega (arith, few c)
 
 slice-write-out : tie.Need-slice-write-out
-slice-write-out c = rw (stands c) (omega (arith, few c, room c))
+slice-write-out c = rw (placed c) (omega (arith, few c, room c))
 
 add-result : tie.Need-add-result
 add-result c = omega (arith, few c)
 
 same-length : tie.Need-same-length
-same-length c = simp length-set (ap length (stands c) ∙ room c)
+same-length c = simp length-set (ap length (placed c) ∙ room c)
 
 returns : tie.Need-returns
 returns c =
     let count = c .before .before .decimal .ensures .0 in
-    (rw (count, line-length), rw (stands c) (line-end (word c) (out c) (start c .args .n) _ count (omega (arith, few c))))
+    (rw (count, line-length), rw (placed c) (line-end (word c) (out c) (start c .args .n) _ count (omega (arith, few c))))
 
 pub write-line-spec : {M : Type 1} → statement M
 write-line-spec =

@@ -1,7 +1,7 @@
 -- `parse::number::numbers` meets its contract: the numbers read so far are at the front, and the others are read after them. Assumes nothing.
 use Prim.Native.Nat.{_-_}
 use native.Mathlib.Omega.{arith}
-use Rattle.parse.proofs.Filling.{Filling, fill-start, fill-room, fill-more, fill-end}
+use Rattle.parse.proofs.Filling.{Filling, fill-start, fill-room, numbers-filled-more, fill-end}
 use Rattle.parse.proofs.number.numbers.Statement.{statement}
 use Rattle.parse.proofs.number.numbers.Tie as tie
 
@@ -33,7 +33,7 @@ loop-less : tie.Need-loop-less Inv-loop μ-loop
 loop-less c = omega arith
 
 loop-again : tie.Need-loop-again Inv-loop μ-loop
-loop-again c = fill-more (c .before .before .loop .inv) (c .before .loop-test .taken) (c .number .ensures .0)
+loop-again c = numbers-filled-more (c .before .before .loop .inv) (c .before .loop-test .taken) (c .number .ensures .0)
 
 same-length : tie.Need-same-length Inv-loop μ-loop
 same-length c = c .before .loop .inv .written .same

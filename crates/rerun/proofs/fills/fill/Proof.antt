@@ -10,7 +10,7 @@ use Rattle.calculus.specs.declared.answer.Answer.the-variants.{Done}
 use Rattle.calculus.specs.Answer.{after}
 use lib.Dec.{leb}
 use Rattle.calculus.specs.Cell.{nulls, put}
-use Rattle.calculus.proofs.Bools.{both}
+use Rattle.calculus.proofs.Bools.{and-parts}
 use Rattle.instance.specs.declared.header.Header.{Header}
 use Rattle.instance.specs.Substitute.{substituted}
 use Rattle.instance.proofs.Accepted.{substitute-accepted}
@@ -29,7 +29,7 @@ module _ (c : tie.After-enum-told) where
   h = c .before .before .before .before .before .before .before .before .args .header
 
   abbrev ws : List ℕ
-  ws = c .before .before .before .before .before .before .before .before .args .plot .now
+  ws = c .before .before .before .before .before .before .before .before .args .instance .now
 
   abbrev m : ℕ
   m = c .before .before .before .before .before .before .before .before .args .mark
@@ -43,7 +43,7 @@ module _ (c : tie.After-enum-told) where
 replace-requires : tie.Need-replace-requires
 replace-requires c κs =
     let b = c .before in
-    let mark = both (leb 1 (m b)) (leb (m b) nulls) (substitute-accepted (h b) (ws b) (m b) (cell b) _ (accepted b) .mark) in
+    let mark = and-parts (leb 1 (m b)) (leb (m b) nulls) (substitute-accepted (h b) (ws b) (m b) (cell b) _ (accepted b) .mark) in
     let few = leb-true (m b) nulls (mark .1) in
     (omega arith, omega arith)
 

@@ -12,12 +12,12 @@ use Rattle.rerun.proofs.fills.fill_all.Statement.{statement}
 use Rattle.rerun.proofs.fills.fill_all.Tie as tie
 
 abbrev Inv-loop : tie.InvT-loop
-Inv-loop header plot₀ candidate₀ fills answers₀ i₀ plot candidate answers i =
-    (i ≤ length fills) × (length plot ≡ length plot₀) × (length candidate ≡ length candidate₀) × (length answers ≡ length answers₀) ×
-    Going header fills plot₀ candidate₀ answers₀ plot candidate answers i
+Inv-loop header plot₀ candidate₀ fills answers₀ i₀ instance candidate answers i =
+    (i ≤ length fills) × (length instance ≡ length plot₀) × (length candidate ≡ length candidate₀) × (length answers ≡ length answers₀) ×
+    Going header fills plot₀ candidate₀ answers₀ instance candidate answers i
 
 abbrev μ-loop : tie.MeasureT-loop
-μ-loop header plot₀ candidate₀ fills answers₀ i₀ plot candidate answers i = length fills - i
+μ-loop header plot₀ candidate₀ fills answers₀ i₀ instance candidate answers i = length fills - i
 
 loop-holds : tie.Need-loop-holds Inv-loop μ-loop
 loop-holds c = (omega arith, refl, refl, refl, begin _ _ _ _ _)
@@ -86,7 +86,7 @@ loop-again c =
       search needs,
       search needs,
       search needs,
-      step (args .header) (args .fills .now) (args .plot .now) (args .candidate .now) (args .answers .now) (at .plot) (at .candidate) out (at .i) (at .inv .4)
+      step (args .header) (args .fills .now) (args .instance .now) (args .candidate .now) (args .answers .now) (at .instance) (at .candidate) out (at .i) (at .inv .4)
           (omega arith) (omega arith) _ _ _ (filled .result) (filled .ensures .0) (filled .ensures .1 .0) (filled .ensures .1 .1) is-stored,
     )
 

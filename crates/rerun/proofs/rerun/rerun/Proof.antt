@@ -22,7 +22,7 @@ module _ (c : tie.After-truth-a) where
   h = start .args .header
 
   abbrev ws : List ℕ
-  ws = start .args .plot .now
+  ws = start .args .instance .now
 
   abbrev qs : List ℕ
   qs = start .args .query .now
@@ -68,7 +68,7 @@ module _ (c : tie.After-ask2) where
 returns : tie.Need-returns
 returns c =
     let args = c .before .before .before .before .before .before .before .args in
-    no-place (args .header) (args .plot .now) (args .query .now) (args .candidate .now) (args .buffer .now) (args .budget) (args .fills .now) (args .answers .now) (c .if1 .taken)
+    no-place (args .header) (args .instance .now) (args .query .now) (args .candidate .now) (args .buffer .now) (args .budget) (args .fills .now) (args .answers .now) (c .if1 .taken)
 
 ask-requires : tie.Need-ask-requires
 ask-requires c κs = search needs
@@ -109,7 +109,7 @@ returns-2 c =
     let room = asked .before .before .before .before in
     let args = room .before .before .before .before .before .before .before .args in
     let told = asked .ask .ensures in
-    refused (args .header) (args .plot .now) (args .query .now) (args .candidate .now) (args .buffer .now) (args .budget) (args .fills .now) (args .answers .now) (room .if1 .left) _ (sym (c .before .why-a .given .1) ∙ told .0) _ (told .1 .0)
+    refused (args .header) (args .instance .now) (args .query .now) (args .candidate .now) (args .buffer .now) (args .budget) (args .fills .now) (args .answers .now) (room .if1 .left) _ (sym (c .before .why-a .given .1) ∙ told .0) _ (told .1 .0)
 
 same-length-4 : tie.Need-same-length-4
 same-length-4 c = search needs

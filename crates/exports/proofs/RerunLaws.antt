@@ -1,0 +1,131 @@
+-- Demand 3 holds for the exported calls: with a header of ten words they are the library's, and with any other no question gets a verdict. Assumes
+-- nothing.
+use Prim.Native.Nat.{ℕ}
+use mathlib.Core.Path.{_≡_, refl, sym, ap, _∙_}
+use mathlib.Core.Bool.{Bool, true, false}
+use mathlib.Core.List.{List, [], _∷_}
+use native.Mathlib.Omega.{arith}
+use lib.ListN.{length}
+use lib.Dec.{eqb}
+use borrow.Author.Tests.{eqb-true}
+use Rattle.calculus.specs.declared.truth.Truth.{Truth}
+use Rattle.calculus.specs.declared.truth.Truth.the-variants.{Unknown}
+use Rattle.calculus.specs.Kleene.{rank}
+use Rattle.calculus.specs.Order.{_⊑_, unknown, alike}
+use Rattle.calculus.specs.Refusal.{unsound}
+use Rattle.calculus.specs.Model.{Model, next, afterFills}
+use Rattle.instance.specs.Run.{filledWords}
+use Rattle.instance.specs.Substitute.{substituted, substitutedWords}
+use Rattle.instance.proofs.Run.{Follows, follows-answer, follows-next}
+use Rattle.answer.specs.declared.asked.Asked.{Asked}
+use Rattle.answer.specs.declared.asked.Asked.the-variants as asked
+use Rattle.answer.specs.Ask.{ask}
+use Rattle.answer.specs.Numbers.{askedAs, askedNumber, verdictOf, costOf}
+use Rattle.answer.proofs.RerunLaws.{not-refused, verdict-asked, demand-three}
+use Rattle.calls.specs.Calls.{asks}
+use Rattle.calls.proofs.Numbers.{every-number}
+use Rattle.exports.specs.Words.{headerLength, headerOf}
+use Rattle.exports.specs.Calls.{substituteAnswer, substituteWords, askAnswer}
+use Rattle.exports.specs.Steps.{Instance, Step, fills, calls, instanceAfter, WriteNoWord, fillsAmong, fillsSeen, modelSeen}
+use Rattle.exports.specs.Rerun.{start, modelAfter, ExportedRerun, ExportedDemandThree}
+use Rattle.exports.proofs.Headed.{headed-yes, kept-yes}
+
+module _ (hs : List ℕ) (ten : length hs ≡ headerLength) where
+  -- a fill by the exported call is a fill by the library's call
+  fill-words : (ws : List ℕ) (m c : ℕ) → substituteWords hs ws m c ≡ substitutedWords (headerOf hs) ws m c
+  unfolding substituteWords
+  fill-words ws m c = kept-yes hs ten (substitutedWords (headerOf hs) ws m c) ws
+
+  fill-answer : (ws : List ℕ) (m c : ℕ) → substituteAnswer hs ws m c ≡ substituted (headerOf hs) ws m c
+  unfolding substituteAnswer
+  fill-answer ws m c = headed-yes hs ten (substituted (headerOf hs) ws m c)
+
+  ask-is : (ws qs candidate buffer : List ℕ) (budget : ℕ) → askAnswer hs ws qs candidate buffer budget ≡ ask (headerOf hs) ws qs candidate buffer budget
+  unfolding askAnswer
+  ask-is ws qs candidate buffer budget = kept-yes hs ten (ask (headerOf hs) ws qs candidate buffer budget) (asked.Refused unsound)
+
+  abbrev of : List ℕ → Instance
+  of ws = record { header = hs; words = ws }
+
+  -- the steps leave what the fills among them leave
+  instance-after : (ss : List Step) (ws : List ℕ) → WriteNoWord ss (of ws) → instanceAfter ss (of ws) ≡ of (filledWords (headerOf hs) (fillsAmong ss) ws)
+  unfolding instanceAfter WriteNoWord fillsAmong afterFills
+  instance-after [] ws q = refl
+  instance-after (fills f count ∷ ss) ws q =
+      let e = fill-words ws (f .mark) (f .cell) in
+      ap (λ (x : List ℕ). instanceAfter ss (of x)) e ∙ instance-after ss (substitutedWords (headerOf hs) ws (f .mark) (f .cell)) (rw e at q)
+  instance-after (calls c ∷ ss) ws q = ap (instanceAfter ss) (q .0) ∙ instance-after ss ws (rw (q .0) at (q .1))
+
+  -- C sees of the fills what the model answers
+  fills-seen : (ss : List Step) (first ws : List ℕ) (b : Model) → Follows (headerOf hs) first ws b → WriteNoWord ss (of ws) → fillsSeen ss (of ws) ≡ modelSeen ss b
+  unfolding fillsSeen WriteNoWord modelSeen
+  fills-seen [] first ws b g q = refl
+  fills-seen (fills f count ∷ ss) first ws b g q =
+      let e = fill-words ws (f .mark) (f .cell) in
+      let more = fills-seen ss first (substitutedWords (headerOf hs) ws (f .mark) (f .cell)) (next f b) (follows-next (headerOf hs) first f ws b g) (rw e at q) in
+      rw (fill-answer ws (f .mark) (f .cell), follows-answer (headerOf hs) first f ws b g, e, more) refl
+  fills-seen (calls c ∷ ss) first ws b g q = ap (fillsSeen ss) (q .0) ∙ fills-seen ss first ws b g (rw (q .0) at (q .1))
+
+-- a question that gets a verdict has a header of ten words
+has-ten : (hs ws qs candidate buffer : List ℕ) (budget : ℕ) (t : Truth) (n : ℕ) → askAnswer hs ws qs candidate buffer budget ≡ asked.Verdict t n → length hs ≡ headerLength
+unfolding askAnswer
+has-ten hs ws qs candidate buffer budget t n e = go (eqb (length hs) headerLength) refl
+  where
+    go : (b : Bool) → eqb (length hs) headerLength ≡ b → length hs ≡ headerLength
+    go true is = eqb-true (length hs) headerLength is
+    go false is = absurd (not-refused (rw is at e))
+
+-- a question is not refused with 0
+not-zero : (hs ws qs candidate buffer : List ℕ) (budget : ℕ) → askAnswer hs ws qs candidate buffer budget ≡ asked.Refused 0 → ⊥
+unfolding askAnswer
+not-zero hs ws qs candidate buffer budget e = go (eqb (length hs) headerLength) refl
+  where
+    go : (b : Bool) → eqb (length hs) headerLength ≡ b → ⊥
+    go true is = every-number (asks (headerOf hs) qs candidate buffer budget) ws 0 (ap askedAs (rw is at e)) .not-zero refl
+    go false is = let z : _≡_ {A = ℕ} 41 0 = cc (rw is at e) in omega arith
+
+-- a verdict that is kept, as its number
+rank-kept : {t u : Truth} → t ⊑ u → (rank t ≡ rank Unknown → ⊥) → rank u ≡ rank t
+rank-kept unknown some = absurd (some refl)
+rank-kept alike some = refl
+
+pub exported-demand-three : ExportedDemandThree
+exported-demand-three p qs candidate buffer budget ss list′ budget′ truth cost truth′ cost′ quiet longer larger zero = go (askAnswer (p .header) (p .words) qs candidate buffer budget) refl
+  where
+    verdict :
+        (t : Truth) (n : ℕ) → askAnswer (p .header) (p .words) qs candidate buffer budget ≡ asked.Verdict t n →
+        ExportedRerun p qs candidate ss (askAnswer (p .header) (p .words) qs candidate buffer budget)
+        (askAnswer (instanceAfter ss p .header) (instanceAfter ss p .words) qs (modelAfter p candidate ss .candidate) list′ budget′) truth cost truth′ cost′
+    verdict t n e =
+        let hs = p .header in
+        let ws = p .words in
+        let ten = has-ten hs ws qs candidate buffer budget t n e in
+        let asks : ask (headerOf hs) ws qs candidate buffer budget ≡ asked.Verdict t n = sym (ask-is hs ten ws qs candidate buffer budget) ∙ e in
+        let d = demand-three (headerOf hs) ws qs candidate buffer budget (fillsAmong ss) list′ budget′ longer larger t n asks in
+        let sound = verdict-asked (headerOf hs) ws qs candidate buffer budget t n asks .0 .is-sound in
+        let left = instance-after hs ten ss ws quiet in
+        let b =
+        ap (λ (x : Instance). askAnswer (x .header) (x .words) qs (modelAfter p candidate ss .candidate) list′ budget′) left ∙
+        ask-is hs ten (filledWords (headerOf hs) (fillsAmong ss) ws) qs (modelAfter p candidate ss .candidate) list′ budget′ ∙ d .answers
+        in
+        record {
+          answered = fills-seen hs ten ss ws ws (start p candidate) (record { is-sound = sound; holds = refl; long = refl; others = refl }) quiet;
+          header = ap (λ (x : Instance). x .header) left;
+          words = ap (λ (x : Instance). x .words) left ∙ d .ran .words;
+          number = ap askedNumber b;
+          kept =
+              λ some. ap (λ (x : Asked). verdictOf x truth′) b ∙
+              rank-kept (d .kept) (λ z. some (ap (λ (x : Asked). verdictOf x truth) e ∙ z)) ∙
+              sym (ap (λ (x : Asked). verdictOf x truth) e);
+          no-more = omega (arith, ap (λ (x : Asked). costOf x cost′) b, ap (λ (x : Asked). costOf x cost) e, d .no-more);
+          two-valued = λ q. ap (λ (x : Asked). verdictOf x truth′) b ∙ ap rank (d .two-valued q);
+        }
+
+    go :
+        (a : Asked) → askAnswer (p .header) (p .words) qs candidate buffer budget ≡ a →
+        ExportedRerun p qs candidate ss (askAnswer (p .header) (p .words) qs candidate buffer budget)
+        (askAnswer (instanceAfter ss p .header) (instanceAfter ss p .words) qs (modelAfter p candidate ss .candidate) list′ budget′) truth cost truth′ cost′
+    go (asked.Verdict t n) e = verdict t n e
+    go (asked.Refused r) e =
+        let none : r ≡ 0 = sym (ap askedNumber e) ∙ zero in
+        absurd (not-zero (p .header) (p .words) qs candidate buffer budget (e ∙ ap asked.Refused none))

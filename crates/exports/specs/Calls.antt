@@ -1,0 +1,64 @@
+-- The exported calls: those that `instance`, `card` and `answer` define, with a header that is a slice of ten words.
+use Prim.Native.Nat.{ℕ}
+use mathlib.Core.List.{List}
+use Rattle.calculus.specs.declared.answer.Answer.{Answer}
+use Rattle.calculus.specs.Answer.{after}
+use Rattle.instance.specs.Insert.{inserted, insertedHeader, insertedWords}
+use Rattle.instance.specs.Substitute.{substituted, substitutedWords}
+use Rattle.instance.specs.NullCounts.{counted, countedWords}
+use Rattle.card.specs.Decode.{decoded}
+use Rattle.card.specs.Encode.{encoded, encodedBytes}
+use Rattle.calculus.specs.Refusal.{unsound}
+use Rattle.answer.specs.declared.asked.Asked.{Asked}
+use Rattle.answer.specs.declared.asked.Asked.the-variants as asked
+use Rattle.answer.specs.Ask.{ask, askedBuffer}
+use Rattle.exports.specs.Words.{headed, ifHeaded, headerOf, headerWords}
+
+module _ (card hs ws : List ℕ) where
+  unfoldable pub decodeAnswer : Answer
+  decodeAnswer = headed hs (decoded card ws .answer)
+
+  unfoldable pub decodeHeader : List ℕ
+  unfolding decodeAnswer
+  decodeHeader = after decodeAnswer (headerWords (decoded card ws .header)) hs
+
+  unfoldable pub decodeWords : List ℕ
+  decodeWords = ifHeaded hs (decoded card ws .words) ws
+
+module _ (hs ws : List ℕ) (relation : ℕ) (cells : List ℕ) where
+  unfoldable pub insertAnswer : Answer
+  insertAnswer = headed hs (inserted (headerOf hs) ws relation cells)
+
+  unfoldable pub insertHeader : List ℕ
+  unfolding insertAnswer
+  insertHeader = after insertAnswer (headerWords (insertedHeader (headerOf hs) ws relation cells)) hs
+
+  unfoldable pub insertWords : List ℕ
+  insertWords = ifHeaded hs (insertedWords (headerOf hs) ws relation cells) ws
+
+module _ (hs ws : List ℕ) (mark cell : ℕ) where
+  unfoldable pub substituteAnswer : Answer
+  substituteAnswer = headed hs (substituted (headerOf hs) ws mark cell)
+
+  unfoldable pub substituteWords : List ℕ
+  substituteWords = ifHeaded hs (substitutedWords (headerOf hs) ws mark cell) ws
+
+module _ (hs ws out : List ℕ) where
+  unfoldable pub countsAnswer : Answer
+  countsAnswer = headed hs (counted (headerOf hs) ws out)
+
+  unfoldable pub countsWords : List ℕ
+  countsWords = ifHeaded hs (countedWords (headerOf hs) ws out) out
+
+  unfoldable pub encodeAnswer : Answer
+  encodeAnswer = headed hs (encoded (headerOf hs) ws out)
+
+  unfoldable pub encodeBytes : List ℕ
+  encodeBytes = ifHeaded hs (encodedBytes (headerOf hs) ws out) out
+
+module _ (hs ws qs candidate buffer : List ℕ) where
+  unfoldable pub askAnswer : ℕ → Asked
+  askAnswer budget = ifHeaded hs (ask (headerOf hs) ws qs candidate buffer budget) (asked.Refused unsound)
+
+  unfoldable pub askBuffer : List ℕ
+  askBuffer = ifHeaded hs (askedBuffer (headerOf hs) ws qs candidate buffer) buffer

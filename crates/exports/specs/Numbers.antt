@@ -1,0 +1,51 @@
+-- The numbers that the exported calls return: the library's, and 41 if the header does not have ten words. 0 means that the call was accepted.
+use Prim.Native.Nat.{ℕ}
+use mathlib.Core.Path.{_≡_}
+use mathlib.Core.Bool.{Bool, true, false}
+use mathlib.Core.List.{List, [], _∷_}
+use Rattle.calculus.specs.declared.answer.Answer.{Answer}
+use Rattle.calculus.specs.declared.answer.Answer.the-variants.{Done, Refused}
+use Rattle.calculus.specs.Refusal.{unsound, budget-spent}
+use Rattle.calls.specs.Numbers.{insertNumbers, fillNumbers, writeNumbers, readNumbers, askNumbers}
+use Rattle.exports.specs.Calls.{countsWords, encodeBytes, askBuffer}
+use Rattle.exports.specs.Steps.{Job, asks, counts, encodes, inserts, substitutes, decodes, answerOn, numberOn, headerLeft, wordsLeft}
+use Rattle.calculus.specs.Listed.{listed}
+
+abbrev pub numbersOf : Job → List ℕ
+numbersOf (asks qs candidate buffer budget) = askNumbers
+numbersOf (counts out) = writeNumbers
+numbersOf (encodes out) = writeNumbers
+numbersOf (inserts relation cells) = insertNumbers
+numbersOf (substitutes m c) = fillNumbers
+numbersOf (decodes card) = unsound ∷ readNumbers
+
+abbrev pub isDone : Answer → Bool
+isDone (Done n) = true
+isDone (Refused r) = false
+
+-- what else a call may write, before the call and after it: the words of the census, the bytes of the card, the working list
+abbrev pub outGiven : Job → List ℕ
+outGiven (asks qs candidate buffer budget) = buffer
+outGiven (counts out) = out
+outGiven (encodes out) = out
+outGiven (inserts relation cells) = []
+outGiven (substitutes m c) = []
+outGiven (decodes card) = []
+
+abbrev pub outLeft : Job → List ℕ → List ℕ → List ℕ
+outLeft (asks qs candidate buffer budget) hs ws = askBuffer hs ws qs candidate buffer
+outLeft (counts out) hs ws = countsWords hs ws out
+outLeft (encodes out) hs ws = encodeBytes hs ws out
+outLeft (inserts relation cells) hs ws = []
+outLeft (substitutes m c) hs ws = []
+outLeft (decodes card) hs ws = []
+
+-- 0 or a number of the call's table; 0 only if it is accepted; "A refused call changes nothing it was lent but the working list under 46"
+pub record Returns (j : Job) (hs ws : List ℕ) : Type 0 where
+  pub tabled : listed (numberOn j hs ws) (0 ∷ numbersOf j) ≡ true
+  pub accepted : numberOn j hs ws ≡ 0 → isDone (answerOn j hs ws) ≡ true
+  pub refused : (numberOn j hs ws ≡ 0 → ⊥) → (headerLeft j hs ws ≡ hs) × (wordsLeft j hs ws ≡ ws)
+  pub out : (numberOn j hs ws ≡ 0 → ⊥) → (numberOn j hs ws ≡ budget-spent → ⊥) → outLeft j hs ws ≡ outGiven j
+
+abbrev pub EveryReturn : Type 0
+EveryReturn = (j : Job) (hs ws : List ℕ) → Returns j hs ws

@@ -1,0 +1,127 @@
+// A header as words, and an answer as numbers.
+ghost use mathlib.Core.Path.{_≡_};
+ghost use lib.ListN.{length, take, drop};
+ghost use Rattle.calculus.specs.Answer.{after, numberOf, valueOf};
+ghost use Rattle.calculus.specs.Kleene.{rank};
+ghost use Rattle.answer.specs.Numbers.{askedNumber, verdictOf, costOf};
+ghost use Rattle.exports.specs.Words.{headerOf, headerWords, headerLength};
+ghost use Rattle.instance.specs.Header.{maxRelations};
+ghost use Prim.Native.Nat.{_+_, _≤_};
+ghost use lib.Seq.{paste};
+use answer::asked::Asked;
+use calculus::answer::Answer;
+use calculus::truth::Truth;
+use instance::header::Header;
+use instance::header::header_with;
+
+// the number of words of a header
+pub const HEADER: usize = 10;
+
+// Eight words of a slice, from index `at`.
+fn eight(words: &[u32], at: usize) -> [u32; 8]
+    requires { ⌜ (at + maxRelations ≤ length (now words)) × (at ≤ headerLength) ⌝ }
+    ensures { λ r. ⌜ r ≡ take maxRelations (drop at (now (words .entry))) ⌝ }
+{
+    let mut values = [0u32; 8];
+    let mut i = 0;
+    while i < 8 {
+        values[i] = words[at + i];
+        i += 1;
+    }
+    values
+}
+
+// Writes eight words into a slice, from index `at`.
+fn put_eight(words: &mut [u32], at: usize, values: &[u32; 8])
+    requires { ⌜ (at + maxRelations ≤ length (now words)) × (at ≤ headerLength) × (length (now values) ≡ maxRelations) ⌝ }
+    ensures { λ _. ⌜ now (words .exit) ≡ paste (now (words .entry)) at (now (values .entry)) maxRelations ⌝ }
+{
+    let mut i = 0;
+    while i < 8 {
+        words[at + i] = values[i];
+        i += 1;
+    }
+}
+
+pub fn read_header(words: &[u32]) -> Header
+    requires { ⌜ length (now words) ≡ headerLength ⌝ }
+    ensures { λ r. ⌜ r ≡ headerOf (now (words .entry)) ⌝ }
+{
+    let arities = eight(words, 1);
+    header_with(words[0], arities, words[9])
+}
+
+fn write_header(words: &mut [u32], header: Header)
+    requires { ⌜ length (now words) ≡ headerLength ⌝ }
+    ensures { λ _. ⌜ now (words .exit) ≡ headerWords header ⌝ }
+{
+    let arities = header.arities;
+    words[0] = header.relations;
+    put_eight(words, 1, &arities);
+    words[9] = header.used;
+}
+
+// Writes the header that an accepted call leaves; a refused call leaves the words as they are.
+pub fn put_header(words: &mut [u32], answer: Answer, header: Header)
+    requires { ⌜ length (now words) ≡ headerLength ⌝ }
+    ensures { λ _. ⌜ now (words .exit) ≡ after answer (headerWords header) (now (words .entry)) ⌝ }
+{
+    if let Answer::Done(_) = answer {
+        write_header(words, header);
+    }
+}
+
+pub fn number(answer: Answer) -> u32
+    ensures { λ r. ⌜ r ≡ numberOf answer ⌝ }
+{
+    match answer {
+        Answer::Done(_) => 0,
+        Answer::Refused(why) => why,
+    }
+}
+
+pub fn value(answer: Answer, old: u32) -> u32
+    ensures { λ r. ⌜ r ≡ valueOf answer old ⌝ }
+{
+    match answer {
+        Answer::Done(n) => n,
+        Answer::Refused(_) => old,
+    }
+}
+
+fn truth_number(truth: Truth) -> u32
+    ensures { λ r. ⌜ r ≡ rank truth ⌝ }
+{
+    match truth {
+        Truth::False => 0,
+        Truth::Unknown => 1,
+        Truth::True => 2,
+    }
+}
+
+pub fn asked_number(asked: Asked) -> u32
+    ensures { λ r. ⌜ r ≡ askedNumber asked ⌝ }
+{
+    match asked {
+        Asked::Verdict(_, _) => 0,
+        Asked::Refused(why) => why,
+    }
+}
+
+pub fn verdict(asked: Asked, old: u32) -> u32
+    ensures { λ r. ⌜ r ≡ verdictOf asked old ⌝ }
+{
+    match asked {
+        Asked::Verdict(truth, _) => truth_number(truth),
+        Asked::Refused(_) => old,
+    }
+}
+
+pub fn cost_of(asked: Asked, old: u32) -> u32
+    ensures { λ r. ⌜ r ≡ costOf asked old ⌝ }
+{
+    match asked {
+        Asked::Verdict(_, n) => n,
+        Asked::Refused(_) => old,
+    }
+}

@@ -1,0 +1,14 @@
+-- What a sound instance gives: its header stands, and so do its words in use.
+use Prim.Native.Nat.{ℕ, _≤_}
+use mathlib.Core.Path.{_≡_}
+use mathlib.Core.Bool.{true}
+use mathlib.Core.List.{List}
+use lib.ListN.{length}
+use Rattle.instance.specs.Header.{headerWellFormed, maxWords}
+use Rattle.instance.specs.Rows.{wordsWellFormed}
+
+-- n relations with the arities ars, and the words in use
+pub record InstanceWellFormed (n : ℕ) (ars ws : List ℕ) : Type 0 where
+  pub header : headerWellFormed n ars ≡ true
+  pub few : length ws ≤ maxWords
+  pub words : wordsWellFormed n ars 0 ws ≡ true
