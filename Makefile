@@ -1,6 +1,8 @@
 # The program and the library are built by rt, the C side by the rules here and in the .mk file of each folder.
 # What is built goes below target/.
 .PHONY: run test fmt lib c-test example verdicts bench bench-page builds
+# objects on the way to a program are kept
+.SECONDARY:
 
 # the crate whose exports are the library for C
 EXPORTS := exports

@@ -18,7 +18,7 @@ $(ALIGNED)/bench: target/c-aligned/bench/bench.o $(MEASURED) $(LIBRARY)
 	@mkdir -p $(@D)
 	$(CC) $^ -o $@
 
-# this build's questions against those of an earlier one, beside the control, which is this build against itself:
+# this build's calls against those of an earlier one, beside the control, which is this build against itself:
 # make builds OTHER=path/libplotask.a
 builds: target/c-aligned/bench/builds.o $(MEASURED) $(LIBRARY)
 	$(if $(OTHER),,$(error the earlier build is missing: make builds OTHER=path/libplotask.a))

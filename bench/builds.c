@@ -1,43 +1,51 @@
 /*
- * The queries of this build of the library against those of another build, in one run. First comes the control: this
- * build against a copy of itself, whose symbols have the prefix control_. A ratio against the other build, whose
+ * The calls of this build of the library against those of another build, in one run. Beside it stands the control:
+ * this build against a copy of itself, whose symbols have the prefix control_. A ratio against the other build, whose
  * symbols have the prefix other_, means something only if it is clearly farther from 1 than the control's.
  */
 #include "work/work.h"
 
 #include <stdio.h>
 
-typedef uint32_t asking(const uint32_t *header, size_t header_words, const uint32_t *plot, size_t plot_words,
-                        const uint32_t *query, size_t query_words, const uint32_t *candidate, size_t candidate_cells,
-                        uint32_t *list, size_t list_words, uint32_t budget, uint32_t *truth, uint32_t *cost);
+#define CALLS(prefix)                                            \
+    __typeof__(plotask_ask) prefix##plotask_ask;                 \
+    __typeof__(plotask_decode) prefix##plotask_decode;           \
+    __typeof__(plotask_encode) prefix##plotask_encode;           \
+    __typeof__(plotask_substitute) prefix##plotask_substitute;   \
+    __typeof__(plotask_null_counts) prefix##plotask_null_counts; \
+    __typeof__(plotask_insert) prefix##plotask_insert
 
-asking control_plotask_ask, other_plotask_ask;
+CALLS(control_);
+CALLS(other_);
 
-static uint32_t list[PLOTASK_CELLS];
+static const struct build this = BUILD(), control = BUILD(control_), other = BUILD(other_);
 
-static void ask_build(asking *build)
+/* The call that is timed. */
+static work *timed;
+
+static void by(const struct build *which)
 {
-    refusal = build(PLOTASK_HEADER(&now.header), now.plot, PLOTASK_WORDS, now.query, now.query_words, now.candidate,
-                    now.candidate_cells, list, PLOTASK_CELLS, UINT32_MAX, &truth, &count);
+    build = which;
+    timed();
 }
 
-static void ask_this(void)
+static void by_this(void)
 {
-    ask_build(plotask_ask);
+    by(&this);
 }
 
-static void ask_control(void)
+static void by_control(void)
 {
-    ask_build(control_plotask_ask);
+    by(&control);
 }
 
-static void ask_other(void)
+static void by_other(void)
 {
-    ask_build(other_plotask_ask);
+    by(&other);
 }
 
 /*
- * Gives every cell a constant of its own, out of four buckets of the library's hash table (crates/lookup/src/chain.rt):
+ * Gives every cell a constant of its own, out of four buckets of the library's hash table (crates/domain/src/chain.rt):
  * its worst case.
  */
 static void share_buckets(struct sample *sample)
@@ -66,7 +74,7 @@ static const struct {
     const char *name;
     uint32_t columns, rows, values;
     void (*change)(struct sample *sample); /* of the plot, or null */
-    void (*ask)(struct sample *sample);
+    void (*query)(struct sample *sample);
 } queries[] = {
     {"no row asked; 3,510 different values", PLOTASK_COLUMNS, FULL_ROWS, PLOTASK_CELLS, NULL, ask_nothing},
     {"one row, no match; 3,510 different values", PLOTASK_COLUMNS, FULL_ROWS, PLOTASK_CELLS, NULL, ask_absent_row},
@@ -74,45 +82,72 @@ static const struct {
      share_buckets, ask_nothing},
     {"no row asked; 16 different values", PLOTASK_COLUMNS, FULL_ROWS, FEW_VALUES, NULL, ask_nothing},
     {"one row, no match; 16 different values", PLOTASK_COLUMNS, FULL_ROWS, FEW_VALUES, NULL, ask_absent_row},
+    {"one row, match in the first row; 16 different values", PLOTASK_COLUMNS, FULL_ROWS, FEW_VALUES, NULL,
+     ask_first_columns},
+    {"for every value one row, no match; 16 different values", PLOTASK_COLUMNS, FULL_ROWS, FEW_VALUES, NULL,
+     ask_absent},
     {"no row asked; 1 value", PLOTASK_COLUMNS, FULL_ROWS, 1, NULL, ask_nothing},
     {"one row, unifies with every row; marks in every row, 205 different values", PLOTASK_COLUMNS, FULL_ROWS, 1,
      null_every_row, ask_first_columns},
+    {"no row asked; 4,096 words in rows of one cell, 16 different values", 1, PLOTASK_WORDS / 2, FEW_VALUES, NULL,
+     ask_nothing},
+    {"one row, no match; 4,096 words in rows of one cell, 16 different values", 1, PLOTASK_WORDS / 2, FEW_VALUES, NULL,
+     ask_absent_row},
     {"two nested quantifiers over 64 rows of one cell; 64 different values", 1, 64, 64, NULL, ask_pairs},
 };
 
-enum { QUERIES = sizeof queries / sizeof *queries };
+/* The other calls: how many rows of six columns the plot has. */
+static const struct {
+    const char *name;
+    work *call;
+    uint32_t rows;
+} calls[] = {
+    {"decode, 585 rows", decode, FULL_ROWS},
+    {"encode, 585 rows", encode, FULL_ROWS},
+    {"substitute, a mark in 585 cells", substitute, FULL_ROWS},
+    {"null counts, 585 rows", null_counts, FULL_ROWS},
+    {"insert after 584 rows", insert, FULL_ROWS - 1},
+};
 
-static void prepare(size_t query)
+enum { QUERIES = sizeof queries / sizeof *queries, ROWS = QUERIES + sizeof calls / sizeof *calls };
+
+/* Makes the plot of a row of the table, and chooses its call. Returns the row's name. */
+static const char *prepare(size_t row)
 {
-    make_plot(&now, queries[query].columns, queries[query].rows, queries[query].values);
-    if (queries[query].change)
-        queries[query].change(&now);
-    queries[query].ask(&now);
+    build = &this;
+    if (row >= QUERIES) {
+        prepare_calls(calls[row - QUERIES].rows);
+        timed = calls[row - QUERIES].call;
+        return calls[row - QUERIES].name;
+    }
+    make_plot(&now, queries[row].columns, queries[row].rows, queries[row].values);
+    if (queries[row].change)
+        queries[row].change(&now);
+    queries[row].query(&now);
+    timed = ask;
+    return queries[row].name;
 }
 
-/* Times a query of this build and of another one, and returns the time of this one divided by that of the other. */
-static double ratio_to(work *other, size_t query, double ns[2])
+/* Times the prepared call of this build and of another one, and returns the time of this one divided by the other's. */
+static double ratio_to(work *another, double ns[2])
 {
-    work *const works[] = {ask_this, other};
+    work *const works[] = {by_this, another};
 
-    prepare(query);
-    must_do(ask_this);
-    must_do(other);
+    must_do(by_this);
+    must_do(another);
     times_of(works, 2, ns);
     return ns[0] / ns[1];
 }
 
 int main(void)
 {
-    double control[QUERIES], ns[2];
-
-    for (size_t i = 0; i < QUERIES; i++)
-        control[i] = ratio_to(ask_control, i, ns);
-    puts("| question | this build, ns | the other, ns | ratio | ratio of the control |");
+    puts("| call | this build, ns | the other, ns | ratio | ratio of the control |");
     puts("|---|---|---|---|---|");
-    for (size_t i = 0; i < QUERIES; i++) {
-        double ratio = ratio_to(ask_other, i, ns);
-        printf("| %s | %.0f | %.0f | %.3g | %.3g |\n", queries[i].name, ns[0], ns[1], ratio, control[i]);
+    for (size_t row = 0; row < ROWS; row++) {
+        const char *name = prepare(row);
+        double ns[2], against_itself = ratio_to(by_control, ns), ratio = ratio_to(by_other, ns);
+
+        printf("| %s | %.0f | %.0f | %.3g | %.3g |\n", name, ns[0], ns[1], ratio, against_itself);
     }
     return 0;
 }

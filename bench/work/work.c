@@ -10,6 +10,9 @@ struct sample now;
 uint32_t refusal, truth, count;
 answering *by_hand;
 
+static const struct build this_build = BUILD();
+const struct build *build = &this_build;
+
 static uint32_t list[PLOTASK_CELLS];
 static uint8_t card[PLOTASK_CARD_BYTES], written[PLOTASK_CARD_BYTES];
 static uint32_t card_bytes;
@@ -20,8 +23,8 @@ static const uint32_t row[PLOTASK_COLUMNS] = {1, 2, 3, 4, 5, 6};
 
 void ask(void)
 {
-    refusal = plotask_ask(PLOTASK_HEADER(&now.header), now.plot, PLOTASK_WORDS, now.query, now.query_words,
-                          now.candidate, now.candidate_cells, list, PLOTASK_CELLS, UINT32_MAX, &truth, &count);
+    refusal = build->ask(PLOTASK_HEADER(&now.header), now.plot, PLOTASK_WORDS, now.query, now.query_words,
+                         now.candidate, now.candidate_cells, list, PLOTASK_CELLS, UINT32_MAX, &truth, &count);
 }
 
 static void ask_by_hand(listing *list_values)
@@ -48,7 +51,7 @@ void ask_reference(void)
 
 void decode(void)
 {
-    refusal = plotask_decode(card, card_bytes, PLOTASK_HEADER(&read_header), read_plot, PLOTASK_WORDS);
+    refusal = build->decode(card, card_bytes, PLOTASK_HEADER(&read_header), read_plot, PLOTASK_WORDS);
 }
 
 void decode_by_hand(void)
@@ -63,7 +66,7 @@ void decode_reference(void)
 
 void encode(void)
 {
-    refusal = plotask_encode(PLOTASK_HEADER(&now.header), now.plot, PLOTASK_WORDS, written, sizeof written, &count);
+    refusal = build->encode(PLOTASK_HEADER(&now.header), now.plot, PLOTASK_WORDS, written, sizeof written, &count);
 }
 
 void encode_by_hand(void)
@@ -89,7 +92,7 @@ void substitute(void)
 {
     uint32_t null = next_null();
     refusal =
-        plotask_substitute(PLOTASK_HEADER(&now.header), now.plot, PLOTASK_WORDS, null, PLOTASK_MARK(3 - null), &count);
+        build->substitute(PLOTASK_HEADER(&now.header), now.plot, PLOTASK_WORDS, null, PLOTASK_MARK(3 - null), &count);
 }
 
 void substitute_by_hand(void)
@@ -107,7 +110,7 @@ void substitute_reference(void)
 
 void null_counts(void)
 {
-    refusal = plotask_null_counts(PLOTASK_HEADER(&now.header), now.plot, PLOTASK_WORDS, counts, PLOTASK_MARKS, &count);
+    refusal = build->null_counts(PLOTASK_HEADER(&now.header), now.plot, PLOTASK_WORDS, counts, PLOTASK_MARKS, &count);
 }
 
 void null_counts_by_hand(void)
@@ -125,7 +128,7 @@ static struct plotask_header prepared;
 
 void insert(void)
 {
-    refusal = plotask_insert(PLOTASK_HEADER(&now.header), now.plot, PLOTASK_WORDS, 0, row, PLOTASK_COLUMNS);
+    refusal = build->insert(PLOTASK_HEADER(&now.header), now.plot, PLOTASK_WORDS, 0, row, PLOTASK_COLUMNS);
     now.header = prepared;
 }
 

@@ -8,6 +8,25 @@
 /* What all work reads. */
 extern struct sample now;
 
+/* The calls of one build of the library, whose symbols have a prefix. */
+struct build {
+    __typeof__(plotask_ask) *ask;
+    __typeof__(plotask_decode) *decode;
+    __typeof__(plotask_encode) *encode;
+    __typeof__(plotask_substitute) *substitute;
+    __typeof__(plotask_null_counts) *null_counts;
+    __typeof__(plotask_insert) *insert;
+};
+
+#define BUILD(prefix)                                                                                    \
+    {                                                                                                    \
+        prefix##plotask_ask, prefix##plotask_decode, prefix##plotask_encode, prefix##plotask_substitute, \
+            prefix##plotask_null_counts, prefix##plotask_insert                                          \
+    }
+
+/* The build that does the library's work: the one without a prefix, until another is chosen. */
+extern const struct build *build;
+
 /* What the last work returned: a refusal; if that is 0, the truth and cost of a query, or the count of another call. */
 extern uint32_t refusal, truth, count;
 

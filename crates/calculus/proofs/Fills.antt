@@ -22,7 +22,7 @@ use Rattle.calculus.proofs.Answers.{demand-done}
 use Rattle.calculus.proofs.Bools.{and-parts}
 use Rattle.calculus.proofs.Cells.{put-other, put-cell}
 use Rattle.calculus.proofs.ClosedImage.{closed-kept}
-use Rattle.calculus.proofs.Lists.{map-none}
+use Rattle.calculus.proofs.Lists.{map-identity}
 
 -- ---- the assignment of a candidate
 
@@ -54,7 +54,7 @@ mapped-kept {b} {b′} m f k =
 
 rows-none : (rs : List Row) → map (mapRow (λ c. c)) rs ≡ rs
 rows-none [] = refl
-rows-none (r ∷ rs) = rw (map-none (r .cells), rows-none rs) refl
+rows-none (r ∷ rs) = rw (map-identity (r .cells), rows-none rs) refl
 
 rows-twice : (g h : ℕ → ℕ) (rs : List Row) → map (mapRow g) (map (mapRow h) rs) ≡ map (mapRow (λ c. g (h c))) rs
 rows-twice g h [] = refl
@@ -66,7 +66,7 @@ mapped-none b = record {
   keeps = λ c k. refl;
   cells = λ c k. k;
   rows = sym (rows-none (b .rows));
-  candidate = sym (map-none (b .candidate));
+  candidate = sym (map-identity (b .candidate));
 }
 
 mapped-twice : {a b c : Model} → Mapped a b → Mapped b c → Mapped a c

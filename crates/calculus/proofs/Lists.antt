@@ -15,9 +15,9 @@ map-set h [] v c = refl
 map-set h (x ∷ e) zero c = refl
 map-set h (x ∷ e) (suc v) c = ap (λ (l : List ℕ). h x ∷ l) (map-set h e v c)
 
-pub map-none : (cs : List ℕ) → map (λ c. c) cs ≡ cs
-map-none [] = refl
-map-none (c ∷ cs) = ap (λ (l : List ℕ). c ∷ l) (map-none cs)
+pub map-identity : (cs : List ℕ) → map (λ c. c) cs ≡ cs
+map-identity [] = refl
+map-identity (c ∷ cs) = ap (λ (l : List ℕ). c ∷ l) (map-identity cs)
 
 pub map-same : (f g : ℕ → ℕ) → ((c : ℕ) → f c ≡ g c) → (xs : List ℕ) → map f xs ≡ map g xs
 map-same f g e [] = refl
