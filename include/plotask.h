@@ -71,12 +71,12 @@
  *
  * STACK, in bytes below the caller's own frame, as measured by `make bench` (docs/BENCHMARKS.md):
  *
- *   ask            3,048 for a question of 1 node (a row of six columns; 2,920 for two terms), and 256 more for each
- *                  level below it; 28,392 for 100 nodes in one chain
+ *   ask            3,032 for a question of 1 node (a row of six columns; 2,904 for two terms), and 256 more for each
+ *                  level below it; 28,376 for 100 nodes in one chain
  *   null counts      976
- *   encode           272
  *   insert           256
- *   decode           224
+ *   encode           240
+ *   decode           240
  *   substitute       176
  *
  * LINKING
