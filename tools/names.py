@@ -25,7 +25,7 @@ header-stands-requires:header-well-formed-requires Need-header-stands-requires:N
 header-stands-spec:header-well-formed-spec
 looksOf:costOf askList:askBuffer listA:bufferA bookWords:modelWords bookSeen:modelSeen book-words:model-words
 book-candidate:model-candidate BookLaws:ModelLaws plotAfter:instanceAfter askedPlot:askedInstance
-plot-after:instance-after plot-tabled:instance-tabled and-true:and-intro
+plot-after:instance-after plot-tabled:instance-tabled and-true:and-intro map-none:map-identity
 """.split())
 
 # a name that a file takes from this module
