@@ -90,23 +90,23 @@ rank-kept unknown some = absurd (some refl)
 rank-kept alike some = refl
 
 pub exported-demand-three : ExportedDemandThree
-exported-demand-three p qs candidate buffer budget ss list′ budget′ truth cost truth′ cost′ quiet longer larger zero = go (askAnswer (p .header) (p .words) qs candidate buffer budget) refl
+exported-demand-three p qs candidate buffer budget ss buffer′ budget′ truth cost truth′ cost′ quiet longer larger zero = go (askAnswer (p .header) (p .words) qs candidate buffer budget) refl
   where
     verdict :
         (t : Truth) (n : ℕ) → askAnswer (p .header) (p .words) qs candidate buffer budget ≡ asked.Verdict t n →
         ExportedRerun p qs candidate ss (askAnswer (p .header) (p .words) qs candidate buffer budget)
-        (askAnswer (instanceAfter ss p .header) (instanceAfter ss p .words) qs (modelAfter p candidate ss .candidate) list′ budget′) truth cost truth′ cost′
+        (askAnswer (instanceAfter ss p .header) (instanceAfter ss p .words) qs (modelAfter p candidate ss .candidate) buffer′ budget′) truth cost truth′ cost′
     verdict t n e =
         let hs = p .header in
         let ws = p .words in
         let ten = has-ten hs ws qs candidate buffer budget t n e in
         let asks : ask (headerOf hs) ws qs candidate buffer budget ≡ asked.Verdict t n = sym (ask-is hs ten ws qs candidate buffer budget) ∙ e in
-        let d = demand-three (headerOf hs) ws qs candidate buffer budget (fillsAmong ss) list′ budget′ longer larger t n asks in
+        let d = demand-three (headerOf hs) ws qs candidate buffer budget (fillsAmong ss) buffer′ budget′ longer larger t n asks in
         let sound = verdict-asked (headerOf hs) ws qs candidate buffer budget t n asks .0 .is-sound in
         let left = instance-after hs ten ss ws quiet in
         let b =
-        ap (λ (x : Instance). askAnswer (x .header) (x .words) qs (modelAfter p candidate ss .candidate) list′ budget′) left ∙
-        ask-is hs ten (filledWords (headerOf hs) (fillsAmong ss) ws) qs (modelAfter p candidate ss .candidate) list′ budget′ ∙ d .answers
+        ap (λ (x : Instance). askAnswer (x .header) (x .words) qs (modelAfter p candidate ss .candidate) buffer′ budget′) left ∙
+        ask-is hs ten (filledWords (headerOf hs) (fillsAmong ss) ws) qs (modelAfter p candidate ss .candidate) buffer′ budget′ ∙ d .answers
         in
         record {
           answered = fills-seen hs ten ss ws ws (start p candidate) (record { is-sound = sound; holds = refl; long = refl; others = refl }) quiet;
@@ -124,7 +124,7 @@ exported-demand-three p qs candidate buffer budget ss list′ budget′ truth co
     go :
         (a : Asked) → askAnswer (p .header) (p .words) qs candidate buffer budget ≡ a →
         ExportedRerun p qs candidate ss (askAnswer (p .header) (p .words) qs candidate buffer budget)
-        (askAnswer (instanceAfter ss p .header) (instanceAfter ss p .words) qs (modelAfter p candidate ss .candidate) list′ budget′) truth cost truth′ cost′
+        (askAnswer (instanceAfter ss p .header) (instanceAfter ss p .words) qs (modelAfter p candidate ss .candidate) buffer′ budget′) truth cost truth′ cost′
     go (asked.Verdict t n) e = verdict t n e
     go (asked.Refused r) e =
         let none : r ≡ 0 = sym (ap askedNumber e) ∙ zero in

@@ -46,8 +46,8 @@ pub record ExportedRerun (p : Instance) (qs candidate : List ℕ) (ss : List Ste
 -- it returned 0.
 abbrev pub ExportedDemandThree : Type 0
 ExportedDemandThree =
-    (p : Instance) (qs candidate buffer : List ℕ) (budget : ℕ) (ss : List Step) (list′ : List ℕ) (budget′ truth cost truth′ cost′ : ℕ) →
-    WriteNoWord ss p → length buffer ≤ length list′ → budget ≤ budget′ →
+    (p : Instance) (qs candidate buffer : List ℕ) (budget : ℕ) (ss : List Step) (buffer′ : List ℕ) (budget′ truth cost truth′ cost′ : ℕ) →
+    WriteNoWord ss p → length buffer ≤ length buffer′ → budget ≤ budget′ →
     askedNumber (askAnswer (p .header) (p .words) qs candidate buffer budget) ≡ 0 →
     ExportedRerun p qs candidate ss (askAnswer (p .header) (p .words) qs candidate buffer budget)
-    (askAnswer (instanceAfter ss p .header) (instanceAfter ss p .words) qs (modelAfter p candidate ss .candidate) list′ budget′) truth cost truth′ cost′
+    (askAnswer (instanceAfter ss p .header) (instanceAfter ss p .words) qs (modelAfter p candidate ss .candidate) buffer′ budget′) truth cost truth′ cost′

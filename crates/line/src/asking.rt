@@ -24,7 +24,7 @@ fn looked_at(count: usize) -> usize
 }
 
 // Asks the question at the given places of the input about a plot.
-fn ask_plot(input: &[u8], places: Places, header: Header, instance: &[u32]) -> Asked
+fn ask_instance(input: &[u8], places: Places, header: Header, instance: &[u32]) -> Asked
     requires { ⌜ PlacesWithin (now input) places ⌝ }
     ensures { λ r. ⌜ r ≡ askedInstance (fieldsAt (now (input .entry)) places) header (now (instance .entry)) ⌝ }
 {
@@ -34,13 +34,13 @@ fn ask_plot(input: &[u8], places: Places, header: Header, instance: &[u32]) -> A
     let mut cells = [0u32; 255];
     let arity = places.arity;
     numbers(&mut cells, input, places.cells, 3, arity);
-    let mut list = [0u32; WORDS];
+    let mut buffer = [0u32; WORDS];
     ask(
         header,
         instance,
         &words[..count],
         &cells[..arity],
-        &mut list,
+        &mut buffer,
         places.budget,
     )
 }
@@ -56,7 +56,7 @@ fn ask_card(input: &[u8], places: Places) -> Asked
     let answer = stored.answer;
     let header = stored.header;
     match answer {
-        Answer::Done(_) => ask_plot(input, places, header, &instance),
+        Answer::Done(_) => ask_instance(input, places, header, &instance),
         Answer::Refused(why) => Asked::Refused(why),
     }
 }

@@ -48,11 +48,11 @@ decode-requires c κs = search needs
 enum-told : tie.Need-enum-told
 enum-told c = search needs
 
-slice-aggregate-ask-plot : tie.Need-slice-aggregate-ask-plot
-slice-aggregate-ask-plot c = search needs
+slice-aggregate-ask-instance : tie.Need-slice-aggregate-ask-instance
+slice-aggregate-ask-instance c = search needs
 
-ask-plot-requires : tie.Need-ask-plot-requires
-ask-plot-requires c κs = search needs
+ask-instance-requires : tie.Need-ask-instance-requires
+ask-instance-requires c κs = search needs
 
 enum-known-answer : tie.Need-enum-known-answer
 enum-known-answer c = search needs
@@ -61,7 +61,7 @@ returns : tie.Need-returns
 unfolding blank askedCard
 returns c =
     let b = c .before .before .before .before .before .before in
-    c .ask-plot .ensures
+    c .ask-instance .ensures
     ∙ rw (lent b) at (card-read (fieldsAt (input b) (start b .args .places)) (decoded (take (2 + size b - 2) (drop 2 (input b))) blank) (b .decode .ensures .0) (c .before .before .enum-told .given .1) (b .decode .ensures .1 .0) (b .decode .ensures .1 .1 .0))
 
 returns-2 : tie.Need-returns-2
@@ -81,8 +81,8 @@ ask-card-spec =
     slice-aggregate-decode
     decode-requires
     enum-told
-    slice-aggregate-ask-plot
-    ask-plot-requires
+    slice-aggregate-ask-instance
+    ask-instance-requires
     enum-known-answer
     returns
     returns-2)

@@ -1,4 +1,4 @@
--- `line::asking::ask_plot` meets its contract: the words and the cells are read, and a question with more words than are read is refused for its
+-- `line::asking::ask_instance` meets its contract: the words and the cells are read, and a question with more words than are read is refused for its
 -- length. Assumes nothing.
 use Prim.Native.Nat.{ℕ}
 use mathlib.Core.Path.{_≡_, sym, _∙_}
@@ -15,8 +15,8 @@ use Rattle.line.specs.declared.fields.Places.{Places}
 use Rattle.line.specs.Line.{blank}
 use Rattle.line.proofs.Shown.{first-words}
 use borrow.Author.Needs.{needs}
-use Rattle.line.proofs.asking.ask_plot.Statement.{statement}
-use Rattle.line.proofs.asking.ask_plot.Tie as tie
+use Rattle.line.proofs.asking.ask_instance.Statement.{statement}
+use Rattle.line.proofs.asking.ask_instance.Tie as tie
 
 -- once it is known how many words are read
 module _ (c : tie.After-words) where
@@ -96,8 +96,8 @@ returns c =
     c .before .ask .ensures .0 ∙ rw (words listed, cells listed)
     (first-words (start b .args .header) (start b .args .instance .now) (numbersOf 3 (places b .arity) (drop (places b .cells) (input b))) blank (places b .budget) (places b .count) (count b) (drop (places b .words) (input b)) (b .before .looked-at .ensures) (start b .pre .words-read))
 
-pub ask-plot-spec : {M : Type 1} → statement M
-ask-plot-spec =
+pub ask-instance-spec : {M : Type 1} → statement M
+ask-instance-spec =
     tie.close
     (tie.spec
     looked-at-requires
