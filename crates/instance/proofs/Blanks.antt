@@ -1,4 +1,4 @@
--- Records whose blanks are numbered: their rows stand, and a record without blanks is its row. Assumes nothing.
+-- Records whose blanks are numbered: their rows are well formed, and a record without blanks is its row. Assumes nothing.
 use Prim.Native.Nat.{ℕ, suc, _+_, _≤_}
 use mathlib.Core.Path.{_≡_, refl, ap, _∙_}
 use mathlib.Core.Bool.{Bool, true, _&&_}
@@ -18,7 +18,7 @@ use Rattle.instance.specs.Rows.{areCells, rowWellFormed, rowsWellFormed}
 use Rattle.instance.specs.Blanks.{Field, written, blank, Record, blanksIn, blanks, highestOf, writtenOf, highestIn, highest, numbered, numberedRows}
 use Rattle.instance.proofs.Rows.{row-well-formed, row-parts}
 
--- a field that stands
+-- a well-formed field
 unfoldable pub fieldWellFormed : Field → Bool
 fieldWellFormed (written c) = isCell c
 fieldWellFormed blank = true

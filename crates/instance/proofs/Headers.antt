@@ -19,7 +19,7 @@ pub record Holds (h : Header) (ws : List ℕ) (rs : List Row) : Type 0 where
   pub is-sound : sound h ws ≡ true
   pub holds : rows h ws ≡ rs
 
--- The words of rows that stand, followed by any others, are a sound instance under the rows' header.
+-- The words of well-formed rows, followed by any others, are a sound instance under the rows' header.
 pub rows-sound : (n : ℕ) (ars : List ℕ) (rs : List Row) (back : List ℕ) → headerWellFormed n ars ≡ true → length (wordsOf rs) ≤ maxWords
     → rowsWellFormed n ars rs ≡ true → Holds (headerFor n ars rs) (wordsOf rs ++ back) rs
 unfolding sound rows

@@ -1,4 +1,4 @@
--- Words that stand, read row by row: what is known at an index at which a row starts, and where the next row starts. Assumes nothing.
+-- Well-formed words, read row by row: what is known at an index at which a row starts, and where the next row starts. Assumes nothing.
 use Prim.Native.Nat.{ℕ, zero, suc, _+_, _≤_, _<_, _-_}
 use mathlib.Core.Path.{_≡_, refl, ap, _∙_}
 use mathlib.Core.Bool.{true, false≢true}
@@ -25,7 +25,7 @@ module _ (n : ℕ) (ars : List ℕ) where
   past-cells (suc left) [] e = absurd (false≢true e)
   past-cells (suc left) (w ∷ ws) e = past-cells left ws (at-cell n ars left w ws e .1)
 
--- a walk that has reached index i: the words from there stand, so a row starts there, or the words end
+-- a walk that has reached index i: the words from there are well formed, so a row starts there, or the words end
 pub record Walk (n : ℕ) (ars ws : List ℕ) (i : ℕ) : Type 0 where
   pub within : i ≤ length ws
   pub well-formed : wordsWellFormed n ars 0 (drop i ws) ≡ true

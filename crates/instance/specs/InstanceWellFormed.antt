@@ -1,4 +1,4 @@
--- What a sound instance gives: its header stands, and so do its words in use.
+-- What a sound instance gives: its header is well formed, and so are its words in use.
 use Prim.Native.Nat.{ℕ, _≤_}
 use mathlib.Core.Path.{_≡_}
 use mathlib.Core.Bool.{true}

@@ -97,7 +97,7 @@ terms-passed qs mask i j (suc k) s {t} e =
     (terms-more qs mask i j k (p .0) (q .0) (r .0), r .1)
 
 module _ (n : ℕ) (ars qs : List ℕ) where
-  -- node i stands in its scope, by its kind; s tells which nodes are named
+  -- node i is well formed in its scope, by its kind; s tells which nodes are named
   abbrev pub WellFormedIn : Scopes → ℕ → ℕ → Kind → Type 0
   WellFormedIn s i mask rowStands = (wordAt qs i 1 < n) × BoundTerms qs mask i 2 (arityOf ars (wordAt qs i 1))
   WellFormedIn s i mask equals = BoundTerms qs mask i 1 2
@@ -155,7 +155,7 @@ module _ (n : ℕ) (ars qs : List ℕ) where
         record { well-formed = (ltb-true _ _ (q .0), c .named); kept = c .kept; long = c .long }
     by-passed i mask noKind e = refused-read e
 
-    -- the node is named, and stands by its kind in its scope
+    -- the node is named, and well formed by its kind in its scope
     pub node-passed : {t : Scopes} (i : ℕ) → checkNode n ars qs i s ≡ passed t
         → (getD (s .named) i 0 ≡ 1) × NodePassed s i (getD (s .masks) i 0) (kindOf (wordAt qs i 0)) t
     unfolding checkNode
@@ -163,7 +163,7 @@ module _ (n : ℕ) (ars qs : List ℕ) where
         let p = demand-read (eqb (getD (s .named) i 0) 1) _ _ e in
         (eqb-true _ _ (p .0), by-passed i (getD (s .masks) i 0) (kindOf (wordAt qs i 0)) (p .1))
 
-  -- each of the k nodes from i stands in its scope
+  -- each of the k nodes from i is well formed in its scope
   abbrev pub AllWellFormed : Scopes → ℕ → ℕ → Type 0
   AllWellFormed t i k = (j : ℕ) → i ≤ j → j < i + k → WellFormedIn t j (getD (t .masks) j 0) (kindOf (wordAt qs j 0))
 
@@ -178,7 +178,7 @@ module _ (n : ℕ) (ars qs : List ℕ) where
           rw (f, same) (well-formed-kept i (getD (s .masks) i 0) (kindOf (wordAt qs i 0)) κ (p .well-formed))
       go false e = let n = eqb-false j i e in all j (omega arith) (omega arith)
 
-  -- if the check of nodes is passed, those that were named stay so, and each node stands
+  -- if the check of nodes is passed, those that were named stay so, and each node is well formed
   pub nodes-passed : nodeCount qs ≤ maxNodes → (i k : ℕ) (s : Scopes) {t : Scopes} → Long s → checkNodes n ars qs i k s ≡ passed t
       → Kept s t × AllWellFormed t i k
   unfolding checkNodes

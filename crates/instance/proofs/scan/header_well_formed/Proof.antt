@@ -1,4 +1,4 @@
--- `instance::scan::header_well_formed` meets its contract: the first i arities stand, so the others decide. Assumes nothing.
+-- `instance::scan::header_well_formed` meets its contract: the first i arities are well formed, so the others decide. Assumes nothing.
 use Prim.Native.Nat.{ℕ, _≤_, _<_, _-_, _+_}
 use mathlib.Core.Path.{_≡_, _∙_}
 use mathlib.Core.Logic.{⊎-elim}
@@ -39,7 +39,7 @@ mul-a c = omega arith
 element-copy-out-a : tie.Need-element-copy-out-a Inv-loop μ-loop
 element-copy-out-a c = omega arith
 
--- whether the header stands, by the arity at index i and those after it
+-- whether the header is well formed, by the arity at index i and those after it
 module _ (c : tie.In-loop Inv-loop μ-loop) where
   abbrev n : ℕ
   n = c .before .before .before .before .args .relations
