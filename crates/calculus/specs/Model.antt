@@ -15,12 +15,13 @@ use Rattle.calculus.specs.Closed.{closed}
 use Rattle.calculus.specs.TwoValued.{says}
 use Rattle.calculus.specs.Unify.{Valuation, under}
 use Rattle.calculus.specs.Order.{_⊑ₒ_, ofBool}
-use Rattle.calculus.specs.Fill.{substitute, filled}
+use Rattle.calculus.specs.Fill.{Logging, substitute, filled}
 
--- "fed each one's mark and cell alone"
+-- "fed each one's mark and cell alone"; "for a noted one the book is also fed the log's length and the log's words in use"
 pub record Fill : Type 0 where
   pub mark : ℕ
   pub cell : ℕ
+  pub log : Logging
 
 pub record Model : Type 0 where
   pub rows : List Row
@@ -38,17 +39,17 @@ abbrev pub plain : Model → Bool
 plain b = allConstant (cellsOf (b .rows)) && allConstant (b .candidate)
 
 abbrev pub answerOf : Fill → Model → Answer
-answerOf f b = filled (f .mark) (f .cell) (b .rows)
+answerOf f b = filled (f .log) (f .mark) (f .cell) (b .rows)
 
 abbrev pub next : Fill → Model → Model
 next f b = after (answerOf f b) (record { rows = substitute (f .mark) (f .cell) (b .rows); candidate = map (put (f .mark) (f .cell)) (b .candidate) }) b
 
 -- a list of fills, each applied to what the previous one left: the state after all of them, and what each of them returns
-unfoldable pub afterFills : {S : Type 0} → (Fill → S → S) → List Fill → S → S
+unfoldable pub afterFills : {S F : Type 0} → (F → S → S) → List F → S → S
 afterFills step [] s = s
 afterFills step (f ∷ fs) s = afterFills step fs (step f s)
 
-unfoldable pub fillAnswers : {S : Type 0} → (Fill → S → Answer) → (Fill → S → S) → List Fill → S → List Answer
+unfoldable pub fillAnswers : {S F A : Type 0} → (F → S → A) → (F → S → S) → List F → S → List A
 fillAnswers answer step [] s = []
 fillAnswers answer step (f ∷ fs) s = answer f s ∷ fillAnswers answer step fs (step f s)
 

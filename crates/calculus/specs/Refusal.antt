@@ -1,5 +1,5 @@
 -- The numbers of the refusals. Document 01, "Numbers that come from the input" (10 to 29) and "Numbers that come from the state"
--- (41 to 46).
+-- (41 to 46); document 02, request 1 (47 to 49).
 use Prim.Native.Nat.{ℕ}
 
 -- "the program's input is over 16,384 bytes"
@@ -93,3 +93,15 @@ buffer-too-short = 45
 -- "the question's looks exceed the allowance (32 bits)"
 abbrev pub budget-spent : ℕ
 budget-spent = 46
+
+-- "the log lacks two words plus one per cell to note"
+abbrev pub log-too-short : ℕ
+log-too-short = 47
+
+-- "no word is in use"
+abbrev pub log-empty : ℕ
+log-empty = 48
+
+-- "the words in use exceed the log or fall short of the latest note, or that note has no mark from 1 to 200 or a place that is no cell of the plot"
+abbrev pub bad-log : ℕ
+bad-log = 49

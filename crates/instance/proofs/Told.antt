@@ -9,7 +9,7 @@ use Rattle.calculus.specs.declared.answer.Answer.{Answer}
 use Rattle.calculus.specs.declared.answer.Answer.the-variants.{Done, Refused}
 use Rattle.calculus.specs.Answer.{Tells}
 use Rattle.calculus.specs.Cell.{nulls}
-use Rattle.calculus.specs.Fill.{held}
+use Rattle.calculus.specs.Fill.{Logging, held}
 use Rattle.calculus.specs.Refusal.{unsound, output-too-short}
 use Rattle.calculus.proofs.Answers.{demand-done, two-demands, tells}
 use Rattle.instance.specs.declared.header.Header.{Header}
@@ -34,9 +34,9 @@ module _ (h : Header) (ws : List ℕ) where
       is false n = refl
 
   pub fill-told :
-      (m c : ℕ) {r : Answer} {P : Type 0} → (r ≡ substituted h ws m c) × P →
-      (r ≡ substituted h ws m c) × (P × Tells r (substituted h ws m c) (held m (rows h ws)))
-  fill-told m c p = (p .0, (p .1, tells (held m (rows h ws)) (p .0) (λ k d. substitute-accepted h ws m c k d .count)))
+      (l : Logging) (m c : ℕ) {r : Answer} {P : Type 0} → (r ≡ substituted h ws l m c) × P →
+      (r ≡ substituted h ws l m c) × (P × Tells r (substituted h ws l m c) (held m (rows h ws)))
+  fill-told l m c p = (p .0, (p .1, tells (held m (rows h ws)) (p .0) (λ k d. substitute-accepted h ws l m c k d .count)))
 
   pub counts-told :
       (out : List ℕ) {r : Answer} {P : Type 0} → (r ≡ counted h ws out) × P → (r ≡ counted h ws out) × (P × Tells r (counted h ws out) nulls)

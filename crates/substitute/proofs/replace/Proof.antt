@@ -1,23 +1,14 @@
--- `substitute::replace` meets its contract: the words before index i are filled, those from i are as they were, and `count` plus the
--- count from i is the count in all words. Assumes nothing.
-use Prim.Native.Nat.{ℕ, suc, _≤_, _<_, _-_, _+_}
-use mathlib.Core.Path.{_≡_, refl, sym, ap, _∙_}
+-- `substitute::replace` meets its contract: the loop is a pass that fills words. Assumes nothing.
+use Prim.Native.Nat.{_-_}
 use mathlib.Core.Logic.{⊎-elim}
-use mathlib.Core.List.{List}
 use native.Mathlib.Omega.{arith}
-use borrow.Author.Tests.{eq-eqb, ne-eqb}
-use lib.ListN.{length, drop, getD, set, length-set}
-use lib.Seq.{drop-length}
-use Rattle.calculus.specs.Cell.{null, put}
-use Rattle.calculus.proofs.Cells.{put-null, put-other}
-use Rattle.calculus.specs.Fill.{countOf}
-use Rattle.instance.proofs.Passes.{upto, upto-none, upto-all, upto-here, upto-set, upto-kept}
-use Rattle.calculus.proofs.Counts.{countOf-drop-step}
+use lib.ListN.{length}
+use Rattle.substitute.proofs.Filling.{Filling, filling-starts, filling-null, filling-other, filling-ends}
 use Rattle.substitute.proofs.replace.Statement.{statement}
 use Rattle.substitute.proofs.replace.Tie as tie
 
 abbrev Inv-loop : tie.InvT-loop
-Inv-loop words₀ mark cell null count₀ i₀ words count i = (i ≤ length words₀) × (count ≤ i) × (length words ≡ length words₀) × (words ≡ upto (put mark cell) i words₀) × (count + countOf null (drop i words₀) ≡ countOf null words₀)
+Inv-loop words₀ mark cell null count₀ i₀ words count i = Filling mark cell words₀ words count i
 
 abbrev μ-loop : tie.MeasureT-loop
 μ-loop words₀ mark cell null count₀ i₀ words count i = length words₀ - i
@@ -26,51 +17,13 @@ add-null : tie.Need-add-null Inv-loop μ-loop
 add-null c = omega arith
 
 loop-holds : tie.Need-loop-holds Inv-loop μ-loop
-loop-holds c = (omega arith, omega arith, refl, sym (upto-none _ _), omega arith)
+loop-holds c = filling-starts _ _ _
 
 mul-if1 : tie.Need-mul-if1 Inv-loop μ-loop
 mul-if1 c = omega arith
 
 slice-read-if1 : tie.Need-slice-read-if1 Inv-loop μ-loop
 slice-read-if1 c = omega arith
-
--- the word at index i
-module _ (c : tie.In-loop Inv-loop μ-loop) where
-  abbrev m : ℕ
-  m = c .before .before .args .mark
-
-  abbrev cell : ℕ
-  cell = c .before .before .args .cell
-
-  abbrev was : List ℕ
-  was = c .before .before .args .words .now
-
-  abbrev words : List ℕ
-  words = c .before .loop .words
-
-  abbrev i : ℕ
-  i = c .before .loop .i
-
-  within : i < length was
-  within = omega arith
-
-  here : getD words i 0 ≡ getD was i 0
-  here = ap (λ (l : List ℕ). getD l i 0) (c .before .loop .inv .3) ∙ upto-here _ i was
-
-  replaced : getD words i 0 ≡ null m → set words i cell ≡ upto (put m cell) (i + 1) was
-  replaced e =
-      ap (λ (l : List ℕ). set l i cell) (c .before .loop .inv .3)
-      ∙ ap (set (upto (put m cell) i was) i) (sym (put-null m cell (getD was i 0) (sym here ∙ e)))
-      ∙ upto-set _ i was within
-
-  kept : (getD words i 0 ≡ null m → ⊥) → words ≡ upto (put m cell) (i + 1) was
-  kept ne = c .before .loop .inv .3 ∙ upto-kept _ i was within (put-other m cell _ (λ e. ne (here ∙ e)))
-
-  one-more : getD words i 0 ≡ null m → countOf (null m) (drop i was) ≡ suc (countOf (null m) (drop (i + 1) was))
-  one-more e = countOf-drop-step _ was i within ∙ simp (eq-eqb _ _ (sym here ∙ e))
-
-  no-more : (getD words i 0 ≡ null m → ⊥) → countOf (null m) (drop i was) ≡ countOf (null m) (drop (i + 1) was)
-  no-more ne = countOf-drop-step _ was i within ∙ simp (ne-eqb _ _ (λ e. ne (here ∙ e)))
 
 mul-words : tie.Need-mul-words Inv-loop μ-loop
 mul-words c = omega arith
@@ -89,22 +42,17 @@ loop-less c = omega arith
 
 loop-again : tie.Need-loop-again Inv-loop μ-loop
 loop-again c =
-    let b = c .before .before in
+    let f = c .before .before .before .loop .inv in
     ⊎-elim
-    (λ a. (omega arith, omega arith, simp (a .1, length-set) (omega arith), a .1 ∙ replaced b (a .0 .taken), omega (arith, one-more b (a .0 .taken))))
-    (λ a. (omega arith, omega arith, simp (a .1) (omega arith), a .1 ∙ kept b (a .0 .left), omega (arith, no-more b (a .0 .left))))
+    (λ a. rw (a .1, a .2) (filling-null _ _ _ (omega arith) f (a .0 .taken)))
+    (λ a. rw (a .1, a .2) (filling-other _ _ _ (omega arith) f (a .0 .left)))
     (c .if1 .came)
 
 same-length : tie.Need-same-length Inv-loop μ-loop
 same-length c = omega arith
 
 returns : tie.Need-returns Inv-loop μ-loop
-unfolding countOf
-returns c =
-    let was = c .before .before .args .words .now in
-    let e : c .before .loop .i ≡ length was = omega arith in
-    let z : countOf (null (c .before .before .args .mark)) (drop (c .before .loop .i) was) ≡ 0 = rw (e, drop-length) in
-    (omega arith, c .before .loop .inv .3 ∙ rw e (upto-all _ was))
+returns c = filling-ends _ _ _ (omega arith) (c .before .loop .inv)
 
 pub replace-spec : {M : Type 1} → statement M
 replace-spec =
