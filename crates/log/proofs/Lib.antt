@@ -1,0 +1,5 @@
+pub mod Worked
+pub mod Places
+pub mod Joins
+pub mod Entries
+pub mod History
