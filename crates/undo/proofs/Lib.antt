@@ -1,0 +1,3 @@
+pub mod RowStarts
+pub mod Places
+pub mod Entries
