@@ -32,7 +32,7 @@ records-told size p e = (e, rw e (go p))
     go (refused why) = record { number = refl; needs = λ xs bs′ e. cc }
 
 pub decode-told :
-    (card slice : List ℕ) {a : Answer} {h : Header} {P : Type 0} → (a ≡ decoded card slice .answer) × ((h ≡ decoded card slice .header) × P) →
-    (a ≡ decoded card slice .answer) × ((h ≡ decoded card slice .header) × (P × Tells a (decoded card slice .answer) (decoded card slice .header .used)))
-decode-told card slice p =
-    (p .0, (p .1 .0, (p .1 .1, tells (decoded card slice .header .used) (p .0) (λ n d. sym (decoded-sound card slice n d .in-use)))))
+    (card slice : List ℕ) {a : Answer} {h : Header} {P Q : Type 0} → (a ≡ decoded card slice .answer) × ((h ≡ decoded card slice .header) × P) → Q →
+    (a ≡ decoded card slice .answer) × ((h ≡ decoded card slice .header) × (P × (Tells a (decoded card slice .answer) (decoded card slice .header .used) × Q)))
+decode-told card slice p q =
+    (p .0, (p .1 .0, (p .1 .1, (tells (decoded card slice .header .used) (p .0) (λ n d. sym (decoded-sound card slice n d .in-use)), q))))

@@ -4,15 +4,17 @@ ghost use Rattle.calculus.specs.declared.answer.Answer.the-variants.{Done, Refu
 ghost use Rattle.instance.specs.Header.{headerWith};
 ghost use Rattle.calculus.specs.Answer.{Tells};
 ghost use Rattle.card.specs.Decode.{decoded, noHeader};
+ghost use Rattle.log.specs.Log.{fresh};
 use calculus::answer::Answer;
 use calculus::cell::NULLS;
 use calculus::refusal::BYTES_LEFT_OVER;
 use calculus::refusal::NO_ROOM;
 use calculus::refusal::NULLS_EXHAUSTED;
 use head::read_head;
-use instance::header::Stored;
 use instance::header::header_with;
 use instance::room::has_room;
+use log::FRESH;
+use log::Restarted;
 use measure::Needed;
 use measure::measure;
 use write::write_rows;
@@ -21,34 +23,39 @@ mod head;
 mod measure;
 mod write;
 
-fn refused(why: u32) -> Stored
+fn refused(why: u32) -> Restarted
     ensures answer { λ r. ⌜ r .answer ≡ Refused why ⌝ }
     ensures header { λ r. ⌜ r .header ≡ noHeader ⌝ }
+    ensures log { λ r. ⌜ r .log ≡ fresh ⌝ }
 {
     let header = header_with(0, [0u32; 8], 0);
-    Stored {
+    Restarted {
         answer: Answer::Refused(why),
         header,
+        log: FRESH,
     }
 }
 
-fn stored(relations: u32, arities: [u32; 8], used: u32) -> Stored
+fn stored(relations: u32, arities: [u32; 8], used: u32) -> Restarted
     ensures answer { λ r. ⌜ r .answer ≡ Done used ⌝ }
     ensures header { λ r. ⌜ r .header ≡ headerWith relations arities used ⌝ }
+    ensures log { λ r. ⌜ r .log ≡ fresh ⌝ }
 {
     let header = header_with(relations, arities, used);
-    Stored {
+    Restarted {
         answer: Answer::Done(used),
         header,
+        log: FRESH,
     }
 }
 
 // Nothing is written before everything is known to fit.
-pub fn decode(card: &[u8], instance: &mut [u32]) -> Stored
+pub fn decode(card: &[u8], instance: &mut [u32]) -> Restarted
     ensures answer { λ r. ⌜ r .answer ≡ decoded (now (card .entry)) (now (instance .entry)) .answer ⌝ }
     ensures header { λ r. ⌜ r .header ≡ decoded (now (card .entry)) (now (instance .entry)) .header ⌝ }
     ensures words { λ r. ⌜ now (instance .exit) ≡ decoded (now (card .entry)) (now (instance .entry)) .words ⌝ }
     ensures told { λ r. ⌜ Tells (r .answer) (decoded (now (card .entry)) (now (instance .entry)) .answer) (decoded (now (card .entry)) (now (instance .entry)) .header .used) ⌝ }
+    ensures log { λ r. ⌜ r .log ≡ fresh ⌝ }
 {
     let head = read_head(card);
     let opened = head.answer;
