@@ -1,49 +1,37 @@
--- The three ends of a rerun: there is no room for the answers, run A is refused, or both runs get a verdict. Assumes nothing.
+-- The three ends of a rerun: there is no room for the answers, run A is refused, or both runs are asked. Assumes nothing.
 use Prim.Native.Nat.{ℕ, _≤_, _<_}
 use mathlib.Core.Path.{_≡_, refl, sym, ap, _∙_}
 use mathlib.Core.Bool.{Bool, true, false, cond}
-use mathlib.Core.List.{List, _++_}
+use mathlib.Core.List.{List}
 use native.Mathlib.Omega.{arith}
 use borrow.Author.Tests.{le-leb, lt-leb}
-use lib.ListN.{length, drop, length-append, length-drop}
-use Rattle.calculus.specs.declared.answer.Answer.{Answer}
-use Rattle.calculus.specs.declared.answer.Answer.the-variants as answer
+use lib.ListN.{length}
 use Rattle.calculus.specs.declared.truth.Truth.{Truth}
-use Rattle.calculus.specs.Answer.{after}
 use Rattle.calculus.specs.Refusal.{output-too-short}
-use Rattle.calculus.specs.Domain.{domain}
 use Rattle.calculus.specs.Eval.{Outcome}
-use Rattle.calculus.specs.Model.{run}
+use Rattle.calculus.specs.Model.{Fill, Model, afterFills, run}
 use Rattle.instance.specs.declared.header.Header.{Header}
 use Rattle.instance.specs.Header.{maxColumns}
-use Rattle.instance.specs.Sound.{sound, rows}
-use Rattle.instance.specs.Run.{filledWords, modelOf, filledAnswers}
+use Rattle.instance.specs.Sound.{sound}
+use Rattle.instance.specs.Run.{filledWords, modelOf}
 use Rattle.instance.proofs.Run.{fills-follow-model}
 use Rattle.query.proofs.Passed as passed
 use Rattle.answer.specs.declared.asked.Asked.{Asked}
 use Rattle.answer.specs.declared.asked.Asked.the-variants as asked
-use Rattle.answer.specs.Ask.{askable, ask, askedBuffer}
+use Rattle.answer.specs.Ask.{ask, askedBuffer}
 use Rattle.answer.specs.Rerun.{Rerun}
 use Rattle.answer.proofs.Told.{Of, tells-verdict, ask-outcome}
 use Rattle.answer.proofs.RerunLaws.{verdict-asked, not-refused, demand-three}
 use Rattle.rerun.specs.declared.reran.Reran.{Reran}
 use Rattle.rerun.specs.declared.reran.Reran.the-variants.{Refused}
-use Rattle.rerun.specs.Fills.{fillsOf, filledCandidate, stored}
-use Rattle.rerun.specs.Rerun.{bothRuns, firstOf, secondOf, modelWords, runA, runB, bufferA, hasPlace, begun, reran, reranWords, reranCandidate, reranAnswers, reranBuffer, Claim, TellsRuns}
-use Rattle.rerun.proofs.ModelLaws.{candidate-run}
+use Rattle.rerun.specs.Fills.{Filled, filledWith, fillLeaves, fillsTold, accountsTold, fedAll, stored}
+use Rattle.rerun.specs.Rerun.{bothRuns, firstOf, secondOf, Given, wanted, start, end, modelWords, runA, runB, hasPlace, begun, reran}
+use Rattle.rerun.specs.Rerun.{reranWords, reranCandidate, reranAnswers, reranLog, reranUsed, reranBuffer, reranBuffer2, Claim, TellsRuns, Reruns}
+use Rattle.rerun.proofs.ModelLaws.{Kept, fed-run, model-kept, words-kept}
 
--- asking does not shorten the buffer
-longer : (h : Header) (ws qs candidate buffer : List ℕ) → length buffer ≤ length (askedBuffer h ws qs candidate buffer)
-unfolding askedBuffer
-longer h ws qs candidate buffer = go (askable h ws qs candidate buffer)
-  where
-    go : (a : Answer) → length buffer ≤ length (after a (domain (rows h ws) ++ drop (length (domain (rows h ws))) buffer) buffer)
-    go (answer.Done k) =
-        omega (arith, length-append (domain (rows h ws)) (drop (length (domain (rows h ws))) buffer), length-drop (length (domain (rows h ws))) buffer)
-    go (answer.Refused r) = omega arith
-
-first-both : (t : Truth) (n : ℕ) (b : Asked) (u : Truth) (k : ℕ) → b ≡ asked.Verdict u k → firstOf (bothRuns (asked.Verdict t n) b) ≡ asked.Verdict t n
-first-both t n b u k e = rw e refl
+pub first-both : (t : Truth) (n : ℕ) (b : Asked) → firstOf (bothRuns (asked.Verdict t n) b) ≡ asked.Verdict t n
+first-both t n (asked.Verdict u k) = refl
+first-both t n (asked.Refused r) = refl
 
 second-both : (t : Truth) (n : ℕ) (b : Asked) → secondOf (bothRuns (asked.Verdict t n) b) ≡ b
 second-both t n (asked.Verdict u k) = refl
@@ -52,7 +40,7 @@ second-both t n (asked.Refused r) = refl
 -- a verdict in a rerun's answer is that of the run's outcome
 first-of : {o : Outcome} (b : Bool) (p q : Asked) → Of o p → Of o (firstOf (cond b (bothRuns p q) (Refused output-too-short)))
 first-of true (asked.Verdict u k) (asked.Verdict v l) of t n e = of t n e
-first-of true (asked.Verdict u k) (asked.Refused r) of t n e = absurd (not-refused e)
+first-of true (asked.Verdict u k) (asked.Refused r) of t n e = of t n e
 first-of true (asked.Refused r) q of t n e = absurd (not-refused e)
 first-of false p q of t n e = absurd (not-refused e)
 
@@ -62,83 +50,121 @@ second-of true (asked.Verdict u k) (asked.Refused r) of t n e = absurd (not-refu
 second-of true (asked.Refused r) q of t n e = absurd (not-refused e)
 second-of false p q of t n e = absurd (not-refused e)
 
-module _ (h : Header) (ws qs candidate buffer : List ℕ) (budget : ℕ) (fills out : List ℕ) where
-  -- the answer of a call with these arguments, and what it leaves
-  abbrev pub Ends : Reran → List ℕ → List ℕ → List ℕ → List ℕ → Type 0
-  Ends r ws′ candidate′ buffer′ out′ =
-      (r ≡ reran h ws qs candidate buffer budget fills out) ×
-      ((ws′ ≡ reranWords h ws qs candidate buffer budget fills out) ×
-      ((candidate′ ≡ reranCandidate h ws qs candidate buffer budget fills out) ×
-      ((buffer′ ≡ reranBuffer h ws qs candidate buffer budget fills out) ×
-      ((out′ ≡ reranAnswers h ws qs candidate buffer budget fills out) ×
-      (Claim h ws qs candidate buffer budget fills out r × TellsRuns h ws qs candidate buffer budget fills out r)))))
-
+module _ (g : Given) (ws : List ℕ) where
   -- if the answer is the definition's, it has the outcomes of both runs
-  told : {r : Reran} → r ≡ reran h ws qs candidate buffer budget fills out → TellsRuns h ws qs candidate buffer budget fills out r
+  told : {r : Reran} → r ≡ reran g ws → TellsRuns g ws r
   unfolding reran
-  told e =
-      let b = hasPlace h ws qs candidate buffer budget fills out in
-      let p = runA h ws qs candidate buffer budget fills out in
-      let q = runB h ws qs candidate buffer budget fills out in
+  told e = record {
+    first = tells-verdict _ (ap firstOf e) (first-of (hasPlace g ws) (runA g ws) (runB g ws) (ask-outcome (g .header) ws (g .query) (g .candidate) (g .buffer) (g .budget)));
+    second = tells-verdict _ (ap secondOf e) (second-of (hasPlace g ws) (runA g ws) (runB g ws) (ask-outcome (g .header) _ (g .query) _ (g .buffer2) (g .budget2)));
+  }
+
+  pub no-place : length (g .answers) < length (g .fills) →
+      Reruns g ws (Refused output-too-short) ws (g .candidate) (g .buffer) (g .answers) (g .log) (g .used) (g .buffer2)
+  unfolding begun reran reranWords reranCandidate reranAnswers reranLog reranUsed reranBuffer reranBuffer2
+  no-place l =
+      let e = lt-leb (length (g .fills)) (length (g .answers)) l in
       record {
-        first = tells-verdict _ (ap firstOf e) (first-of b p q (ask-outcome h ws qs candidate buffer budget));
-        second = tells-verdict _ (ap secondOf e) (second-of b p q (ask-outcome h _ qs _ _ budget));
+        answer = rw e refl;
+        words = rw e refl;
+        candidate = rw e refl;
+        buffer = rw e refl;
+        answers = rw e refl;
+        log = rw e refl;
+        used = rw e refl;
+        buffer2 = rw e refl;
+        claim = λ p q b t n v. absurd (omega arith);
+        told = told (rw e refl);
       }
 
-  pub no-place : length out < length fills → Ends (Refused output-too-short) ws candidate buffer out
-  unfolding begun reran reranWords reranCandidate reranAnswers reranBuffer
-  no-place l =
-      let e = lt-leb (length fills) (length out) l in
-      (rw e refl, (rw e refl, (rw e refl, (rw e refl, (rw e refl, (λ p t n q. absurd (omega arith), told (rw e refl)))))))
-
   pub refused :
-      length fills ≤ length out → (r : ℕ) → asked.Refused r ≡ ask h ws qs candidate buffer budget →
-      (buffer′ : List ℕ) → buffer′ ≡ askedBuffer h ws qs candidate buffer → Ends (Refused r) ws candidate buffer′ out
-  unfolding begun reran reranWords reranCandidate reranAnswers reranBuffer
-  refused l r e buffer′ is-listed =
-      let p = le-leb (length fills) (length out) l in
+      length (g .fills) ≤ length (g .answers) → (r : ℕ) → asked.Refused r ≡ runA g ws →
+      (buffer : List ℕ) → buffer ≡ askedBuffer (g .header) ws (g .query) (g .candidate) (g .buffer) →
+      Reruns g ws (Refused r) ws (g .candidate) buffer (g .answers) (g .log) (g .used) (g .buffer2)
+  unfolding begun reran reranWords reranCandidate reranAnswers reranLog reranUsed reranBuffer reranBuffer2
+  refused l r e buffer is-listed =
+      let p = le-leb (length (g .fills)) (length (g .answers)) l in
       let q = sym e in
-      (rw (p, q) refl, (rw (p, q) refl, (rw (p, q) refl, (rw (p, q) is-listed, (rw (p, q) refl, (λ l′ t n v. absurd (not-refused (e ∙ v)), told (rw (p, q) refl)))))))
+      record {
+        answer = rw (p, q) refl;
+        words = rw (p, q) refl;
+        candidate = rw (p, q) refl;
+        buffer = rw p is-listed;
+        answers = rw (p, q) refl;
+        log = rw (p, q) refl;
+        used = rw (p, q) refl;
+        buffer2 = rw (p, q) refl;
+        claim = λ l′ m b t n v. absurd (not-refused (e ∙ v));
+        told = told (rw (p, q) refl);
+      }
 
   -- a question that got a verdict passed its check
-  pub few-cells : (t : Truth) (n : ℕ) → asked.Verdict t n ≡ ask h ws qs candidate buffer budget → length candidate ≤ maxColumns
+  pub few-cells : (t : Truth) (n : ℕ) → asked.Verdict t n ≡ runA g ws → length (g .candidate) ≤ maxColumns
   few-cells t n e =
-      let a = verdict-asked h ws qs candidate buffer budget t n (sym e) .0 in
-      passed.few-cells (h .relations) (h .arities) qs candidate (a .right) (a .scopes) (a .passes)
+      let a = verdict-asked (g .header) ws (g .query) (g .candidate) (g .buffer) (g .budget) t n (sym e) .0 in
+      passed.few-cells (g .header .relations) (g .header .arities) (g .query) (g .candidate) (a .right) (a .scopes) (a .passes)
 
-  -- both runs, run B with the buffer that run A left and with what the fills left of the rest
+  -- both runs, run B on what the fills left
   module _
-      (l : length fills ≤ length out) (t : Truth) (n : ℕ) (e : asked.Verdict t n ≡ ask h ws qs candidate buffer budget)
-      (list ws′ candidate′ buffer′ out′ : List ℕ) (b : Asked) (is-list : list ≡ askedBuffer h ws qs candidate buffer)
-      (is-words : ws′ ≡ filledWords h (fillsOf fills) ws) (is-candidate : candidate′ ≡ filledCandidate h (fillsOf fills) ws candidate)
-      (is-stored : out′ ≡ stored (filledAnswers h (fillsOf fills) ws) out)
-      (is-asked : b ≡ ask h ws′ qs candidate′ list budget) (is-listed : buffer′ ≡ askedBuffer h ws′ qs candidate′ list)
+      (l : length (g .fills) ≤ length (g .answers)) (t : Truth) (n : ℕ) (e : asked.Verdict t n ≡ runA g ws)
+      (buffer ws′ candidate′ out′ log′ : List ℕ) (used′ : ℕ) (buffer2 : List ℕ) (b : Asked)
+      (is-buffer : buffer ≡ askedBuffer (g .header) ws (g .query) (g .candidate) (g .buffer))
+      (is-left : filledWith ws′ candidate′ log′ used′ ≡ afterFills (fillLeaves (g .header)) (wanted g ws) (filledWith ws (g .candidate) (g .log) (g .used)))
+      (is-stored : out′ ≡ stored (fillsTold (g .header) (wanted g ws) (filledWith ws (g .candidate) (g .log) (g .used))) (g .answers))
+      (is-asked : b ≡ ask (g .header) ws′ (g .query) candidate′ (g .buffer2) (g .budget2))
+      (is-buffer2 : buffer2 ≡ askedBuffer (g .header) ws′ (g .query) candidate′ (g .buffer2))
     where
-      is-sound : sound h ws ≡ true
-      is-sound = verdict-asked h ws qs candidate buffer budget t n (sym e) .0 .is-sound
+      abbrev before : Filled
+      before = filledWith ws (g .candidate) (g .log) (g .used)
 
-      model-words : ws′ ≡ modelWords h ws qs candidate buffer budget fills out
-      model-words = is-words ∙ fills-follow-model h (fillsOf fills) ws candidate is-sound .words
+      is-sound : sound (g .header) ws ≡ true
+      is-sound = verdict-asked (g .header) ws (g .query) (g .candidate) (g .buffer) (g .budget) t n (sym e) .0 .is-sound
 
-      model-candidate : candidate′ ≡ run (fillsOf fills) (modelOf h ws candidate) .candidate
-      model-candidate = is-candidate ∙ candidate-run h (fillsOf fills) ws candidate is-sound
+      kept : (fillsTold (g .header) (wanted g ws) before ≡ accountsTold (wanted g ws) (start g ws)) × Kept (g .header) ws (afterFills (fillLeaves (g .header)) (wanted g ws) before) (end g ws)
+      kept = model-kept (g .header) ws (g .candidate) (g .log) (g .used) (wanted g ws) is-sound
 
-      pub verdicts : Ends (bothRuns (asked.Verdict t n) b) ws′ candidate′ buffer′ out′
-      unfolding begun reran reranWords reranCandidate reranAnswers reranBuffer
-      verdicts =
-          let p = le-leb (length fills) (length out) l in
+      model-words : ws′ ≡ modelWords g ws
+      model-words = ap (λ (s : Filled). s .words) is-left ∙ words-kept (g .header) ws (g .candidate) (g .log) (g .used) (wanted g ws) is-sound
+
+      model-candidate : candidate′ ≡ end g ws .model .candidate
+      model-candidate = ap (λ (s : Filled). s .candidate) is-left ∙ kept .1 .candidate
+
+      is-b : b ≡ runB g ws
+      is-b = rw (← model-words, ← model-candidate) is-asked
+
+      abbrev fs : List Fill
+      fs = fedAll (wanted g ws) (start g ws)
+
+      -- the model is the one that is fed the fills, and so demand 3 holds of it
+      model-fed : end g ws .model ≡ run fs (modelOf (g .header) ws (g .candidate))
+      model-fed = fed-run (wanted g ws) (start g ws)
+
+      words-fed : ws′ ≡ filledWords (g .header) fs ws
+      words-fed = model-words ∙ rw model-fed (sym (fills-follow-model (g .header) fs ws (g .candidate) is-sound .words))
+
+      claimed : Claim g ws (bothRuns (asked.Verdict t n) b)
+      claimed l′ longer larger u k v =
+          let d = demand-three (g .header) ws (g .query) (g .candidate) (g .buffer) (g .budget) fs (g .buffer2) (g .budget2) longer larger u k v in
+          let is-second : b ≡ ask (g .header) (filledWords (g .header) fs ws) (g .query) (run fs (modelOf (g .header) ws (g .candidate)) .candidate) (g .buffer2) (g .budget2) =
+          rw (is-asked, words-fed, model-candidate, model-fed) refl
+          in
+          (first-both t n b ∙ e ∙ v, rw (second-both t n b, is-second) d)
+
+      pub both-asked : Reruns g ws (bothRuns (asked.Verdict t n) b) ws′ candidate′ buffer out′ log′ used′ buffer2
+      unfolding begun reran reranWords reranCandidate reranAnswers reranLog reranUsed reranBuffer reranBuffer2
+      both-asked =
+          let p = le-leb (length (g .fills)) (length (g .answers)) l in
           let q = sym e in
-          let is-b : b ≡ runB h ws qs candidate buffer budget fills out = rw (← model-words, ← model-candidate, ← is-list) is-asked in
-          let listed : buffer′ ≡ askedBuffer h (modelWords h ws qs candidate buffer budget fills out) qs (run (fillsOf fills) (modelOf h ws candidate) .candidate) (bufferA h ws qs candidate buffer budget fills out) = rw (← model-words, ← model-candidate, ← is-list) is-listed in
-          let claimed : (u : Truth) (k : ℕ) → runA h ws qs candidate buffer budget fills out ≡ asked.Verdict u k → (firstOf (bothRuns (asked.Verdict t n) b) ≡ asked.Verdict u k) × Rerun h ws qs candidate (fillsOf fills) u k (secondOf (bothRuns (asked.Verdict t n) b)) =
-          λ u k v.
-          let d = demand-three h ws qs candidate buffer budget (fillsOf fills) list budget (rw is-list (longer h ws qs candidate buffer)) (omega arith) u k v in
-          let is-second : b ≡ ask h (filledWords h (fillsOf fills) ws) qs (run (fillsOf fills) (modelOf h ws candidate) .candidate) list budget = rw (is-asked, is-words, model-candidate) refl in
-          (first-both t n b (d .truth) (d .cost) (is-second ∙ d .answers) ∙ e ∙ v, rw (second-both t n b, is-second) d)
-          in (
-            rw (p, q) (ap (bothRuns (asked.Verdict t n)) is-b),
-            (
-              rw (p, q) model-words,
-              (rw (p, q) model-candidate, (rw (p, q) listed, (rw (p, q) (rw (is-stored, fills-follow-model h (fillsOf fills) ws candidate is-sound .answered) refl), (λ l′. claimed, told (rw (p, q) (ap (bothRuns (asked.Verdict t n)) is-b)))))),
-            ),
-          )
+          let is : bothRuns (asked.Verdict t n) b ≡ bothRuns (asked.Verdict t n) (runB g ws) = ap (bothRuns (asked.Verdict t n)) is-b in
+          record {
+            answer = rw (p, q) is;
+            words = rw (p, q) model-words;
+            candidate = rw (p, q) model-candidate;
+            buffer = rw p is-buffer;
+            answers = rw (p, q) (is-stored ∙ ap (λ (x : List (List ℕ)). stored x (g .answers)) (kept .0));
+            log = rw (p, q) (ap (λ (s : Filled). s .log) is-left ∙ kept .1 .log);
+            used = rw (p, q) (ap (λ (s : Filled). s .used) is-left ∙ kept .1 .used);
+            buffer2 = rw (p, q) (rw (← model-words, ← model-candidate) is-buffer2);
+            claim = claimed;
+            told = told (rw (p, q) is);
+          }

@@ -1,4 +1,5 @@
--- Run A, a list of fills and run B, as one call on lent slices. Document 00, demand 3, and document 01, "Run A and run B".
+-- Run A, a list of fills and run B, as one call on lent slices. Document 00, demand 3, document 01, "Run A and run B", and document 02, request 1:
+-- "Demand 3's list may hold both kinds".
 use Prim.Native.Nat.{ℕ, _≤_}
 use mathlib.Core.Path.{_≡_}
 use mathlib.Core.Bool.{Bool, cond}
@@ -10,7 +11,7 @@ use Rattle.calculus.specs.declared.answer.Answer.the-variants as answer
 use Rattle.calculus.specs.declared.truth.Truth.{Truth}
 use Rattle.calculus.specs.Answer.{after}
 use Rattle.calculus.specs.Refusal.{output-too-short}
-use Rattle.calculus.specs.Model.{Model, run, answers, outcomeOf as outcome}
+use Rattle.calculus.specs.Model.{afterFills, outcomeOf as outcome}
 use Rattle.instance.specs.declared.header.Header.{Header}
 use Rattle.instance.specs.Rows.{wordsOf}
 use Rattle.instance.specs.Run.{modelOf}
@@ -21,23 +22,25 @@ use Rattle.query.specs.Tree.{formulaOf}
 use Rattle.answer.specs.Numbers.{TellsVerdict}
 use Rattle.answer.specs.Rerun.{Rerun}
 use Rattle.rerun.specs.declared.reran.Reran.{Reran}
-use Rattle.rerun.specs.declared.reran.Reran.the-variants.{Verdicts, Refused}
-use Rattle.rerun.specs.Fills.{fillsOf, stored}
+use Rattle.rerun.specs.declared.reran.Reran.the-variants.{Verdicts, SecondRefused, Refused}
+use Rattle.rerun.specs.Fills.{Wanted, wantedOf, Account, accountNext, accountsTold, fedAll, stored}
 use Rattle.calculus.specs.Demand.{demand}
 
--- the verdicts of both runs, or the refusal of the first that is refused
+-- the answers of both runs; run B is not asked if run A is refused
 abbrev pub bothRuns : Asked → Asked → Reran
 bothRuns (asked.Verdict a n) (asked.Verdict b k) = Verdicts a n b k
-bothRuns (asked.Verdict a n) (asked.Refused r) = Refused r
+bothRuns (asked.Verdict a n) (asked.Refused r) = SecondRefused a n r
 bothRuns (asked.Refused r) b = Refused r
 
 -- What a rerun's answer says of run A and of run B; `answer/specs/Numbers.antt` gives each as the paper's numbers.
 abbrev pub firstOf : Reran → Asked
 firstOf (Verdicts a n b k) = asked.Verdict a n
+firstOf (SecondRefused a n r) = asked.Verdict a n
 firstOf (Refused r) = asked.Refused r
 
 abbrev pub secondOf : Reran → Asked
 secondOf (Verdicts a n b k) = asked.Verdict b k
+secondOf (SecondRefused a n r) = asked.Refused r
 secondOf (Refused r) = asked.Refused r
 
 -- the fills are made only if run A got a verdict
@@ -45,31 +48,60 @@ abbrev pub goesOn : Asked → Answer
 goesOn (asked.Verdict t n) = answer.Done 0
 goesOn (asked.Refused r) = answer.Refused r
 
-module _ (h : Header) (ws qs candidate buffer : List ℕ) (budget : ℕ) (fills out : List ℕ) where
-  -- the model before the fills, and after them
-  abbrev pub start : Model
-  start = modelOf h ws candidate
+-- what a rerun is given besides the instance's words: run A's buffer and budget are `buffer` and `budget`, run B's are `buffer2` and `budget2`
+pub record Given : Type 0 where
+  pub header : Header
+  pub query : List ℕ
+  pub candidate : List ℕ
+  pub buffer : List ℕ
+  pub budget : ℕ
+  pub fills : List ℕ
+  pub answers : List ℕ
+  pub log : List ℕ
+  pub used : ℕ
+  pub buffer2 : List ℕ
+  pub budget2 : ℕ
 
-  abbrev pub modelAfter : Model
-  modelAfter = run (fillsOf fills) start
+abbrev pub given : Header → (qs candidate buffer : List ℕ) → (budget : ℕ) → (fills answers log : List ℕ) → (used : ℕ) → (buffer2 : List ℕ) → (budget2 : ℕ) → Given
+given h qs candidate buffer budget fills answers log used buffer2 budget2 = record {
+  header = h;
+  query = qs;
+  candidate = candidate;
+  buffer = buffer;
+  budget = budget;
+  fills = fills;
+  answers = answers;
+  log = log;
+  used = used;
+  buffer2 = buffer2;
+  budget2 = budget2;
+}
+
+module _ (g : Given) (ws : List ℕ) where
+  abbrev pub wanted : List Wanted
+  wanted = wantedOf (g .fills)
+
+  -- the model and its log before the fills, and after them
+  abbrev pub start : Account
+  start = record { model = modelOf (g .header) ws (g .candidate); log = g .log; used = g .used }
+
+  abbrev pub end : Account
+  end = afterFills accountNext wanted start
 
   -- "afterwards the words in use are the book's rows, all other words and the head are A's"
   abbrev pub modelWords : List ℕ
-  modelWords = wordsOf (modelAfter .rows) ++ drop (h .used) ws
+  modelWords = wordsOf (end .model .rows) ++ drop (g .header .used) ws
 
-  -- "B asks with the book's candidate", and with the buffer that A left
   abbrev pub runA : Asked
-  runA = ask h ws qs candidate buffer budget
+  runA = ask (g .header) ws (g .query) (g .candidate) (g .buffer) (g .budget)
 
-  abbrev pub bufferA : List ℕ
-  bufferA = askedBuffer h ws qs candidate buffer
-
+  -- "B asks with the book's candidate"
   abbrev pub runB : Asked
-  runB = ask h modelWords qs (modelAfter .candidate) bufferA budget
+  runB = ask (g .header) modelWords (g .query) (end .model .candidate) (g .buffer2) (g .budget2)
 
   -- the slice for the answers is at least as long as the slice of the fills
   abbrev pub hasPlace : Bool
-  hasPlace = leb (length fills) (length out)
+  hasPlace = leb (length (g .fills)) (length (g .answers))
 
   -- 44 before anything is asked, then the refusals of run A
   unfoldable pub begun : Answer
@@ -78,27 +110,50 @@ module _ (h : Header) (ws qs candidate buffer : List ℕ) (budget : ℕ) (fills 
   unfoldable pub reran : Reran
   reran = cond hasPlace (bothRuns runA runB) (Refused output-too-short)
 
-  -- what is left of the instance's words, the candidate, the slice for the answers and the buffer
+  -- what is left of the instance's words, the candidate, the slice for the answers, the log with its words in use, and the buffers
   unfoldable pub reranWords : List ℕ
   reranWords = after begun modelWords ws
 
   unfoldable pub reranCandidate : List ℕ
-  reranCandidate = after begun (modelAfter .candidate) candidate
+  reranCandidate = after begun (end .model .candidate) (g .candidate)
 
   unfoldable pub reranAnswers : List ℕ
-  reranAnswers = after begun (stored (answers (fillsOf fills) start) out) out
+  reranAnswers = after begun (stored (accountsTold wanted start) (g .answers)) (g .answers)
+
+  unfoldable pub reranLog : List ℕ
+  reranLog = after begun (end .log) (g .log)
+
+  unfoldable pub reranUsed : ℕ
+  reranUsed = after begun (end .used) (g .used)
 
   unfoldable pub reranBuffer : List ℕ
-  reranBuffer = cond hasPlace (after begun (askedBuffer h modelWords qs (modelAfter .candidate) bufferA) bufferA) buffer
+  reranBuffer = cond hasPlace (askedBuffer (g .header) ws (g .query) (g .candidate) (g .buffer)) (g .buffer)
 
-  -- demand 3 for the answer, if there is room for the fills' answers and A gets a verdict: r has it, and B is not refused, keeps it if it is true or
-  -- false, costs no more, and is the verdict of two-valued logic if no null is left
+  unfoldable pub reranBuffer2 : List ℕ
+  reranBuffer2 = after begun (askedBuffer (g .header) modelWords (g .query) (end .model .candidate) (g .buffer2)) (g .buffer2)
+
+  -- demand 3 for the answer, if there is room for the fills' answers, run B's buffer and budget are no smaller than run A's, and run A gets a verdict:
+  -- r has it, and B is not refused, keeps it if it is true or false, costs no more, and is the verdict of two-valued logic if no null is left
   abbrev pub Claim : Reran → Type 0
   Claim r =
-      length fills ≤ length out → (t : Truth) (n : ℕ) → runA ≡ asked.Verdict t n →
-      (firstOf r ≡ asked.Verdict t n) × Rerun h ws qs candidate (fillsOf fills) t n (secondOf r)
+      length (g .fills) ≤ length (g .answers) → length (g .buffer) ≤ length (g .buffer2) → g .budget ≤ g .budget2 →
+      (t : Truth) (n : ℕ) → runA ≡ asked.Verdict t n →
+      (firstOf r ≡ asked.Verdict t n) × Rerun (g .header) ws (g .query) (g .candidate) (fedAll wanted start) t n (secondOf r)
 
   -- the answer in the paper's numbers: that of run A, and that of run B on what the fills left
   pub record TellsRuns (r : Reran) : Type 0 where
-    pub first : TellsVerdict (firstOf r) (firstOf reran) (outcome start (formulaOf (h .arities) qs))
-    pub second : TellsVerdict (secondOf r) (secondOf reran) (outcome (modelOf h modelWords (modelAfter .candidate)) (formulaOf (h .arities) qs))
+    pub first : TellsVerdict (firstOf r) (firstOf reran) (outcome (start .model) (formulaOf (g .header .arities) (g .query)))
+    pub second : TellsVerdict (secondOf r) (secondOf reran) (outcome (modelOf (g .header) modelWords (end .model .candidate)) (formulaOf (g .header .arities) (g .query)))
+
+  -- what a rerun returns, and what it leaves of everything that it was lent
+  pub record Reruns (r : Reran) (ws′ candidate′ buffer′ answers′ log′ : List ℕ) (used′ : ℕ) (buffer2′ : List ℕ) : Type 0 where
+    pub answer : r ≡ reran
+    pub words : ws′ ≡ reranWords
+    pub candidate : candidate′ ≡ reranCandidate
+    pub buffer : buffer′ ≡ reranBuffer
+    pub answers : answers′ ≡ reranAnswers
+    pub log : log′ ≡ reranLog
+    pub used : used′ ≡ reranUsed
+    pub buffer2 : buffer2′ ≡ reranBuffer2
+    pub claim : Claim r
+    pub told : TellsRuns r

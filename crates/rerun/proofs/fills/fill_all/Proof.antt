@@ -1,44 +1,57 @@
 -- `rerun::fills::fill_all` meets its contract: the fills that are left lead to the same end. Assumes nothing.
-use Prim.Native.Nat.{ℕ, _≤_, _-_}
+use Prim.Native.Nat.{ℕ, _+_, _≤_, _-_}
 use mathlib.Core.Path.{_≡_, refl, ap, _∙_}
+use mathlib.Core.List.{List, _++_}
 use native.Mathlib.Omega.{arith}
 use borrow.Author.Needs.{needs}
-use mathlib.Core.List.{List, _++_}
 use lib.ListN.{length, take, drop, length-drop}
-use Rattle.rerun.specs.Fills.{answerPair}
+use Rattle.calculus.specs.declared.answer.Answer.{Answer}
 use Rattle.instance.proofs.Parts.{part-to-end, put-to-end}
-use Rattle.rerun.proofs.FillLaws.{Going, begin, step, finish}
+use Rattle.rerun.specs.Fills.{filledWith, answerWords}
+use Rattle.rerun.proofs.FillLaws.{wantedAt, Going, begin, step, finish}
 use Rattle.rerun.proofs.fills.fill_all.Statement.{statement}
 use Rattle.rerun.proofs.fills.fill_all.Tie as tie
 
 abbrev Inv-loop : tie.InvT-loop
-Inv-loop header plot₀ candidate₀ fills answers₀ i₀ instance candidate answers i =
-    (i ≤ length fills) × (length instance ≡ length plot₀) × (length candidate ≡ length candidate₀) × (length answers ≡ length answers₀) ×
-    Going header fills plot₀ candidate₀ answers₀ instance candidate answers i
+Inv-loop header instance₀ candidate₀ log₀ used fills answers₀ last₀ i₀ instance candidate log answers last i =
+    (i ≤ length fills) × (length instance ≡ length instance₀) × (length candidate ≡ length candidate₀) × (length log ≡ length log₀) × (length answers ≡ length answers₀) ×
+    Going header fills (filledWith instance₀ candidate₀ log₀ used) answers₀ (filledWith instance candidate log last) answers i
 
 abbrev μ-loop : tie.MeasureT-loop
-μ-loop header plot₀ candidate₀ fills answers₀ i₀ instance candidate answers i = length fills - i
+μ-loop header instance₀ candidate₀ log₀ used fills answers₀ last₀ i₀ instance candidate log answers last i = length fills - i
 
 loop-holds : tie.Need-loop-holds Inv-loop μ-loop
-loop-holds c = (omega arith, refl, refl, refl, begin _ _ _ _ _)
+loop-holds c = (omega arith, refl, refl, refl, refl, begin _ _ _ _)
 
 add-loop : tie.Need-add-loop Inv-loop μ-loop
 add-loop c = omega arith
 
-mul-fill : tie.Need-mul-fill Inv-loop μ-loop
-mul-fill c = omega arith
+add-next : tie.Need-add-next Inv-loop μ-loop
+add-next c = omega arith
 
-shared-slice-read-fill : tie.Need-shared-slice-read-fill Inv-loop μ-loop
-shared-slice-read-fill c = omega arith
+mul-mark : tie.Need-mul-mark Inv-loop μ-loop
+mul-mark c = omega arith
 
-add-fill : tie.Need-add-fill Inv-loop μ-loop
-add-fill c = omega arith
+shared-slice-read-mark : tie.Need-shared-slice-read-mark Inv-loop μ-loop
+shared-slice-read-mark c = omega arith
 
-mul-fill-2 : tie.Need-mul-fill-2 Inv-loop μ-loop
-mul-fill-2 c = omega arith
+add-cell : tie.Need-add-cell Inv-loop μ-loop
+add-cell c = omega arith
 
-shared-slice-read-fill-2 : tie.Need-shared-slice-read-fill-2 Inv-loop μ-loop
-shared-slice-read-fill-2 c = omega arith
+mul-cell : tie.Need-mul-cell Inv-loop μ-loop
+mul-cell c = omega arith
+
+shared-slice-read-cell : tie.Need-shared-slice-read-cell Inv-loop μ-loop
+shared-slice-read-cell c = omega arith
+
+add-logs : tie.Need-add-logs Inv-loop μ-loop
+add-logs c = omega arith
+
+mul-logs : tie.Need-mul-logs Inv-loop μ-loop
+mul-logs c = omega arith
+
+shared-slice-read-logs : tie.Need-shared-slice-read-logs Inv-loop μ-loop
+shared-slice-read-logs c = omega arith
 
 fill-requires : tie.Need-fill-requires Inv-loop μ-loop
 fill-requires c κs = omega arith
@@ -57,37 +70,46 @@ part-store-end c = omega arith
 
 -- the iteration that made a fill
 abbrev begins : tie.After-fill Inv-loop μ-loop → tie.At-loop Inv-loop μ-loop
-begins c = c .before .before .before .before .before .before
+begins c = c .before .before .before .before .before .before .before .before
+
+-- three more words fit
+room : (c : tie.After-fill Inv-loop μ-loop) → (begins c .loop .i + 3 ≤ length (begins c .before .before .before .before .before .before .args .fills .now)) × (begins c .loop .i ≤ length (begins c .loop .answers))
+room c =
+    let at = begins c in
+    let more = c .before .before .before .before .before .before .before .loop-test .taken in
+    let pre = at .before .before .before .before .before .before .pre in
+    (omega (arith, more), omega (arith, more, at .loop .inv .4, pre .1))
 
 store-requires : tie.Need-store-requires Inv-loop μ-loop
 store-requires c κs =
-    let at = begins (c .before .before .before .before .before) .loop in
-    rw (part-to-end (at .answers) (at .i)) (omega (arith, length-drop (at .i) (at .answers)))
-
-add-i : tie.Need-add-i Inv-loop μ-loop
-add-i c = omega arith
+    let fill = c .before .before .before .before .before .before .before in
+    let at = begins fill .loop in
+    (rw (part-to-end (at .answers) (at .i)) (omega (arith, length-drop (at .i) (at .answers))), fill .fill .ensures .1 .1)
 
 loop-less : tie.Need-loop-less Inv-loop μ-loop
 loop-less c = omega arith
 
 loop-again : tie.Need-loop-again Inv-loop μ-loop
 loop-again c =
-    let fill = c .before .before .before .before .before .before .before .before in
+    let fill = c .before .before .before .before .before .before .before .before .before .before in
     let at = begins fill .loop in
-    let args = begins fill .before .before .before .before .before .args in
+    let args = begins fill .before .before .before .before .before .before .args in
     let filled = fill .fill in
     let out = at .answers in
+    let w = wantedAt (args .fills .now) (at .i) in
     let is-stored =
-    put-to-end out (at .i) (c .before .before .store .last .0) (omega arith) ∙
+    put-to-end out (at .i) (c .before .before .store .last .0) (room fill .1) ∙
     ap (λ (l : List ℕ). take (at .i) out ++ l) (c .before .before .store .ensures) ∙
-    ap (λ (l : List ℕ). take (at .i) out ++ (answerPair (filled .result) ++ drop 2 l)) (part-to-end out (at .i))
+    ap (λ (l : List ℕ). take (at .i) out ++ (answerWords w (filled .result .answer) ++ drop 3 l)) (part-to-end out (at .i)) ∙
+    ap (λ (a : Answer). take (at .i) out ++ (answerWords w a ++ drop 3 (drop (at .i) out))) (filled .ensures .0)
     in (
-      omega arith,
+      omega (arith, room fill .0),
       search needs,
       search needs,
       search needs,
-      step (args .header) (args .fills .now) (args .instance .now) (args .candidate .now) (args .answers .now) (at .instance) (at .candidate) out (at .i) (at .inv .4)
-          (omega arith) (omega arith) _ _ _ (filled .result) (filled .ensures .0) (filled .ensures .1 .0) (filled .ensures .1 .1) is-stored,
+      search needs,
+      step (args .header) (args .fills .now) _ (args .answers .now) (filledWith (at .instance) (at .candidate) (at .log) (at .last)) out (at .i) (at .inv .5)
+          (omega (arith, room fill .0)) (room fill .1) _ _ (filled .ensures .1 .0) is-stored,
     )
 
 same-length : tie.Need-same-length Inv-loop μ-loop
@@ -99,8 +121,11 @@ same-length-2 c = omega arith
 same-length-3 : tie.Need-same-length-3 Inv-loop μ-loop
 same-length-3 c = omega arith
 
+same-length-4 : tie.Need-same-length-4 Inv-loop μ-loop
+same-length-4 c = omega arith
+
 returns : tie.Need-returns Inv-loop μ-loop
-returns c = finish _ _ _ _ _ _ _ _ _ (c .before .loop .inv .4) (omega arith)
+returns c = finish _ _ _ _ _ _ _ (c .before .loop .inv .5) (omega arith)
 
 pub fill-all-spec : {M : Type 1} → statement M
 fill-all-spec =
@@ -110,21 +135,25 @@ fill-all-spec =
     μ-loop
     loop-holds
     add-loop
-    mul-fill
-    shared-slice-read-fill
-    add-fill
-    mul-fill-2
-    shared-slice-read-fill-2
+    add-next
+    mul-mark
+    shared-slice-read-mark
+    add-cell
+    mul-cell
+    shared-slice-read-cell
+    add-logs
+    mul-logs
+    shared-slice-read-logs
     fill-requires
     mul-store
     sub-store
     part-store-start
     part-store-end
     store-requires
-    add-i
     loop-less
     loop-again
     same-length
     same-length-2
     same-length-3
+    same-length-4
     returns)

@@ -3,72 +3,53 @@ use Prim.Native.Nat.{ℕ}
 use mathlib.Core.Path.{_≡_, sym, _∙_}
 use mathlib.Core.List.{List}
 use native.Mathlib.Omega.{arith}
-use borrow.Author.Needs.{needs}
-use Rattle.instance.specs.declared.header.Header.{Header}
 use Rattle.answer.specs.declared.asked.Asked.{Asked}
 use Rattle.answer.specs.declared.asked.Asked.the-variants.{Verdict}
-use Rattle.answer.specs.Ask.{ask}
-use Rattle.rerun.specs.Rerun.{bothRuns}
-use Rattle.rerun.proofs.Endings.{Ends, no-place, refused, few-cells, verdicts}
+use Rattle.rerun.specs.Rerun.{bothRuns, Given, given, runA, Reruns}
+use Rattle.rerun.proofs.Endings.{no-place, refused, few-cells, both-asked}
+use borrow.Author.Needs.{needs}
 use Rattle.rerun.proofs.rerun.rerun.Statement.{statement}
 use Rattle.rerun.proofs.rerun.rerun.Tie as tie
+
+-- what the call is given
+module _ (c : tie.Start) where
+  abbrev g : Given
+  g = given (c .args .header) (c .args .query .now) (c .args .candidate .now) (c .args .buffer .now) (c .args .budget) (c .args .fills .now) (c .args .answers .now) (c .args .log .now) (c .args .used .now) (c .args .buffer2 .now) (c .args .budget2)
+
+  abbrev ws : List ℕ
+  ws = c .args .instance .now
 
 -- run A got a verdict
 module _ (c : tie.After-truth-a) where
   abbrev start : tie.Start
-  start = c .before .before .before .before .before .before .before .before .before .before .before .before .before .before .before
-
-  abbrev h : Header
-  h = start .args .header
-
-  abbrev ws : List ℕ
-  ws = start .args .instance .now
-
-  abbrev qs : List ℕ
-  qs = start .args .query .now
-
-  abbrev candidate : List ℕ
-  candidate = start .args .candidate .now
-
-  abbrev buffer : List ℕ
-  buffer = start .args .buffer .now
-
-  abbrev budget : ℕ
-  budget = start .args .budget
-
-  abbrev fills : List ℕ
-  fills = start .args .fills .now
-
-  abbrev out : List ℕ
-  out = start .args .answers .now
+  start = c .before .before .before .before .before .before .before .before .before .before .before .before .before .before .before .before .before
 
   abbrev verdict : Asked
   verdict = Verdict (c .truth-a .given .0 .0) (c .truth-a .given .0 .1 .0)
 
-  is-verdict : verdict ≡ ask h ws qs candidate buffer budget
+  is-verdict : verdict ≡ runA (g start) (ws start)
   is-verdict = sym (c .truth-a .given .1) ∙ c .before .before .before .before .ask .ensures .0
 
 -- run B was asked
 module _ (c : tie.After-ask2) where
   abbrev made : tie.After-fill-all
-  made = c .before .before .before .before .before .before .before .before .before .before
+  made = c .before .before .before .before .before .before .before .before .before .before .before .before
 
   abbrev first : tie.After-truth-a
-  first = made .before .before .before .before .before
+  first = made .before .before .before .before .before .before .before
 
   ended :
       (b : Asked) → c .ask2 .result ≡ b →
-      Ends (h first) (ws first) (qs first) (candidate first) (buffer first) (budget first) (fills first) (out first) (bothRuns (verdict first) b)
-      (made .fill-all .last .1 .0) (made .fill-all .last .1 .1 .0) (c .ask2 .last .1 .1 .1 .1 .0) (made .fill-all .last .1 .1 .1 .1 .0)
+      Reruns (g (start first)) (ws (start first)) (bothRuns (verdict first) b)
+      (made .fill-all .last .1 .0) (made .fill-all .last .1 .1 .0) (first .before .before .before .before .ask .last .1 .1 .1 .1 .0) (made .fill-all .last .1 .1 .1 .1 .1 .1 .0) (made .fill-all .last .1 .1 .1 .0) (made .fill-all .result)
+      (c .ask2 .last .1 .1 .1 .1 .0)
   ended b is =
       let told = made .fill-all .ensures in
-      verdicts (h first) (ws first) (qs first) (candidate first) (buffer first) (budget first) (fills first) (out first) (first .before .before .before .before .before .before .before .before .if1 .left) _ _ (is-verdict first)
-      _ _ _ _ _ b (first .before .before .before .before .ask .ensures .1 .0) (told .0) (told .1 .0) (told .1 .1) (sym is ∙ c .ask2 .ensures .0) (c .ask2 .ensures .1 .0)
+      both-asked (g (start first)) (ws (start first)) (first .before .before .before .before .before .before .before .before .if1 .left) _ _ (is-verdict first)
+      _ _ _ _ _ _ _ b (first .before .before .before .before .ask .ensures .1 .0) (told .0) (told .1) (sym is ∙ c .ask2 .ensures .0) (c .ask2 .ensures .1 .0)
 
 returns : tie.Need-returns
-returns c =
-    let args = c .before .before .before .before .before .before .before .args in
-    no-place (args .header) (args .instance .now) (args .query .now) (args .candidate .now) (args .buffer .now) (args .budget) (args .fills .now) (args .answers .now) (c .if1 .taken)
+returns c = no-place (g (c .before .before .before .before .before .before .before .before .before)) (ws (c .before .before .before .before .before .before .before .before .before)) (c .if1 .taken)
 
 ask-requires : tie.Need-ask-requires
 ask-requires c κs = search needs
@@ -81,8 +62,8 @@ enum-known-truth-a c = search needs
 
 fill-all-requires : tie.Need-fill-all-requires
 fill-all-requires c κs =
-    let b = c .before .before .before .before in
-    let few = few-cells (h b) (ws b) (qs b) (candidate b) (buffer b) (budget b) (fills b) (out b) _ _ (is-verdict b) in
+    let b = c .before .before .before .before .before .before in
+    let few = few-cells (g (start b)) (ws (start b)) _ _ (is-verdict b) in
     (omega arith, b .before .before .before .before .before .before .before .before .if1 .left)
 
 ask-requires-2 : tie.Need-ask-requires-2
@@ -106,10 +87,8 @@ same-length-3 c = search needs
 returns-2 : tie.Need-returns-2
 returns-2 c =
     let asked = c .before .before .before .before .before in
-    let room = asked .before .before .before .before in
-    let args = room .before .before .before .before .before .before .before .args in
-    let told = asked .ask .ensures in
-    refused (args .header) (args .instance .now) (args .query .now) (args .candidate .now) (args .buffer .now) (args .budget) (args .fills .now) (args .answers .now) (room .if1 .left) _ (sym (c .before .why-a .given .1) ∙ told .0) _ (told .1 .0)
+    let s = asked .before .before .before .before .before .before .before .before .before .before .before .before .before in
+    refused (g s) (ws s) (asked .before .before .before .before .if1 .left) _ (sym (c .before .why-a .given .1) ∙ asked .ask .ensures .0) _ (asked .ask .ensures .1 .0)
 
 same-length-4 : tie.Need-same-length-4
 same-length-4 c = search needs
@@ -123,20 +102,32 @@ same-length-6 c = search needs
 same-length-7 : tie.Need-same-length-7
 same-length-7 c = search needs
 
-returns-3 : tie.Need-returns-3
-returns-3 c = ended (c .before .before .before .before .before) _ (c .before .why-b .given .1)
-
 same-length-8 : tie.Need-same-length-8
 same-length-8 c = search needs
 
 same-length-9 : tie.Need-same-length-9
 same-length-9 c = search needs
 
+returns-3 : tie.Need-returns-3
+returns-3 c = ended (c .before .before .before .before .before) _ (c .before .why-b .given .1)
+
 same-length-10 : tie.Need-same-length-10
 same-length-10 c = search needs
 
 same-length-11 : tie.Need-same-length-11
 same-length-11 c = search needs
+
+same-length-12 : tie.Need-same-length-12
+same-length-12 c = search needs
+
+same-length-13 : tie.Need-same-length-13
+same-length-13 c = search needs
+
+same-length-14 : tie.Need-same-length-14
+same-length-14 c = search needs
+
+same-length-15 : tie.Need-same-length-15
+same-length-15 c = search needs
 
 returns-4 : tie.Need-returns-4
 returns-4 c = ended (c .before .before .before .before .before) _ (c .before .truth-b .given .1)
@@ -161,9 +152,13 @@ rerun-spec =
     same-length-5
     same-length-6
     same-length-7
-    returns-3
     same-length-8
     same-length-9
+    returns-3
     same-length-10
     same-length-11
+    same-length-12
+    same-length-13
+    same-length-14
+    same-length-15
     returns-4)
