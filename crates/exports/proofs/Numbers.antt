@@ -14,6 +14,7 @@ use Rattle.calculus.proofs.Answers.{number-kept}
 use Rattle.calculus.specs.Refusal.{unsound, budget-spent}
 use Rattle.calculus.specs.Model.{outcomeOf}
 use Rattle.instance.specs.NullCounts.{counted, countedWords}
+use Rattle.log.specs.Log.{logged, loggedLog, loggedUsed, undone, undoneUsed}
 use Rattle.instance.specs.Run.{modelOf}
 use Rattle.card.specs.Encode.{encoded, encodedBytes}
 use Rattle.query.specs.Tree.{formulaOf}
@@ -25,14 +26,15 @@ use Rattle.answer.specs.Ask.{answeredBy, askable, ask, askedBuffer}
 use Rattle.answer.specs.Numbers.{askedAs}
 use Rattle.calls.specs.Calls.{Call, answerTo, leaves}
 use Rattle.calls.specs.Calls as library
-use Rattle.calls.specs.Numbers.{insertNumbers, fillNumbers, writeNumbers, readNumbers, askNumbers, numbers}
+use Rattle.calls.specs.Numbers.{insertNumbers, fillNumbers, logNumbers, undoNumbers, writeNumbers, readNumbers, askNumbers, numbers}
 use Rattle.calls.proofs.Numbers.{every-number}
 use Rattle.calls.proofs.Between.{refused-writes-none}
 use Rattle.exports.specs.Words.{headerLength, headerOf, headed, ifHeaded}
 use Rattle.exports.specs.Calls.{decodeAnswer, decodeHeader, decodeWords, insertAnswer, insertHeader, insertWords}
-use Rattle.exports.specs.Calls.{substituteAnswer, substituteWords, countsAnswer, countsWords, encodeAnswer, encodeBytes, askAnswer, askBuffer}
-use Rattle.exports.specs.Steps.{Job, asks, counts, encodes, inserts, substitutes, decodes, answerOn, numberOn, headerLeft, wordsLeft}
-use Rattle.exports.specs.Numbers.{numbersOf, isDone, outGiven, outLeft, EveryReturn}
+use Rattle.exports.specs.Calls.{substituteAnswer, substituteWords, logAnswer, logWords, logLog, logUsed, undoAnswer, undoWords, undoUsed, decodeUsed}
+use Rattle.exports.specs.Calls.{countsAnswer, countsWords, encodeAnswer, encodeBytes, askAnswer, askBuffer}
+use Rattle.exports.specs.Steps.{Job, asks, counts, encodes, inserts, substitutes, logs, undoes, decodes, answerOn, numberOn, headerLeft, wordsLeft}
+use Rattle.exports.specs.Numbers.{numbersOf, isDone, outGiven, outLeft, usedGiven, usedLeft, EveryReturn}
 use Rattle.calculus.specs.Demand.{demand}
 use Rattle.calculus.specs.Listed.{listed}
 use Rattle.calculus.proofs.Listed.{listed-right}
@@ -63,14 +65,16 @@ asked-known hs ws qs candidate buffer budget = go (eqb (length hs) headerLength)
     go false = refl
 
 all-known : (j : Job) (hs ws : List ℕ) → AllKnown (numbersOf j) (answerOn j hs ws)
-unfolding countsAnswer encodeAnswer insertAnswer substituteAnswer decodeAnswer AllKnown listed
+unfolding countsAnswer encodeAnswer insertAnswer substituteAnswer logAnswer undoAnswer decodeAnswer AllKnown listed
 all-known (asks qs candidate buffer budget) hs ws =
     λ r e. known (library.asks (headerOf hs) qs candidate buffer budget) hs ws askNumbers refl (λ r e. e) r (sym (asked-known hs ws qs candidate buffer budget) ∙ e)
 all-known (counts out) hs ws = known (library.counts (headerOf hs) out) hs ws writeNumbers refl (λ r e. e)
 all-known (encodes out) hs ws = known (library.encodes (headerOf hs) out) hs ws writeNumbers refl (λ r e. e)
 all-known (inserts relation cells) hs ws = known (library.inserts (headerOf hs) relation cells) hs ws insertNumbers refl (λ r e. e)
 all-known (substitutes m c) hs ws = known (library.substitutes (headerOf hs) m c) hs ws fillNumbers refl (λ r e. e)
-all-known (decodes card) hs ws = known (library.decodes card) hs ws (unsound ∷ readNumbers) refl (λ r e. listed-right r (unsound ∷ []) readNumbers e)
+all-known (logs log used m c) hs ws = known (library.logs (headerOf hs) log used m c) hs ws logNumbers refl (λ r e. e)
+all-known (undoes log used) hs ws = known (library.undoes (headerOf hs) log used) hs ws undoNumbers refl (λ r e. e)
+all-known (decodes card used) hs ws = known (library.decodes card) hs ws (unsound ∷ readNumbers) refl (λ r e. listed-right r (unsound ∷ []) readNumbers e)
 
 -- ---- what a refused call leaves
 
@@ -82,14 +86,16 @@ words-kept c hs ws = go (eqb (length hs) headerLength)
     go false some = refl
 
 all-kept : (j : Job) (hs ws : List ℕ) → (numberOn j hs ws ≡ 0 → ⊥) → (headerLeft j hs ws ≡ hs) × (wordsLeft j hs ws ≡ ws)
-unfolding insertAnswer insertHeader insertWords substituteAnswer substituteWords decodeAnswer decodeHeader decodeWords
+unfolding insertAnswer insertHeader insertWords substituteAnswer substituteWords logAnswer logWords undoAnswer undoWords decodeAnswer decodeHeader decodeWords
 all-kept (asks qs candidate buffer budget) hs ws some = (refl, refl)
 all-kept (counts out) hs ws some = (refl, refl)
 all-kept (encodes out) hs ws some = (refl, refl)
 all-kept (inserts relation cells) hs ws some =
     (number-kept (insertAnswer hs ws relation cells) _ hs some, words-kept (library.inserts (headerOf hs) relation cells) hs ws some)
 all-kept (substitutes m c) hs ws some = (refl, words-kept (library.substitutes (headerOf hs) m c) hs ws some)
-all-kept (decodes card) hs ws some = (number-kept (decodeAnswer card hs ws) _ hs some, words-kept (library.decodes card) hs ws some)
+all-kept (logs log used m c) hs ws some = (refl, words-kept (library.logs (headerOf hs) log used m c) hs ws some)
+all-kept (undoes log used) hs ws some = (refl, words-kept (library.undoes (headerOf hs) log used) hs ws some)
+all-kept (decodes card used) hs ws some = (number-kept (decodeAnswer card hs ws) _ hs some, words-kept (library.decodes card) hs ws some)
 
 -- the output of a refused call
 out-kept : {A : Type 0} (hs : List ℕ) (a : Answer) (new old : A) → (numberOf (headed hs a) ≡ 0 → ⊥) → ifHeaded hs (after a new old) old ≡ old
@@ -116,13 +122,26 @@ buffer-kept hs ws qs candidate buffer budget =
     go true (Done n) evaluated.Spent new some other = absurd (other refl)
 
 all-out : (j : Job) (hs ws : List ℕ) → (numberOn j hs ws ≡ 0 → ⊥) → (numberOn j hs ws ≡ budget-spent → ⊥) → outLeft j hs ws ≡ outGiven j
-unfolding countsAnswer countsWords encodeAnswer encodeBytes countedWords encodedBytes
+unfolding countsAnswer countsWords encodeAnswer encodeBytes countedWords encodedBytes logAnswer logLog loggedLog
 all-out (asks qs candidate buffer budget) hs ws some other = buffer-kept hs ws qs candidate buffer budget some other
 all-out (counts out) hs ws some other = out-kept hs (counted (headerOf hs) ws out) _ out some
 all-out (encodes out) hs ws some other = out-kept hs (encoded (headerOf hs) ws out) _ out some
 all-out (inserts relation cells) hs ws some other = refl
 all-out (substitutes m c) hs ws some other = refl
-all-out (decodes card) hs ws some other = refl
+all-out (logs log used m c) hs ws some other = out-kept hs (logged (headerOf hs) ws log used m c) _ log some
+all-out (undoes log used) hs ws some other = refl
+all-out (decodes card used) hs ws some other = refl
+
+all-used : (j : Job) (hs ws : List ℕ) → (numberOn j hs ws ≡ 0 → ⊥) → usedLeft j hs ws ≡ usedGiven j
+unfolding logAnswer logUsed loggedUsed undoAnswer undoUsed undoneUsed decodeAnswer decodeUsed
+all-used (asks qs candidate buffer budget) hs ws some = refl
+all-used (counts out) hs ws some = refl
+all-used (encodes out) hs ws some = refl
+all-used (inserts relation cells) hs ws some = refl
+all-used (substitutes m c) hs ws some = refl
+all-used (logs log used m c) hs ws some = out-kept hs (logged (headerOf hs) ws log used m c) _ used some
+all-used (undoes log used) hs ws some = out-kept hs (undone (headerOf hs) ws log used) _ used some
+all-used (decodes card used) hs ws some = number-kept (decodeAnswer card hs ws) _ used some
 
 -- ---- what C sees
 
@@ -144,5 +163,6 @@ every-return j hs ws =
       tabled = tabled-is (numbersOf j) a t;
       accepted = accepted-is (numbersOf j) a t;
       refused = all-kept j hs ws;
+      used = all-used j hs ws;
       out = all-out j hs ws;
     }

@@ -14,8 +14,7 @@ use Rattle.calculus.specs.Kleene.{rank}
 use Rattle.calculus.specs.Order.{_⊑_, unknown, alike}
 use Rattle.calculus.specs.Refusal.{unsound}
 use Rattle.calculus.specs.Model.{Model, next, afterFills}
-use Rattle.instance.specs.Run.{filledWords}
-use Rattle.instance.specs.Substitute.{substituted, substitutedWords}
+use Rattle.instance.specs.Run.{fillAnswer, fillWords, filledWords}
 use Rattle.instance.proofs.Run.{Follows, follows-answer, follows-next}
 use Rattle.answer.specs.declared.asked.Asked.{Asked}
 use Rattle.answer.specs.declared.asked.Asked.the-variants as asked
@@ -25,20 +24,22 @@ use Rattle.answer.proofs.RerunLaws.{not-refused, verdict-asked, demand-three}
 use Rattle.calls.specs.Calls.{asks}
 use Rattle.calls.proofs.Numbers.{every-number}
 use Rattle.exports.specs.Words.{headerLength, headerOf}
-use Rattle.exports.specs.Calls.{substituteAnswer, substituteWords, askAnswer}
-use Rattle.exports.specs.Steps.{Instance, Step, fills, calls, instanceAfter, WriteNoWord, fillsAmong, fillsSeen, modelSeen}
+use Rattle.exports.specs.Calls.{substituteAnswer, substituteWords, logAnswer, logWords, askAnswer}
+use Rattle.exports.specs.Steps.{Instance, answerOn, wordsLeft, Making, plainly, withLog, fillOf, fillJob, Step, fills, calls, instanceAfter, WriteNoWord, fillsAmong, fillsSeen, modelSeen}
 use Rattle.exports.specs.Rerun.{start, modelAfter, ExportedRerun, ExportedDemandThree}
 use Rattle.exports.proofs.Headed.{headed-yes, kept-yes}
 
 module _ (hs : List ℕ) (ten : length hs ≡ headerLength) where
   -- a fill by the exported call is a fill by the library's call
-  fill-words : (ws : List ℕ) (m c : ℕ) → substituteWords hs ws m c ≡ substitutedWords (headerOf hs) ws m c
-  unfolding substituteWords
-  fill-words ws m c = kept-yes hs ten (substitutedWords (headerOf hs) ws m c) ws
+  fill-words : (k : Making) (m c : ℕ) (ws : List ℕ) → wordsLeft (fillJob k m c) hs ws ≡ fillWords (headerOf hs) (fillOf k m c) ws
+  unfolding substituteWords logWords
+  fill-words plainly m c ws = kept-yes hs ten (fillWords (headerOf hs) (fillOf plainly m c) ws) ws
+  fill-words (withLog log used) m c ws = kept-yes hs ten (fillWords (headerOf hs) (fillOf (withLog log used) m c) ws) ws
 
-  fill-answer : (ws : List ℕ) (m c : ℕ) → substituteAnswer hs ws m c ≡ substituted (headerOf hs) ws m c
-  unfolding substituteAnswer
-  fill-answer ws m c = headed-yes hs ten (substituted (headerOf hs) ws m c)
+  fill-answer : (k : Making) (m c : ℕ) (ws : List ℕ) → answerOn (fillJob k m c) hs ws ≡ fillAnswer (headerOf hs) (fillOf k m c) ws
+  unfolding substituteAnswer logAnswer
+  fill-answer plainly m c ws = headed-yes hs ten (fillAnswer (headerOf hs) (fillOf plainly m c) ws)
+  fill-answer (withLog log used) m c ws = headed-yes hs ten (fillAnswer (headerOf hs) (fillOf (withLog log used) m c) ws)
 
   ask-is : (ws qs candidate buffer : List ℕ) (budget : ℕ) → askAnswer hs ws qs candidate buffer budget ≡ ask (headerOf hs) ws qs candidate buffer budget
   unfolding askAnswer
@@ -51,19 +52,20 @@ module _ (hs : List ℕ) (ten : length hs ≡ headerLength) where
   instance-after : (ss : List Step) (ws : List ℕ) → WriteNoWord ss (of ws) → instanceAfter ss (of ws) ≡ of (filledWords (headerOf hs) (fillsAmong ss) ws)
   unfolding instanceAfter WriteNoWord fillsAmong afterFills
   instance-after [] ws q = refl
-  instance-after (fills f count ∷ ss) ws q =
-      let e = fill-words ws (f .mark) (f .cell) in
-      ap (λ (x : List ℕ). instanceAfter ss (of x)) e ∙ instance-after ss (substitutedWords (headerOf hs) ws (f .mark) (f .cell)) (rw e at q)
+  instance-after (fills k m c count ∷ ss) ws q =
+      let e = fill-words k m c ws in
+      ap (λ (x : List ℕ). instanceAfter ss (of x)) e ∙ instance-after ss (fillWords (headerOf hs) (fillOf k m c) ws) (rw e at q)
   instance-after (calls c ∷ ss) ws q = ap (instanceAfter ss) (q .0) ∙ instance-after ss ws (rw (q .0) at (q .1))
 
   -- C sees of the fills what the model answers
   fills-seen : (ss : List Step) (first ws : List ℕ) (b : Model) → Follows (headerOf hs) first ws b → WriteNoWord ss (of ws) → fillsSeen ss (of ws) ≡ modelSeen ss b
   unfolding fillsSeen WriteNoWord modelSeen
   fills-seen [] first ws b g q = refl
-  fills-seen (fills f count ∷ ss) first ws b g q =
-      let e = fill-words ws (f .mark) (f .cell) in
-      let more = fills-seen ss first (substitutedWords (headerOf hs) ws (f .mark) (f .cell)) (next f b) (follows-next (headerOf hs) first f ws b g) (rw e at q) in
-      rw (fill-answer ws (f .mark) (f .cell), follows-answer (headerOf hs) first f ws b g, e, more) refl
+  fills-seen (fills k m c count ∷ ss) first ws b g q =
+      let f = fillOf k m c in
+      let e = fill-words k m c ws in
+      let more = fills-seen ss first (fillWords (headerOf hs) f ws) (next f b) (follows-next (headerOf hs) first f ws b g) (rw e at q) in
+      rw (fill-answer k m c ws, follows-answer (headerOf hs) first f ws b g, e, more) refl
   fills-seen (calls c ∷ ss) first ws b g q = ap (fillsSeen ss) (q .0) ∙ fills-seen ss first ws b g (rw (q .0) at (q .1))
 
 -- a question that gets a verdict has a header of ten words

@@ -1,10 +1,12 @@
--- The exported calls: those that `instance`, `card` and `answer` define, with a header that is a slice of ten words.
+-- The exported calls: those that `instance`, `log`, `card` and `answer` define, with a header that is a slice of ten words.
 use Prim.Native.Nat.{ℕ}
 use mathlib.Core.List.{List}
 use Rattle.calculus.specs.declared.answer.Answer.{Answer}
 use Rattle.calculus.specs.Answer.{after}
 use Rattle.instance.specs.Insert.{inserted, insertedHeader, insertedWords}
+use Rattle.calculus.specs.Fill.{unlogged}
 use Rattle.instance.specs.Substitute.{substituted, substitutedWords}
+use Rattle.log.specs.Log.{fresh, logged, loggedWords, loggedLog, loggedUsed, undone, undoneWords, undoneUsed}
 use Rattle.instance.specs.NullCounts.{counted, countedWords}
 use Rattle.card.specs.Decode.{decoded}
 use Rattle.card.specs.Encode.{encoded, encodedBytes}
@@ -25,6 +27,11 @@ module _ (card hs ws : List ℕ) where
   unfoldable pub decodeWords : List ℕ
   decodeWords = ifHeaded hs (decoded card ws .words) ws
 
+  -- "Reading a card starts a fresh log."
+  unfoldable pub decodeUsed : ℕ → ℕ
+  unfolding decodeAnswer
+  decodeUsed used = after decodeAnswer fresh used
+
 module _ (hs ws : List ℕ) (relation : ℕ) (cells : List ℕ) where
   unfoldable pub insertAnswer : Answer
   insertAnswer = headed hs (inserted (headerOf hs) ws relation cells)
@@ -38,10 +45,34 @@ module _ (hs ws : List ℕ) (relation : ℕ) (cells : List ℕ) where
 
 module _ (hs ws : List ℕ) (mark cell : ℕ) where
   unfoldable pub substituteAnswer : Answer
-  substituteAnswer = headed hs (substituted (headerOf hs) ws mark cell)
+  substituteAnswer = headed hs (substituted (headerOf hs) ws unlogged mark cell)
 
   unfoldable pub substituteWords : List ℕ
-  substituteWords = ifHeaded hs (substitutedWords (headerOf hs) ws mark cell) ws
+  substituteWords = ifHeaded hs (substitutedWords (headerOf hs) ws unlogged mark cell) ws
+
+-- the log's words in use are a number that the caller lends
+module _ (hs ws log : List ℕ) (used mark cell : ℕ) where
+  unfoldable pub logAnswer : Answer
+  logAnswer = headed hs (logged (headerOf hs) ws log used mark cell)
+
+  unfoldable pub logWords : List ℕ
+  logWords = ifHeaded hs (loggedWords (headerOf hs) ws log used mark cell) ws
+
+  unfoldable pub logLog : List ℕ
+  logLog = ifHeaded hs (loggedLog (headerOf hs) ws log used mark cell) log
+
+  unfoldable pub logUsed : ℕ
+  logUsed = ifHeaded hs (loggedUsed (headerOf hs) ws log used mark cell) used
+
+module _ (hs ws log : List ℕ) (used : ℕ) where
+  unfoldable pub undoAnswer : Answer
+  undoAnswer = headed hs (undone (headerOf hs) ws log used)
+
+  unfoldable pub undoWords : List ℕ
+  undoWords = ifHeaded hs (undoneWords (headerOf hs) ws log used) ws
+
+  unfoldable pub undoUsed : ℕ
+  undoUsed = ifHeaded hs (undoneUsed (headerOf hs) ws log used) used
 
 module _ (hs ws out : List ℕ) where
   unfoldable pub countsAnswer : Answer

@@ -1,5 +1,5 @@
--- Demand 3 for the exported calls, as C sees it: run A by `plotask_ask`, a list of steps with fills by `plotask_substitute` among them, run B by
--- `plotask_ask`.
+-- Demand 3 for the exported calls, as C sees it: run A by `plotask_ask`, a list of steps with fills by `plotask_substitute` and
+-- `plotask_substitute_logged` among them, run B by `plotask_ask`.
 use Prim.Native.Nat.{ℕ, _≤_}
 use mathlib.Core.Path.{_≡_}
 use mathlib.Core.Bool.{true}

@@ -2,9 +2,10 @@
 ghost use mathlib.Core.Path.{_≡_};
 ghost use Rattle.calculus.specs.Answer.{numberOf, valueOf};
 ghost use Rattle.answer.specs.Numbers.{askedNumber, verdictOf, costOf};
-ghost use Rattle.exports.specs.Calls.{decodeAnswer, decodeHeader, decodeWords};
+ghost use Rattle.exports.specs.Calls.{decodeAnswer, decodeHeader, decodeWords, decodeUsed};
 ghost use Rattle.exports.specs.Calls.{insertAnswer, insertHeader, insertWords};
 ghost use Rattle.exports.specs.Calls.{substituteAnswer, substituteWords, countsAnswer, countsWords, encodeAnswer, encodeBytes};
+ghost use Rattle.exports.specs.Calls.{logAnswer, logWords, logLog, logUsed, undoAnswer, undoWords, undoUsed};
 ghost use Rattle.exports.specs.Calls.{askAnswer, askBuffer};
 
 mod words;
@@ -13,18 +14,25 @@ use calculus::refusal::UNSOUND;
 use words::HEADER;
 use words::asked_number;
 use words::cost_of;
+use words::fresh_after;
 use words::number;
 use words::put_header;
 use words::read_header;
 use words::value;
 use words::verdict;
 
-// Reads a card.
+// Reads a card, and starts the log fresh: used gets the words in use of a fresh log.
 #[no_mangle]
-pub extern "C" fn plotask_decode(card: &[u8], header: &mut [u32], instance: &mut [u32]) -> u32
+pub extern "C" fn plotask_decode(
+    card: &[u8],
+    header: &mut [u32],
+    instance: &mut [u32],
+    used: &mut usize,
+) -> u32
     ensures number { λ r. ⌜ r ≡ numberOf (decodeAnswer (now (card .entry)) (now (header .entry)) (now (instance .entry))) ⌝ }
     ensures header { λ r. ⌜ now (header .exit) ≡ decodeHeader (now (card .entry)) (now (header .entry)) (now (instance .entry)) ⌝ }
     ensures words { λ r. ⌜ now (instance .exit) ≡ decodeWords (now (card .entry)) (now (header .entry)) (now (instance .entry)) ⌝ }
+    ensures used { λ r. ⌜ now (used .exit) ≡ decodeUsed (now (card .entry)) (now (header .entry)) (now (instance .entry)) (now (used .entry)) ⌝ }
 {
     if header.len() != HEADER {
         return UNSOUND;
@@ -33,6 +41,7 @@ pub extern "C" fn plotask_decode(card: &[u8], header: &mut [u32], instance: &mut
     let answer = stored.answer;
     let read = stored.header;
     put_header(header, answer, read);
+    *used = fresh_after(answer, stored.log, *used);
     number(answer)
 }
 
@@ -75,6 +84,64 @@ pub extern "C" fn plotask_substitute(
         return UNSOUND;
     }
     let answer = substitute::substitute(read_header(header), instance, mark, cell);
+    *count = value(answer, *count);
+    number(answer)
+}
+
+// Makes a fill that is logged: used is the log's words in use, before and after; count gets the number of cells that held the mark.
+#[no_mangle]
+pub extern "C" fn plotask_substitute_logged(
+    header: &[u32],
+    instance: &mut [u32],
+    log: &mut [u32],
+    used: &mut usize,
+    mark: u32,
+    cell: u32,
+    count: &mut u32,
+) -> u32
+    ensures number { λ r. ⌜ r ≡ numberOf (logAnswer (now (header .entry)) (now (instance .entry)) (now (log .entry)) (now (used .entry)) mark cell) ⌝ }
+    ensures words { λ r. ⌜ now (instance .exit) ≡ logWords (now (header .entry)) (now (instance .entry)) (now (log .entry)) (now (used .entry)) mark cell ⌝ }
+    ensures log { λ r. ⌜ now (log .exit) ≡ logLog (now (header .entry)) (now (instance .entry)) (now (log .entry)) (now (used .entry)) mark cell ⌝ }
+    ensures used { λ r. ⌜ now (used .exit) ≡ logUsed (now (header .entry)) (now (instance .entry)) (now (log .entry)) (now (used .entry)) mark cell ⌝ }
+    ensures count { λ r. ⌜ now (count .exit) ≡ valueOf (logAnswer (now (header .entry)) (now (instance .entry)) (now (log .entry)) (now (used .entry)) mark cell) (now (count .entry)) ⌝ }
+{
+    if header.len() != HEADER {
+        return UNSOUND;
+    }
+    let logged = substitute_logged::substitute_logged(
+        read_header(header),
+        instance,
+        log,
+        *used,
+        mark,
+        cell,
+    );
+    let answer = logged.answer;
+    *used = logged.log;
+    *count = value(answer, *count);
+    number(answer)
+}
+
+// Takes the latest logged fill back: used is the log's words in use, before and after; count gets the number of cells that the mark returns to.
+#[no_mangle]
+pub extern "C" fn plotask_undo(
+    header: &[u32],
+    instance: &mut [u32],
+    log: &[u32],
+    used: &mut usize,
+    count: &mut u32,
+) -> u32
+    ensures number { λ r. ⌜ r ≡ numberOf (undoAnswer (now (header .entry)) (now (instance .entry)) (now (log .entry)) (now (used .entry))) ⌝ }
+    ensures words { λ r. ⌜ now (instance .exit) ≡ undoWords (now (header .entry)) (now (instance .entry)) (now (log .entry)) (now (used .entry)) ⌝ }
+    ensures used { λ r. ⌜ now (used .exit) ≡ undoUsed (now (header .entry)) (now (instance .entry)) (now (log .entry)) (now (used .entry)) ⌝ }
+    ensures count { λ r. ⌜ now (count .exit) ≡ valueOf (undoAnswer (now (header .entry)) (now (instance .entry)) (now (log .entry)) (now (used .entry))) (now (count .entry)) ⌝ }
+{
+    if header.len() != HEADER {
+        return UNSOUND;
+    }
+    let undone = undo::undo(read_header(header), instance, log, *used);
+    let answer = undone.answer;
+    *used = undone.log;
     *count = value(answer, *count);
     number(answer)
 }

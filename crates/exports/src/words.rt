@@ -89,6 +89,16 @@ pub fn value(answer: Answer, old: u32) -> u32
     }
 }
 
+// The log's words in use after a call that starts the log fresh; a refused call leaves the log as it is.
+pub fn fresh_after(answer: Answer, fresh: usize, used: usize) -> usize
+    ensures { λ r. ⌜ r ≡ after answer fresh used ⌝ }
+{
+    match answer {
+        Answer::Done(_) => fresh,
+        Answer::Refused(_) => used,
+    }
+}
+
 fn truth_number(truth: Truth) -> u32
     ensures { λ r. ⌜ r ≡ rank truth ⌝ }
 {
