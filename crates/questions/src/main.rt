@@ -19,5 +19,8 @@ fn main() {
     limits::full();
     rerunning::settled();
     rerunning::lists_of_fills();
+    rerunning::both_kinds();
+    rerunning::words_in_use();
+    rerunning::second_refused();
     rerunning::refused();
 }

@@ -3,6 +3,7 @@ use answer::asked::Asked;
 use calculus::answer::Answer;
 use calculus::truth::Truth;
 use instance::header::Header;
+use log::Logged;
 use rerun::reran::Reran;
 
 fn text(bytes: &[u8]) {
@@ -58,18 +59,57 @@ fn refusal(why: u32) {
     told(b" refused", why);
 }
 
-pub fn answer(name: &[u8], a: Answer) {
-    named(name);
+fn outcome(a: Answer) {
     match a {
         Answer::Done(n) => told(b" done", n),
         Answer::Refused(why) => refusal(why),
     }
+}
+
+pub fn answer(name: &[u8], a: Answer) {
+    named(name);
+    outcome(a);
+    end();
+}
+
+fn in_use(words: usize) {
+    text(b" log used ");
+    io::print_decimal(1, words as u64);
+}
+
+// The answer of a call that uses the log, and the log's words in use.
+pub fn logged(name: &[u8], l: Logged) {
+    let a = l.answer;
+    named(name);
+    outcome(a);
+    text(b",");
+    in_use(l.log);
+    end();
+}
+
+// A line that names what the next lines show.
+pub fn heading(name: &[u8]) {
+    named(name);
+    end();
+}
+
+fn listed(label: &[u8], list: &[u32]) {
+    text(label);
+    items(list);
     end();
 }
 
 pub fn words(list: &[u32]) {
-    text(b"  words");
-    items(list);
+    listed(b"  words", list);
+}
+
+pub fn log(list: &[u32]) {
+    listed(b"  log", list);
+}
+
+pub fn log_used(words: usize) {
+    text(b" ");
+    in_use(words);
     end();
 }
 
@@ -117,6 +157,11 @@ pub fn reran(name: &[u8], r: Reran) {
             verdict(truth_a, looks_a);
             text(b", then");
             verdict(truth_b, looks_b);
+        }
+        Reran::SecondRefused(truth, looks, why) => {
+            verdict(truth, looks);
+            text(b", then");
+            refusal(why);
         }
         Reran::Refused(why) => refusal(why),
     }
