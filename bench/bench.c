@@ -83,6 +83,28 @@ static void call_table(void)
     call_row("insert after 584 rows", insert, insert_by_hand, insert_reference);
 }
 
+/* A fill that is logged and undone, and beside it two fills that are not logged. */
+static void fill_rows(const char *name, uint32_t columns, uint32_t rows, uint32_t step)
+{
+    prepare_fills(columns, rows, step);
+    call_row(name, logged_and_undone, logged_and_undone_by_hand, logged_and_undone_reference);
+    call_row("the same plot, two fills that are not logged", there_and_back, there_and_back_by_hand,
+             there_and_back_reference);
+}
+
+static void fill_table(void)
+{
+    puts("\n## A fill and its undo\n");
+    puts("| calls | library, ns | C by hand, ns | ratio | reference, ns | ratio |");
+    puts("|---|---|---|---|---|---|");
+    fill_rows("logged fill and undo, 585 rows of six columns, a mark in each row", PLOTASK_COLUMNS, FULL_ROWS,
+              PLOTASK_COLUMNS);
+    fill_rows("logged fill and undo, 585 rows of six columns, a mark in the last cell", PLOTASK_COLUMNS, FULL_ROWS,
+              PLOTASK_CELLS);
+    fill_rows("logged fill and undo, 585 rows of six columns, a mark in every cell", PLOTASK_COLUMNS, FULL_ROWS, 1);
+    fill_rows("logged fill and undo, 2,048 rows of one cell, a mark in every cell", 1, PLOTASK_WORDS / 2, 1);
+}
+
 static void few_values(uint32_t rows)
 {
     make_plot(&now, PLOTASK_COLUMNS, rows, FEW_VALUES);
@@ -123,6 +145,7 @@ static void growth_table(void)
     growth_row("decode", prepare_calls, decode);
     growth_row("encode", prepare_calls, encode);
     growth_row("substitute", prepare_calls, substitute);
+    growth_row("logged fill and undo", prepare_calls, logged_and_undone);
     growth_row("null counts", prepare_calls, null_counts);
     growth_row("insert", prepare_calls, insert);
 }
@@ -207,6 +230,8 @@ static void stack_table(void)
     stack_row("encode", encode);
     stack_row("insert", insert);
     stack_row("substitute", substitute);
+    stack_row("logged fill", substitute_logged);
+    stack_row("undo", undo);
     stack_row("null counts", null_counts);
     chain_rows();
     many_values(FULL_ROWS);
@@ -217,6 +242,7 @@ int main(void)
 {
     query_table();
     call_table();
+    fill_table();
     growth_table();
     look_table();
     stack_table();

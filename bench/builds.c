@@ -7,16 +7,26 @@
 
 #include <stdio.h>
 
-#define CALLS(prefix)                                            \
-    __typeof__(plotask_ask) prefix##plotask_ask;                 \
-    __typeof__(plotask_decode) prefix##plotask_decode;           \
-    __typeof__(plotask_encode) prefix##plotask_encode;           \
-    __typeof__(plotask_substitute) prefix##plotask_substitute;   \
-    __typeof__(plotask_null_counts) prefix##plotask_null_counts; \
+/*
+ * A build from before the log has a decode without log_used. By the x86-64 calling convention this seventh argument is
+ * on the stack and the caller's to remove, so that decode can be called as declared here, and does not look at it.
+ */
+#define CALLS(prefix)                                                        \
+    __typeof__(plotask_ask) prefix##plotask_ask;                             \
+    __typeof__(plotask_decode) prefix##plotask_decode;                       \
+    __typeof__(plotask_encode) prefix##plotask_encode;                       \
+    __typeof__(plotask_substitute) prefix##plotask_substitute;               \
+    __typeof__(plotask_substitute_logged) prefix##plotask_substitute_logged; \
+    __typeof__(plotask_undo) prefix##plotask_undo;                           \
+    __typeof__(plotask_null_counts) prefix##plotask_null_counts;             \
     __typeof__(plotask_insert) prefix##plotask_insert
 
 CALLS(control_);
 CALLS(other_);
+
+/* Such a build lacks these two: they are then null. */
+#pragma weak other_plotask_substitute_logged
+#pragma weak other_plotask_undo
 
 static const struct build this = BUILD(), control = BUILD(control_), other = BUILD(other_);
 
@@ -105,6 +115,7 @@ static const struct {
     {"decode, 585 rows", decode, FULL_ROWS},
     {"encode, 585 rows", encode, FULL_ROWS},
     {"substitute, a mark in 585 cells", substitute, FULL_ROWS},
+    {"logged fill and undo, a mark in 585 cells", logged_and_undone, FULL_ROWS},
     {"null counts, 585 rows", null_counts, FULL_ROWS},
     {"insert after 584 rows", insert, FULL_ROWS - 1},
 };
@@ -145,6 +156,8 @@ int main(void)
     puts("|---|---|---|---|---|");
     for (size_t row = 0; row < ROWS; row++) {
         const char *name = prepare(row);
+        if (timed == logged_and_undone && (other.substitute_logged == NULL || other.undo == NULL))
+            continue;
         double ns[2], against_itself = ratio_to(by_control, ns), ratio = ratio_to(by_other, ns);
 
         printf("| %s | %.0f | %.0f | %.3g | %.3g |\n", name, ns[0], ns[1], ratio, against_itself);

@@ -9,6 +9,12 @@ static struct plotask_header header;
 static uint32_t plot[PLOTASK_WORDS];
 static uint32_t list[PLOTASK_CELLS];
 
+/* What can be taken back: the words of the log, and how many are in use. Few cells have marks here. */
+static uint32_t fill_log[64];
+static size_t fill_log_used;
+
+enum { FILL_LOG_WORDS = sizeof fill_log / sizeof *fill_log };
+
 /* Two sheets of one column, two rows: lamp 201 hangs; the store has one lamp, whose number is not known: a blank. */
 static const uint8_t card[] = {0x02, 0x01, 0x01, 0x00, 0x02, 0x00, 0x01, 0x00, 0x00, 0xC9, 0x01, 0x00};
 
@@ -29,6 +35,10 @@ static const char *reason(uint32_t refusal)
         return "the looks exceed the allowance";
     case PLOTASK_NO_ROOM:
         return "the plot is full";
+    case PLOTASK_LOG_TOO_SHORT:
+        return "the log is full";
+    case PLOTASK_LOG_EMPTY:
+        return "there is no fill to take back";
     default:
         return "see enum plotask_refusal";
     }
@@ -64,13 +74,34 @@ static void fill(uint32_t mark, uint32_t lamp)
         printf("%u cell\n", (unsigned)cells);
 }
 
+/* A fill that the director may still take back. */
+static void try_fill(uint32_t mark, uint32_t lamp)
+{
+    uint32_t cells;
+
+    printf("say mark %u is lamp %u: ", (unsigned)mark, (unsigned)lamp);
+    if (!refused(plotask_substitute_logged(PLOTASK_HEADER(&header), plot, PLOTASK_WORDS, fill_log, FILL_LOG_WORDS,
+                                           &fill_log_used, mark, lamp, &cells)))
+        printf("%u cell, %u words of the log in use\n", (unsigned)cells, (unsigned)fill_log_used);
+}
+
+static void take_back(void)
+{
+    uint32_t cells;
+
+    printf("take the last fill back: ");
+    if (!refused(plotask_undo(PLOTASK_HEADER(&header), plot, PLOTASK_WORDS, fill_log, FILL_LOG_WORDS, &fill_log_used,
+                              &cells)))
+        printf("%u cell, %u words of the log in use\n", (unsigned)cells, (unsigned)fill_log_used);
+}
+
 int main(void)
 {
     const uint32_t lamp = 202;
     uint8_t written[PLOTASK_CARD_BYTES];
     uint32_t bytes;
 
-    if (refused(plotask_decode(card, sizeof card, PLOTASK_HEADER(&header), plot, PLOTASK_WORDS)))
+    if (refused(plotask_decode(card, sizeof card, PLOTASK_HEADER(&header), plot, PLOTASK_WORDS, &fill_log_used)))
         return 1;
     printf("card read: %u sheets, %u words\n", (unsigned)header.relations, (unsigned)header.used);
 
@@ -79,6 +110,14 @@ int main(void)
     printf("lamp 202 entered: %u words\n", (unsigned)header.used);
 
     ask_to_hire(201, 100);
+
+    /* Taking a fill back is no fill: the verdict that it had settled is unknown again. */
+    try_fill(1, 201);
+    ask_to_hire(201, 100);
+    take_back();
+    ask_to_hire(201, 100);
+    take_back();
+
     fill(1, 202);
     ask_to_hire(201, 100);
     ask_to_hire(202, 100);

@@ -19,6 +19,8 @@
  *   fill          substitute          working list         domain buffer
  *   census        null counts         entering             insert
  *   reading       decode              writing              encode
+ *   noted fill    logged fill         taking back          undo
+ *   note          entry (of a log)
  *
  * A card is a plot as bytes, to be read or written. A blank is a column that a card leaves open; reading gives it a
  * mark of its own.
@@ -35,11 +37,12 @@
  * - A slice is a pointer and a length. The length counts elements: words for uint32_t, bytes for uint8_t.
  * - The host has to make sure of what no call can test: a pointer is not null, is aligned for its type, and points to
  *   as many elements as the length says. If the length is 0, the address of any variable of the type will do. The same
- *   holds for count, truth and cost. What a pointer without const lends, the whole slice, must not overlap with
- *   anything else that is lent to the same call, even if the call would write none of it: the host inserts a row from
- *   cells of its own, not from a part of the plot.
- * - It allocates nothing, keeps nothing after it returns, and has no variables of its own. Calls on different plots may
- *   run at the same time, and so may calls that only read the same plot, each question with its own working list.
+ *   holds for count, truth, cost and log_used. What a pointer without const lends, the whole slice, must not overlap
+ *   with anything else that is lent to the same call, even if the call would write none of it: the host inserts a row
+ *   from cells of its own, not from a part of the plot, and its log shares no word with plot, header or log_used.
+ * - It allocates nothing, keeps nothing after it returns, and has no variables of its own. Calls on different plots,
+ *   each with its own log, may run at the same time, and so may calls that only read the same plot, each question with
+ *   its own working list.
  *
  * CELLS AND ROWS
  *
@@ -57,6 +60,29 @@
  * The plot's values are its different cells, of all sheets and columns, marks included, in the order in which they
  * first occur in the words.
  *
+ * THE LOG
+ *
+ * A host that may want to take fills back lends a log: an array of words of any length, and a size_t log_used, the
+ * number of its words in use. plotask_substitute_logged fills a mark and appends an entry to the words in use;
+ * plotask_undo takes the last entry off again and puts its mark back into exactly the cells that the fill had taken it
+ * from. Each call stores the new log_used.
+ *
+ * An entry is the places of the n cells that held the mark, in rising order, then the number of the mark, then n. A
+ * place is the index of a cell's word in the plot, counted from 0. So an entry has n + 2 words. In a plot of the words
+ * 0, 201, 1, PLOTASK_MARK(1), the fill of mark 1 is logged as 3, 1, 1.
+ *
+ * - A fresh log is one with log_used = 0, whatever its words hold. An accepted plotask_decode stores that 0, since the
+ *   entries of the old plot mean nothing in the new one. A host that starts a plot without a card stores it itself.
+ * - A log belongs to one plot. From a fresh log, logged fills, undos and inserts may follow each other in any order:
+ *   the plot is always its rows as they were entered, with the fills that have not been taken back. A fill, and so its
+ *   undo, does not touch rows that are entered after it. Here plotask_undo is never refused with 49, and with 48
+ *   exactly if no fill is left.
+ * - plotask_undo tests that an entry could belong to this plot, not that it does. If anything else writes the plot between
+ *   a logged fill and its undo, plotask_substitute too, then the undo writes the mark over whatever the cells hold by
+ *   then.
+ * - An undo is no fill: a verdict that was true or false may be unknown again, or change once the mark is filled anew,
+ *   and the looks may rise. The candidate is the host's, as with a fill: if it was filled too, the host puts it back.
+ *
  * MEMORY
  *
  *   plot            4,096 words   16,384 bytes
@@ -69,6 +95,13 @@
  * working list is free: it may hold a card (at most PLOTASK_CARD_BYTES), as (uint8_t *)list with 4 bytes for each word,
  * or the 200 words of a census.
  *
+ *   log             for each fill 2 words, and 1 word for each cell that it fills; a fill writes at most 3,512 words
+ *                   (PLOTASK_ENTRY_WORDS), 14,048 bytes
+ *
+ * The log is beside these 36,032 bytes, and only logged fills and undos need it. It cannot share memory with the
+ * working list, since it has to be kept between questions. Beside the largest arrays above, 40 KiB have room for a log
+ * of 1,232 words.
+ *
  * STACK, in bytes below the caller's own frame, as measured by `make bench` (docs/BENCHMARKS.md):
  *
  *   ask            3,032 for a question of 1 node (a row of six columns; 2,904 for two terms), and 256 more for each
@@ -76,7 +109,9 @@
  *   null counts      976
  *   insert           256
  *   encode           240
- *   decode           240
+ *   decode           272
+ *   logged fill      208
+ *   undo             224
  *   substitute       176
  *
  * LINKING
@@ -106,6 +141,7 @@ enum {
     PLOTASK_NODE_WORDS = 8,         /* words of a node */
     PLOTASK_QUERY_WORDS = 800,      /* words of a question, at most */
     PLOTASK_CANDIDATE = 6,          /* cells of a candidate row, at most */
+    PLOTASK_ENTRY_WORDS = 3512,     /* words of a log's entry, at most: 3,510 places, the mark and the number */
     PLOTASK_VARIABLES = 16,         /* variables are numbered 0 to 15 */
     PLOTASK_HEADER_WORDS = 10,      /* words of a header, exactly */
     PLOTASK_CONSTANTS = 1000000,    /* inked values are the numbers below this one */
@@ -132,7 +168,7 @@ enum plotask_truth {
     PLOTASK_TRUE = 2     /* true, however the marks are filled */
 };
 
-/* What a call returns. 10 to 29 are about what was given, 41 to 46 about the plot, the room and the allowance. */
+/* What a call returns. 10 to 29 are about what was given, 41 to 49 about the plot, the room, the allowance, the log. */
 enum plotask_refusal {
     PLOTASK_DONE = 0,                    /* accepted */
     PLOTASK_INPUT_TOO_LONG = 10,         /* the program's input is over 16,384 bytes; no call returns this */
@@ -157,7 +193,10 @@ enum plotask_refusal {
     PLOTASK_NULL_ABSENT = 43,            /* no cell holds the mark to fill */
     PLOTASK_OUTPUT_TOO_SHORT = 44,       /* the output is shorter than the card, or than the census's 200 words */
     PLOTASK_BUFFER_TOO_SHORT = 45,       /* the working list has fewer words than the plot has cells */
-    PLOTASK_BUDGET_SPENT = 46            /* the question's looks exceed the allowance */
+    PLOTASK_BUDGET_SPENT = 46,           /* the question's looks exceed the allowance */
+    PLOTASK_LOG_TOO_SHORT = 47,          /* the log has no room for the entry of this fill */
+    PLOTASK_LOG_EMPTY = 48,              /* no word of the log is in use: there is no fill to take back */
+    PLOTASK_BAD_LOG = 49                 /* the words in use of the log do not end with an entry for this plot */
 };
 
 /* The kind of a question's node is its first word; the next words are named here. */
@@ -225,14 +264,16 @@ static inline const uint32_t *plotask_const_header_words(const struct plotask_he
  *   card, card_bytes      the card; any length
  *   header, header_words  PLOTASK_HEADER(&header)
  *   plot, plot_words      room for the rows; 4,096 words are enough for every card that is accepted
+ *   log_used              gets 0, the words in use of a fresh log; what it held before does not matter. A host without a
+ *                         log passes any size_t
  *
- * Writes: the header, and the first header.used words of the plot.
+ * Writes: the header, the first header.used words of the plot, and log_used.
  * Refuses: 41 (header_words is not PLOTASK_HEADER_WORDS); then the card byte by byte: 11 if a byte is missing, else the
  * rule of that byte or field, which is 12 (sheets), 13 (columns), 14 (a row's sheet), 15 (bit map), 16 (cell); then 18,
  * 17, 42.
  */
 uint32_t plotask_decode(const uint8_t *card, size_t card_bytes, uint32_t *header, size_t header_words, uint32_t *plot,
-                        size_t plot_words);
+                        size_t plot_words, size_t *log_used);
 
 /*
  * Entering a row (insert): the row is appended to the words in use. This is not a fill: a verdict may change by it.
@@ -252,7 +293,7 @@ uint32_t plotask_insert(uint32_t *header, size_t header_words, uint32_t *plot, s
  * A fill (substitute): every cell of the plot that holds a mark gets another cell. The candidate is the host's: if it
  * holds the mark, the host replaces it there as well. Then a verdict that was true or false stays so, an unknown one
  * may be settled, and the looks do not rise. The same is true of a mark that only the candidate holds, which the host
- * fills alone: here it is refused with 43.
+ * fills alone: here it is refused with 43. This fill is in no log: plotask_undo does not take it back.
  *
  *   header, header_words  PLOTASK_CONST_HEADER(&header) or PLOTASK_HEADER(&header)
  *   plot, plot_words      the plot
@@ -266,6 +307,45 @@ uint32_t plotask_insert(uint32_t *header, size_t header_words, uint32_t *plot, s
  */
 uint32_t plotask_substitute(const uint32_t *header, size_t header_words, uint32_t *plot, size_t plot_words,
                             uint32_t mark, uint32_t cell, uint32_t *count);
+
+/*
+ * A fill that can be taken back (logged fill): as plotask_substitute, and its cells are noted in a log (THE LOG).
+ *
+ *   header, header_words  PLOTASK_CONST_HEADER(&header) or PLOTASK_HEADER(&header)
+ *   plot, plot_words      the plot
+ *   log, log_words        the log, lent to be written; it needs a word for each cell that holds the mark, and two, from
+ *                         index *log_used on
+ *   log_used              the words in use of the log, any number; grows by count + 2
+ *   mark                  the number of the mark, 1 to 200 (the number m, not the cell PLOTASK_MARK(m))
+ *   cell                  what replaces it: an inked value, another mark PLOTASK_MARK(k), or the mark itself (then the
+ *                         plot does not change, but the fill is logged all the same)
+ *   count                 gets the number of cells that held the mark, at least 1
+ *
+ * Writes: the cells that held the mark, count + 2 words of the log from index *log_used, log_used, and count.
+ * Refuses: 41, 29, 16, 43, 47 (the words in use and those of the entry exceed log_words).
+ */
+uint32_t plotask_substitute_logged(const uint32_t *header, size_t header_words, uint32_t *plot, size_t plot_words,
+                                   uint32_t *log, size_t log_words, size_t *log_used, uint32_t mark, uint32_t cell,
+                                   uint32_t *count);
+
+/*
+ * Taking a fill back (undo): the cells that the log's last entry names get its mark again, whatever they hold now, and
+ * the entry is no longer in use.
+ *
+ *   header, header_words  PLOTASK_CONST_HEADER(&header) or PLOTASK_HEADER(&header)
+ *   plot, plot_words      the plot
+ *   log, log_words        the log, which is only read
+ *   log_used              the words in use of the log, any number; falls by count + 2
+ *   count                 gets the number of cells that the entry names
+ *
+ * Writes: the cells that the entry names, log_used, and count.
+ * Refuses: 41; 48 (*log_used is 0); 49 if *log_used exceeds log_words, or is less than the last entry has words (2, and
+ * as many more as the last word in use says), or the entry's mark is not 1 to 200, or a place in it is not that of a
+ * cell: it is the word of a row's sheet number, or at or past the end of the plot's words in use. There is no other test: an
+ * entry without places, or with places that are repeated or do not rise, is taken back too.
+ */
+uint32_t plotask_undo(const uint32_t *header, size_t header_words, uint32_t *plot, size_t plot_words,
+                      const uint32_t *log, size_t log_words, size_t *log_used, uint32_t *count);
 
 /*
  * The census of marks (null counts): how many cells hold each mark.

@@ -42,17 +42,43 @@ void card_and_difference()
                                                       {PLOTASK_STANDS, 1, PLOTASK_VARIABLE(0)}};
     plotask_header header = plotask_header();
     uint32_t plot[4] = {};
+    uint32_t log[3] = {};
+    size_t log_used = 9;
     uint32_t count = 0;
 
-    expect(plotask_decode(card, sizeof card, PLOTASK_HEADER(&header), plot, 4) == PLOTASK_DONE, "the card is not read");
+    expect(plotask_decode(card, sizeof card, PLOTASK_HEADER(&header), plot, 4, &log_used) == PLOTASK_DONE,
+           "the card is not read");
+    expect(log_used == 0, "the card's log is not fresh");
     expect(header.relations == 2 && header.arities[0] == 1 && header.arities[1] == 1 && header.used == 4,
            "the card's header");
     expect(plot[0] == 0 && plot[1] == 201 && plot[2] == 1 && plot[3] == PLOTASK_MARK(1), "the card's rows");
     expect(is(ask(header, plot, &question[0][0], 4 * PLOTASK_NODE_WORDS), PLOTASK_UNKNOWN, 4),
            "the difference, with the mark");
+    expect(plotask_substitute_logged(PLOTASK_CONST_HEADER(&header), plot, 4, log, 2, &log_used, 1, 202, &count) ==
+               PLOTASK_LOG_TOO_SHORT,
+           "the log of two words");
+    expect(plotask_substitute_logged(PLOTASK_CONST_HEADER(&header), plot, 4, log, 3, &log_used, 1, 202, &count) ==
+                   PLOTASK_DONE &&
+               count == 1,
+           "the logged fill");
+    expect(log_used == 3 && log[0] == 3 && log[1] == 1 && log[2] == 1, "the log's entry");
+    expect(is(ask(header, plot, &question[0][0], 4 * PLOTASK_NODE_WORDS), PLOTASK_TRUE, 4), "the difference, filled");
+    count = 0;
+    expect(plotask_undo(PLOTASK_CONST_HEADER(&header), plot, 4, log, 3, &log_used, &count) == PLOTASK_DONE &&
+               count == 1,
+           "the undo");
+    expect(log_used == 0 && plot[3] == PLOTASK_MARK(1), "the mark after the undo");
+    expect(is(ask(header, plot, &question[0][0], 4 * PLOTASK_NODE_WORDS), PLOTASK_UNKNOWN, 4),
+           "the difference, taken back");
+    expect(plotask_undo(PLOTASK_CONST_HEADER(&header), plot, 4, log, 3, &log_used, &count) == PLOTASK_LOG_EMPTY,
+           "the undo of an empty log");
+    log_used = 4;
+    expect(plotask_undo(PLOTASK_CONST_HEADER(&header), plot, 4, log, 3, &log_used, &count) == PLOTASK_BAD_LOG,
+           "the undo of words in use that the log lacks");
     expect(plotask_substitute(PLOTASK_CONST_HEADER(&header), plot, 4, 1, 202, &count) == PLOTASK_DONE && count == 1,
            "the fill");
-    expect(is(ask(header, plot, &question[0][0], 4 * PLOTASK_NODE_WORDS), PLOTASK_TRUE, 4), "the difference, filled");
+    expect(is(ask(header, plot, &question[0][0], 4 * PLOTASK_NODE_WORDS), PLOTASK_TRUE, 4),
+           "the difference, filled again");
 }
 
 // The row (201, 5) in sheet 2; the values are tried in the order 201, 5.

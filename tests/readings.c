@@ -1,4 +1,7 @@
-/* Document 01's "Readings to hold up beside the rules", asked of the library and of the reference at once. */
+/*
+ * Document 01's "Readings to hold up beside the rules", and a history with a log, asked of the library and of the
+ * reference at once.
+ */
 #include "differential/compare.h"
 #include "support/checks.h"
 
@@ -140,10 +143,98 @@ static void check_limits(void)
     check_named("12: 808 words", both_ask(&plot, &query, &none, 1, 1, &truth, &cost) == 21);
 }
 
+/* A step of the history: the call, what it returns, and the words in use of plot and log after it. */
+struct step {
+    const char *name;
+    enum { LOGGED_FILL, UNDONE_FILL, ENTERED_ROW } call;
+    uint32_t null; /* of a logged fill */
+    uint32_t cell; /* of a logged fill, or of an entered row */
+    uint32_t number;
+    uint32_t count;
+    uint32_t used;
+    uint32_t words[6];
+    size_t log_used;
+    uint32_t log_words[8];
+};
+
+/* The rows (m1) and (8), with room for one more row, and a log of 8 words. */
+static const struct step steps[] = {
+    {"log: m1 by 8", LOGGED_FILL, 1, 8, 0, 1, 4, {0, 8, 0, 8}, 3, {1, 1, 1}},
+    {"log: a row (m1)", ENTERED_ROW, 0, M(1), 0, 0, 6, {0, 8, 0, 8, 0, M(1)}, 3, {1, 1, 1}},
+    {"log: m1 by 8 back", UNDONE_FILL, 0, 0, 0, 1, 6, {0, M(1), 0, 8, 0, M(1)}, 0, {0}},
+    {"log: none to take back", UNDONE_FILL, 0, 0, 48, 0, 6, {0, M(1), 0, 8, 0, M(1)}, 0, {0}},
+    {"log: m1 by m2", LOGGED_FILL, 1, M(2), 0, 2, 6, {0, M(2), 0, 8, 0, M(2)}, 4, {1, 5, 1, 2}},
+    {"log: m1 in no cell", LOGGED_FILL, 1, 8, 43, 0, 6, {0, M(2), 0, 8, 0, M(2)}, 4, {1, 5, 1, 2}},
+    {"log: m2 by 8", LOGGED_FILL, 2, 8, 0, 2, 6, {0, 8, 0, 8, 0, 8}, 8, {1, 5, 1, 2, 1, 5, 2, 2}},
+    {"log: m2 by 8 back", UNDONE_FILL, 0, 0, 0, 2, 6, {0, M(2), 0, 8, 0, M(2)}, 4, {1, 5, 1, 2}},
+    {"log: m2 by itself", LOGGED_FILL, 2, M(2), 0, 2, 6, {0, M(2), 0, 8, 0, M(2)}, 8, {1, 5, 1, 2, 1, 5, 2, 2}},
+    {"log: a full log", LOGGED_FILL, 2, 7, 47, 0, 6, {0, M(2), 0, 8, 0, M(2)}, 8, {1, 5, 1, 2, 1, 5, 2, 2}},
+    {"log: m2 by itself back", UNDONE_FILL, 0, 0, 0, 2, 6, {0, M(2), 0, 8, 0, M(2)}, 4, {1, 5, 1, 2}},
+    {"log: m1 by m2 back", UNDONE_FILL, 0, 0, 0, 2, 6, {0, M(1), 0, 8, 0, M(1)}, 0, {0}},
+};
+
+static uint32_t take_step(const struct step *step, struct any_log *log, uint32_t *count)
+{
+    const struct any_cells row = {{step->cell}, 1};
+    switch (step->call) {
+    case LOGGED_FILL:
+        return both_substitute_logged(&plot, log, step->null, step->cell, count);
+    case UNDONE_FILL:
+        return both_undo(&plot, log, count);
+    case ENTERED_ROW:
+        break;
+    }
+    return both_insert(&plot, 0, &row);
+}
+
+static void check_history(void)
+{
+    static struct any_log log = {.length = 8};
+    start_plot(&rows_m1_8);
+    plot.length = 6;
+    for (size_t i = 0; i < sizeof steps / sizeof *steps; i++) {
+        const struct step *step = &steps[i];
+        uint32_t count = 0;
+        uint32_t number = take_step(step, &log, &count);
+        bool same = number == step->number && (number != 0 || count == step->count) &&
+                    plot.header[HEADER_USED] == step->used && log.used == step->log_used;
+        same = same && memcmp(plot.words, step->words, step->used * sizeof *step->words) == 0;
+        same = same && memcmp(log.words, step->log_words, step->log_used * sizeof *step->log_words) == 0;
+        check_named(step->name, same);
+    }
+}
+
+/* The longest entry: null 1 in each of the 3,510 cells of 585 rows. */
+static void check_longest_entry(void)
+{
+    static struct any_log log;
+    const uint32_t arity = MOST_COLUMNS;
+    const uint32_t rows = MOST_WORDS / (1 + MOST_COLUMNS);
+    uint32_t count = 0;
+    header_start(plot.header, 1, &arity);
+    for (uint32_t row = 0; row < rows; row++) {
+        uint32_t *words = plot.words + plot.header[HEADER_USED];
+        words[0] = 0;
+        for (uint32_t column = 1; column <= MOST_COLUMNS; column++)
+            words[column] = M(1);
+        header_add_row(plot.header, 0);
+    }
+    plot.length = plot.header[HEADER_USED];
+    log.length = 3511;
+    check_named("log: 3,511 words", both_substitute_logged(&plot, &log, 1, M(2), &count) == 47);
+    log.length = 3512;
+    bool logged = both_substitute_logged(&plot, &log, 1, M(2), &count) == 0;
+    check_named("log: 3,512 words", logged && count == 3510 && log.used == 3512 && log.words[3509] == 4094);
+    bool undone = both_undo(&plot, &log, &count) == 0;
+    check_named("log: 3,512 words back", undone && count == 3510 && log.used == 0 && plot.words[4094] == M(1));
+}
+
 int main(void)
 {
     for (size_t i = 0; i < sizeof readings / sizeof *readings; i++)
         check_reading(&readings[i]);
     check_limits();
+    check_history();
+    check_longest_entry();
     return finish_checks();
 }

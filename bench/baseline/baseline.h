@@ -35,4 +35,10 @@ uint32_t count_nulls(const struct plotask_header *header, const uint32_t *plot, 
 uint32_t insert_row(struct plotask_header *header, uint32_t *plot, size_t plot_words, uint32_t relation,
                     const uint32_t *cells, size_t count);
 
+/* Each returns 0 or the number of its refusal, since an accepted undo may count no cell. */
+uint32_t replace_null_logged(const struct plotask_header *header, uint32_t *plot, size_t plot_words, uint32_t *log,
+                             size_t log_words, size_t *log_used, uint32_t null, uint32_t cell, uint32_t *count);
+uint32_t undo_fill(const struct plotask_header *header, uint32_t *plot, size_t plot_words, const uint32_t *log,
+                   size_t log_words, size_t *log_used, uint32_t *count);
+
 #endif

@@ -18,6 +18,8 @@ static uint8_t card[PLOTASK_CARD_BYTES], written[PLOTASK_CARD_BYTES];
 static uint32_t card_bytes;
 static struct plotask_header read_header;
 static uint32_t read_plot[PLOTASK_WORDS];
+static uint32_t fill_log[PLOTASK_ENTRY_WORDS];
+static size_t fill_log_used;
 static uint32_t counts[PLOTASK_MARKS];
 static const uint32_t row[PLOTASK_COLUMNS] = {1, 2, 3, 4, 5, 6};
 
@@ -51,7 +53,7 @@ void ask_reference(void)
 
 void decode(void)
 {
-    refusal = build->decode(card, card_bytes, PLOTASK_HEADER(&read_header), read_plot, PLOTASK_WORDS);
+    refusal = build->decode(card, card_bytes, PLOTASK_HEADER(&read_header), read_plot, PLOTASK_WORDS, &fill_log_used);
 }
 
 void decode_by_hand(void)
@@ -61,7 +63,7 @@ void decode_by_hand(void)
 
 void decode_reference(void)
 {
-    refusal = ref_decode(card, card_bytes, PLOTASK_HEADER(&read_header), read_plot, PLOTASK_WORDS);
+    refusal = ref_decode(card, card_bytes, PLOTASK_HEADER(&read_header), read_plot, PLOTASK_WORDS, &fill_log_used);
 }
 
 void encode(void)
@@ -106,6 +108,65 @@ void substitute_reference(void)
     uint32_t null = next_null();
     refusal =
         ref_substitute(PLOTASK_HEADER(&now.header), now.plot, PLOTASK_WORDS, null, PLOTASK_MARK(3 - null), &count);
+}
+
+void there_and_back(void)
+{
+    refusal = build->substitute(PLOTASK_HEADER(&now.header), now.plot, PLOTASK_WORDS, 1, PLOTASK_MARK(2), &count);
+    refusal |= build->substitute(PLOTASK_HEADER(&now.header), now.plot, PLOTASK_WORDS, 2, PLOTASK_MARK(1), &count);
+}
+
+void there_and_back_by_hand(void)
+{
+    refusal = !replace_null(&now.header, now.plot, PLOTASK_WORDS, 1, PLOTASK_MARK(2));
+    refusal |= !replace_null(&now.header, now.plot, PLOTASK_WORDS, 2, PLOTASK_MARK(1));
+}
+
+void there_and_back_reference(void)
+{
+    refusal = ref_substitute(PLOTASK_HEADER(&now.header), now.plot, PLOTASK_WORDS, 1, PLOTASK_MARK(2), &count);
+    refusal |= ref_substitute(PLOTASK_HEADER(&now.header), now.plot, PLOTASK_WORDS, 2, PLOTASK_MARK(1), &count);
+}
+
+/* The log and its length. */
+#define FILL_LOG fill_log, PLOTASK_ENTRY_WORDS, &fill_log_used
+
+void logged_and_undone(void)
+{
+    refusal = build->substitute_logged(PLOTASK_HEADER(&now.header), now.plot, PLOTASK_WORDS, FILL_LOG, 1,
+                                       PLOTASK_MARK(2), &count);
+    refusal |= build->undo(PLOTASK_HEADER(&now.header), now.plot, PLOTASK_WORDS, FILL_LOG, &count);
+}
+
+void logged_and_undone_by_hand(void)
+{
+    refusal = replace_null_logged(&now.header, now.plot, PLOTASK_WORDS, FILL_LOG, 1, PLOTASK_MARK(2), &count);
+    refusal |= undo_fill(&now.header, now.plot, PLOTASK_WORDS, FILL_LOG, &count);
+}
+
+void logged_and_undone_reference(void)
+{
+    refusal = ref_substitute_logged(PLOTASK_HEADER(&now.header), now.plot, PLOTASK_WORDS, FILL_LOG, 1, PLOTASK_MARK(2),
+                                    &count);
+    refusal |= ref_undo(PLOTASK_HEADER(&now.header), now.plot, PLOTASK_WORDS, FILL_LOG, &count);
+}
+
+/* The words in use after the last logged fill. */
+static size_t entry_words;
+
+void substitute_logged(void)
+{
+    uint32_t null = next_null();
+    fill_log_used = 0;
+    refusal = build->substitute_logged(PLOTASK_HEADER(&now.header), now.plot, PLOTASK_WORDS, FILL_LOG, null,
+                                       PLOTASK_MARK(3 - null), &count);
+    entry_words = fill_log_used;
+}
+
+void undo(void)
+{
+    fill_log_used = entry_words;
+    refusal = build->undo(PLOTASK_HEADER(&now.header), now.plot, PLOTASK_WORDS, FILL_LOG, &count);
 }
 
 void null_counts(void)
@@ -165,6 +226,7 @@ void prepare_calls(uint32_t rows)
         now.plot[at] = PLOTASK_MARK(1);
     prepared = now.header;
     null_to_replace = 2;
+    fill_log_used = 0;
     must_do(encode);
     card_bytes = count;
     memcpy(card, written, card_bytes);
@@ -172,4 +234,37 @@ void prepare_calls(uint32_t rows)
     must(memcmp(read_plot, now.plot, now.header.used * sizeof *now.plot) == 0, "a card decoded by hand differs");
     must_do(encode_by_hand);
     must(memcmp(card, written, card_bytes) == 0, "a card encoded by hand differs");
+}
+
+/* A logged fill leaves the same plot and log by hand as by the library, and each is undone. */
+static void check_logged_by_hand(void)
+{
+    static uint32_t plot[PLOTASK_WORDS], filled[PLOTASK_WORDS], entry[PLOTASK_ENTRY_WORDS];
+    size_t bytes = now.header.used * sizeof *plot;
+
+    memcpy(plot, now.plot, bytes);
+    must_do(substitute_logged);
+    memcpy(filled, now.plot, bytes);
+    memcpy(entry, fill_log, entry_words * sizeof *entry);
+    must_do(undo);
+    must(memcmp(plot, now.plot, bytes) == 0, "an undone plot differs");
+    refusal = replace_null_logged(&now.header, now.plot, PLOTASK_WORDS, FILL_LOG, 1, PLOTASK_MARK(2), &count);
+    must(refusal == PLOTASK_DONE && memcmp(filled, now.plot, bytes) == 0, "a plot filled by hand differs");
+    must(fill_log_used == entry_words && memcmp(entry, fill_log, entry_words * sizeof *entry) == 0,
+         "a log by hand differs");
+    refusal = undo_fill(&now.header, now.plot, PLOTASK_WORDS, FILL_LOG, &count);
+    must(refusal == PLOTASK_DONE && memcmp(plot, now.plot, bytes) == 0, "a plot undone by hand differs");
+}
+
+void prepare_fills(uint32_t columns, uint32_t rows, uint32_t step)
+{
+    uint32_t cell = 0;
+
+    make_plot(&now, columns, rows, PLOTASK_CELLS);
+    for (uint32_t at = 0; at < now.header.used; at += 1 + columns)
+        for (uint32_t column = 1; column <= columns; column++)
+            if (++cell % step == 0)
+                now.plot[at + column] = PLOTASK_MARK(1);
+    null_to_replace = 2;
+    check_logged_by_hand();
 }

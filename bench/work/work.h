@@ -14,6 +14,8 @@ struct build {
     __typeof__(plotask_decode) *decode;
     __typeof__(plotask_encode) *encode;
     __typeof__(plotask_substitute) *substitute;
+    __typeof__(plotask_substitute_logged) *substitute_logged;
+    __typeof__(plotask_undo) *undo;
     __typeof__(plotask_null_counts) *null_counts;
     __typeof__(plotask_insert) *insert;
 };
@@ -21,7 +23,8 @@ struct build {
 #define BUILD(prefix)                                                                                    \
     {                                                                                                    \
         prefix##plotask_ask, prefix##plotask_decode, prefix##plotask_encode, prefix##plotask_substitute, \
-            prefix##plotask_null_counts, prefix##plotask_insert                                          \
+            prefix##plotask_substitute_logged, prefix##plotask_undo, prefix##plotask_null_counts,        \
+            prefix##plotask_insert                                                                       \
     }
 
 /* The build that does the library's work: the one without a prefix, until another is chosen. */
@@ -41,8 +44,18 @@ work substitute, substitute_by_hand, substitute_reference;
 work null_counts, null_counts_by_hand, null_counts_reference;
 work insert, insert_by_hand, insert_reference;
 
+/* Null 1 is replaced by null 2 and put back: by a logged fill and its undo, or by two fills that are not logged. */
+work logged_and_undone, logged_and_undone_by_hand, logged_and_undone_reference;
+work there_and_back, there_and_back_by_hand, there_and_back_reference;
+
+/* The two calls by themselves: a logged fill with a fresh log, and the undo of its entry, again and again. */
+work substitute_logged, undo;
+
 /* A plot of this many rows of six columns, with a null in each row to replace, and its card to decode. */
 void prepare_calls(uint32_t rows);
+
+/* A plot of this many rows, with null 1 in the last of every `step` cells, to replace and put back. */
+void prepare_fills(uint32_t columns, uint32_t rows, uint32_t step);
 
 /* Runs work once; the program ends if it is refused. */
 void must_do(work *piece);

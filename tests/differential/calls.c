@@ -42,7 +42,7 @@ static void note_card(const struct any_card *card, const struct any_plot *plot, 
         note(BLANK_NEEDS_NULL_201);
 }
 
-void try_decode(struct random *random, const struct palette *palette, struct any_plot *plot)
+void try_decode(struct random *random, const struct palette *palette, struct any_plot *plot, struct any_log *log)
 {
     static struct any_card card;
     static struct any_plot old;
@@ -69,9 +69,12 @@ void try_decode(struct random *random, const struct palette *palette, struct any
     default:
         plot->length = MOST_WORDS + below(random, 3);
     }
-    uint32_t number = both_decode(plot, &card);
+    bool fresh = log->used == 0;
+    uint32_t number = both_decode(plot, &card, &log->used);
     if (!damaged)
         note_card(&card, plot, number);
+    if (number == 0 && !fresh)
+        note(FRESH_BY_DECODE);
     if (number != 0)
         *plot = old;
 }
@@ -116,13 +119,19 @@ uint32_t null_to_replace(struct random *random, const struct palette *palette, c
     return one_in(random, 3) ? odd_number(random, 0) : any_null(random, palette);
 }
 
+uint32_t any_replacement(struct random *random, const struct palette *palette, uint32_t null)
+{
+    uint32_t cell = any_cell(random, palette);
+    if (one_in(random, 8))
+        cell = one_in(random, 2) ? odd_number(random, cell) : CONSTANTS + null;
+    return cell;
+}
+
 void try_substitute(struct random *random, const struct palette *palette, struct any_plot *plot)
 {
     uint32_t count;
     uint32_t null = null_to_replace(random, palette, plot);
-    uint32_t cell = any_cell(random, palette);
-    if (one_in(random, 8))
-        cell = one_in(random, 2) ? odd_number(random, cell) : CONSTANTS + null;
+    uint32_t cell = any_replacement(random, palette, null);
     if (both_substitute(plot_to_lend(random, plot), null, cell, &count) != 0)
         return;
     if (null == NULLS)
@@ -148,11 +157,12 @@ void try_null_counts(struct random *random, struct any_plot *plot)
 static void decode_again(const struct any_plot *plot, const struct any_card *card)
 {
     static struct any_plot other;
+    size_t log_used = 1;
     other = *plot;
     memset(other.header, 0xff, sizeof other.header);
     memset(other.words, 0xff, sizeof other.words);
     other.length = plot->header[HEADER_USED];
-    if (both_decode(&other, card) != 0)
+    if (both_decode(&other, card, &log_used) != 0)
         fail("an encoded card is refused");
     if (memcmp(other.header, plot->header, HEADER_WORDS * sizeof *other.header) != 0 ||
         memcmp(other.words, plot->words, plot->header[HEADER_USED] * sizeof *other.words) != 0)
@@ -187,5 +197,22 @@ void try_encode(struct random *random, struct any_plot *plot)
     if (number == 0) {
         card.length = count;
         decode_again(lent, &card);
+    }
+}
+
+void try_call_between(struct random *random, const struct palette *palette, struct any_plot *plot)
+{
+    switch (below(random, 8)) {
+    case 0:
+        try_null_counts(random, plot);
+        break;
+    case 1:
+        try_encode(random, plot);
+        break;
+    case 2:
+        try_ask(random, palette, plot);
+        break;
+    default:
+        break;
     }
 }

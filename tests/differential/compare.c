@@ -72,7 +72,17 @@ static struct lent *lend_header(const struct any_plot *plot)
 
 static struct lent *lend_plot(const struct any_plot *plot)
 {
-    return lend(lend_words("plot", plot->words, plot->length));
+    return lend(lend_part("plot", plot->words, plot->length, PLOT_ROOM));
+}
+
+static struct lent *lend_log(const struct any_log *log)
+{
+    return lend(lend_part("log", log->words, log->length, LOG_ROOM));
+}
+
+static struct lent *lend_log_used(size_t log_used)
+{
+    return lend(lend_size("log_used", log_used));
 }
 
 static struct lent *lend_result(const char *name)
@@ -118,16 +128,18 @@ static void take_all_back(void)
 #define LIBRARY(lent)   (lent)->library, (lent)->count
 #define REFERENCE(lent) (lent)->reference, (lent)->count
 
-uint32_t both_decode(struct any_plot *plot, const struct any_card *card)
+uint32_t both_decode(struct any_plot *plot, const struct any_card *card, size_t *log_used)
 {
     begin(DECODE, 0, 0, 0);
     struct lent *c = lend(lend_bytes("card", card->bytes, card->length));
     struct lent *h = lend_header(plot);
     struct lent *p = lend_plot(plot);
-    uint32_t number =
-        end(plotask_decode(LIBRARY(c), LIBRARY(h), LIBRARY(p)), ref_decode(REFERENCE(c), REFERENCE(h), REFERENCE(p)));
+    struct lent *u = lend_log_used(*log_used);
+    uint32_t number = end(plotask_decode(LIBRARY(c), LIBRARY(h), LIBRARY(p), u->library),
+                          ref_decode(REFERENCE(c), REFERENCE(h), REFERENCE(p), u->reference));
     copy_back(h, plot->header);
     copy_back(p, plot->words);
+    copy_back(u, log_used);
     take_all_back();
     return number;
 }
@@ -155,6 +167,44 @@ uint32_t both_substitute(struct any_plot *plot, uint32_t null, uint32_t cell, ui
     uint32_t number = end(plotask_substitute(LIBRARY(h), LIBRARY(p), null, cell, n->library),
                           ref_substitute(REFERENCE(h), REFERENCE(p), null, cell, n->reference));
     copy_back(p, plot->words);
+    copy_back(n, count);
+    take_all_back();
+    return number;
+}
+
+uint32_t both_substitute_logged(struct any_plot *plot, struct any_log *log, uint32_t null, uint32_t cell,
+                                uint32_t *count)
+{
+    begin(SUBSTITUTE_LOGGED, null, cell, 0);
+    struct lent *h = lend_header(plot);
+    struct lent *p = lend_plot(plot);
+    struct lent *l = lend_log(log);
+    struct lent *u = lend_log_used(log->used);
+    struct lent *n = lend_result("count");
+    uint32_t number =
+        end(plotask_substitute_logged(LIBRARY(h), LIBRARY(p), LIBRARY(l), u->library, null, cell, n->library),
+            ref_substitute_logged(REFERENCE(h), REFERENCE(p), REFERENCE(l), u->reference, null, cell, n->reference));
+    copy_back(p, plot->words);
+    copy_back(l, log->words);
+    copy_back(u, &log->used);
+    copy_back(n, count);
+    take_all_back();
+    return number;
+}
+
+uint32_t both_undo(struct any_plot *plot, struct any_log *log, uint32_t *count)
+{
+    begin(UNDO, 0, 0, 0);
+    struct lent *h = lend_header(plot);
+    struct lent *p = lend_plot(plot);
+    struct lent *l = lend_log(log);
+    struct lent *u = lend_log_used(log->used);
+    struct lent *n = lend_result("count");
+    uint32_t number = end(plotask_undo(LIBRARY(h), LIBRARY(p), LIBRARY(l), u->library, n->library),
+                          ref_undo(REFERENCE(h), REFERENCE(p), REFERENCE(l), u->reference, n->reference));
+    copy_back(p, plot->words);
+    copy_back(l, log->words);
+    copy_back(u, &log->used);
     copy_back(n, count);
     take_all_back();
     return number;

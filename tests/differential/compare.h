@@ -1,7 +1,7 @@
 /*
  * Each call made twice, of the library and of the reference, on copies of the same input. Results and every lent word
  * and byte have to agree, and a refused call has to leave what it was lent; otherwise the program ends. The given plot
- * is then what the library left. Each returns the call's number.
+ * and log are then what the library left. Each returns the call's number.
  */
 #ifndef COMPARE_H
 #define COMPARE_H
@@ -9,9 +9,13 @@
 #include "generators/generate.h"
 #include "tally.h"
 
-uint32_t both_decode(struct any_plot *plot, const struct any_card *card);
+/* The log's words in use are any number before. */
+uint32_t both_decode(struct any_plot *plot, const struct any_card *card, size_t *log_used);
 uint32_t both_insert(struct any_plot *plot, uint32_t relation, const struct any_cells *cells);
 uint32_t both_substitute(struct any_plot *plot, uint32_t null, uint32_t cell, uint32_t *count);
+uint32_t both_substitute_logged(struct any_plot *plot, struct any_log *log, uint32_t null, uint32_t cell,
+                                uint32_t *count);
+uint32_t both_undo(struct any_plot *plot, struct any_log *log, uint32_t *count);
 uint32_t both_null_counts(struct any_plot *plot, const uint32_t *output, size_t output_length);
 /* The card is the lent output before, and the written card after. */
 uint32_t both_encode(struct any_plot *plot, struct any_card *card, uint32_t *count);

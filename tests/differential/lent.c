@@ -4,8 +4,6 @@
 #include <stdlib.h>
 #include <string.h>
 
-enum { GUARD = 64 };
-
 static uint8_t guard_byte(size_t index)
 {
     return (uint8_t)(0xa5 ^ index * 29);
@@ -21,15 +19,18 @@ static void *allocate(size_t size)
     return memory;
 }
 
-static struct lent lend(const char *name, const void *content, size_t count, size_t unit)
+/* Lends the first elements of a content; the guard behind them is what follows, as far as that goes. */
+static struct lent lend(const char *name, const void *content, size_t count, size_t whole, size_t unit)
 {
     size_t size = count * unit;
-    struct lent lent = {name, unit, count, allocate(size), NULL, allocate(size)};
+    size_t following = (whole - count) * unit;
+    struct lent lent = {name, unit, count, allocate(size), NULL, allocate(size), {0}};
     uint8_t *guarded = allocate(size + 2 * GUARD);
     for (size_t i = 0; i < GUARD; i++) {
         guarded[i] = guard_byte(i);
-        guarded[GUARD + size + i] = guard_byte(i);
+        lent.behind[i] = i < following ? ((const uint8_t *)content)[size + i] : guard_byte(i);
     }
+    memcpy(guarded + GUARD + size, lent.behind, GUARD);
     lent.library = guarded + GUARD;
     memcpy(lent.before, content, size);
     memcpy(lent.library, content, size);
@@ -39,12 +40,22 @@ static struct lent lend(const char *name, const void *content, size_t count, siz
 
 struct lent lend_words(const char *name, const uint32_t *words, size_t count)
 {
-    return lend(name, words, count, sizeof *words);
+    return lend(name, words, count, count, sizeof *words);
+}
+
+struct lent lend_part(const char *name, const uint32_t *words, size_t count, size_t whole)
+{
+    return lend(name, words, count, whole, sizeof *words);
 }
 
 struct lent lend_bytes(const char *name, const uint8_t *bytes, size_t count)
 {
-    return lend(name, bytes, count, sizeof *bytes);
+    return lend(name, bytes, count, count, sizeof *bytes);
+}
+
+struct lent lend_size(const char *name, size_t number)
+{
+    return lend(name, &number, 1, 1, sizeof number);
 }
 
 bool guards_stand(const struct lent *lent)
@@ -52,7 +63,7 @@ bool guards_stand(const struct lent *lent)
     const uint8_t *start = (const uint8_t *)lent->library - GUARD;
     const uint8_t *end = (const uint8_t *)lent->library + lent->count * lent->unit;
     for (size_t i = 0; i < GUARD; i++)
-        if (start[i] != guard_byte(i) || end[i] != guard_byte(i))
+        if (start[i] != guard_byte(i) || end[i] != lent->behind[i])
             return false;
     return true;
 }
@@ -73,8 +84,10 @@ static void print_content(const char *title, const struct lent *lent, const void
     for (size_t i = 0; i < lent->count; i++) {
         if (lent->unit == 1)
             printf(" %02x", ((const uint8_t *)content)[i]);
-        else
+        else if (lent->unit == 4)
             printf(" %u", (unsigned)((const uint32_t *)content)[i]);
+        else
+            printf(" %zu", ((const size_t *)content)[i]);
     }
     printf("\n");
 }

@@ -9,17 +9,28 @@
 #include <stddef.h>
 #include <stdint.h>
 
+/* Bytes before and behind a slice. */
+enum { GUARD = 64 };
+
 struct lent {
     const char *name;
-    size_t unit; /* bytes of one element: 1 or 4 */
+    size_t unit; /* bytes of one element: 1, 4, or those of a size_t */
     size_t count;
     void *before;
     void *library;
     void *reference;
+    uint8_t behind[GUARD]; /* the guard bytes behind the library's copy */
 };
 
 struct lent lend_words(const char *name, const uint32_t *words, size_t count);
 struct lent lend_bytes(const char *name, const uint8_t *bytes, size_t count);
+/*
+ * The first words of a longer array. The library's copy has the array's next words behind it, so that a call which
+ * reads too far finds words that may fit.
+ */
+struct lent lend_part(const char *name, const uint32_t *words, size_t count, size_t whole);
+/* A single number, which a call may read and write. */
+struct lent lend_size(const char *name, size_t number);
 /* Whether the guards are as they were. */
 bool guards_stand(const struct lent *lent);
 /* Whether both sides left the same content. */

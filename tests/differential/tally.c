@@ -6,13 +6,16 @@
 
 struct tally tally;
 
-static const char *const call_names[CALLS] = {"decode", "insert", "substitute", "null_counts", "encode", "ask"};
+static const char *const call_names[CALLS] = {"decode", "insert",      "substitute", "substitute_logged",
+                                              "undo",   "null_counts", "encode",     "ask"};
 
 /* Acceptance and the refusals that each call can return, ended by a second 0. */
 static const uint32_t possible[CALLS][CODES] = {
     [DECODE] = {0, 41, 11, 12, 13, 14, 15, 16, 17, 18, 42},
     [INSERT] = {0, 41, 14, 27, 16, 42},
     [SUBSTITUTE] = {0, 41, 29, 16, 43},
+    [SUBSTITUTE_LOGGED] = {0, 41, 29, 16, 43, 47},
+    [UNDO] = {0, 41, 48, 49},
     [NULL_COUNTS] = {0, 41, 44},
     [ENCODE] = {0, 41, 44},
     [ASK] = {0, 41, 21, 22, 23, 24, 25, 26, 45, 46},
@@ -38,7 +41,7 @@ void check_tally(void)
 {
     static const char *const truth_names[] = {"false", "unknown", "true"};
     for (size_t call = 0; call < CALLS; call++) {
-        printf("%-12s", call_names[call]);
+        printf("%-17s", call_names[call]);
         for (size_t i = 0; i == 0 || possible[call][i] != 0; i++) {
             uint64_t hits = tally.numbers[call][possible[call][i]];
             printf(" %" PRIu32 ":%" PRIu64, possible[call][i], hits);
@@ -46,7 +49,7 @@ void check_tally(void)
         }
         printf("\n");
     }
-    printf("%-12s", "truths");
+    printf("%-17s", "truths");
     for (size_t i = 0; i < 3; i++) {
         printf(" %s:%" PRIu64, truth_names[i], tally.truths[i]);
         check(tally.truths[i] > 0);

@@ -8,54 +8,84 @@
 #include <stddef.h>
 #include <stdint.h>
 
-enum call { DECODE, INSERT, SUBSTITUTE, NULL_COUNTS, ENCODE, ASK, CALLS };
+enum call { DECODE, INSERT, SUBSTITUTE, SUBSTITUTE_LOGGED, UNDO, NULL_COUNTS, ENCODE, ASK, CALLS };
 
 /* Room for every number that a call may return. */
 enum { CODES = 64 };
 
 /* Each case that has to be hit, with what the table prints for it. */
-#define EVERY_CASE(CASE)                                                              \
-    CASE(NO_ROWS_ASKED, "a plot without rows is asked")                               \
-    CASE(FULL_PLOT_ASKED, "a plot of 4,096 words is asked")                           \
-    CASE(MANY_VALUES_LISTED, "2,000 different values or more are listed")             \
-    CASE(ROW_ENDS_AT_4096, "an inserted row ends at word 4,096")                      \
-    CASE(ROW_OVER_BY_ONE, "an inserted row needs word 4,097")                         \
-    CASE(ROW_FITS_SLICE, "an inserted row ends with the slice")                       \
-    CASE(ROW_OVER_SLICE_BY_ONE, "an inserted row needs one word more than the slice") \
-    CASE(CARD_OF_4096_WORDS, "a card of 4,096 words is decoded")                      \
-    CASE(CARD_OVER_BY_ONE, "a card of 4,097 words is refused")                        \
-    CASE(CARD_OF_65535_ROWS, "a card of 65,535 rows is refused")                      \
-    CASE(CARD_FITS_SLICE, "a decoded card ends with the slice")                       \
-    CASE(CARD_OVER_SLICE_BY_ONE, "a card needs one word more than the slice")         \
-    CASE(BLANK_GETS_NULL_200, "a blank gets null 200")                                \
-    CASE(BLANK_NEEDS_NULL_201, "a blank would need null 201")                         \
-    CASE(NULL_200_REPLACED, "null 200 is replaced")                                   \
-    CASE(REPLACED_BY_ITSELF, "a null is replaced by itself")                          \
-    CASE(REPLACED_BY_ANOTHER_NULL, "a null is replaced by another")                   \
-    CASE(OUTPUT_FITS, "an encoded card fits its output exactly")                      \
-    CASE(OUTPUT_SHORT_BY_ONE, "an encoded card lacks one byte of output")             \
-    CASE(COUNTS_OF_199, "null counts lack one word of output")                        \
-    CASE(HUNDRED_NODES, "a query of 100 nodes is accepted")                           \
-    CASE(QUERY_OF_808_WORDS, "a query of 808 words is refused")                       \
-    CASE(CANDIDATE_OF_SIX, "a candidate of 6 cells is accepted")                      \
-    CASE(LIST_FITS, "the working list has just the plot's cells")                     \
-    CASE(LIST_SHORT_BY_ONE, "the working list lacks one word")                        \
-    CASE(COST_IS_BUDGET, "the cost is the budget")                                    \
-    CASE(COST_OVER_BY_ONE, "the cost is one more than the budget")                    \
-    CASE(LARGEST_BUDGET, "the budget is 4,294,967,295")                               \
-    CASE(COST_OVER_32_BITS, "the cost needs more than 32 bits")                       \
-    CASE(CARD_DECODED_AGAIN, "an encoded card decodes to the same plot")              \
-    CASE(KEPT_TRUE, "true is kept over substitutions")                                \
-    CASE(KEPT_FALSE, "false is kept over substitutions")                              \
-    CASE(SETTLED_TRUE, "unknown becomes true")                                        \
-    CASE(SETTLED_FALSE, "unknown becomes false")                                      \
-    CASE(STAYED_UNKNOWN, "unknown stays unknown over substitutions")                  \
-    CASE(LOWER_COST, "the cost is lower after substitutions")                         \
-    CASE(REFUSED_BETWEEN_RUNS, "a substitution between the runs is refused")          \
-    CASE(CANDIDATE_CHANGED, "a substitution changes the candidate")                   \
-    CASE(CANDIDATE_NULL_STAYS, "a null of the candidate alone stays")                 \
-    CASE(TWO_VALUED_YES, "no null is left, and two-valued logic says yes")            \
-    CASE(TWO_VALUED_NO, "no null is left, and two-valued logic says no")
+#define EVERY_CASE(CASE)                                                                 \
+    CASE(NO_ROWS_ASKED, "a plot without rows is asked")                                  \
+    CASE(FULL_PLOT_ASKED, "a plot of 4,096 words is asked")                              \
+    CASE(MANY_VALUES_LISTED, "2,000 different values or more are listed")                \
+    CASE(ROW_ENDS_AT_4096, "an inserted row ends at word 4,096")                         \
+    CASE(ROW_OVER_BY_ONE, "an inserted row needs word 4,097")                            \
+    CASE(ROW_FITS_SLICE, "an inserted row ends with the slice")                          \
+    CASE(ROW_OVER_SLICE_BY_ONE, "an inserted row needs one word more than the slice")    \
+    CASE(CARD_OF_4096_WORDS, "a card of 4,096 words is decoded")                         \
+    CASE(CARD_OVER_BY_ONE, "a card of 4,097 words is refused")                           \
+    CASE(CARD_OF_65535_ROWS, "a card of 65,535 rows is refused")                         \
+    CASE(CARD_FITS_SLICE, "a decoded card ends with the slice")                          \
+    CASE(CARD_OVER_SLICE_BY_ONE, "a card needs one word more than the slice")            \
+    CASE(BLANK_GETS_NULL_200, "a blank gets null 200")                                   \
+    CASE(BLANK_NEEDS_NULL_201, "a blank would need null 201")                            \
+    CASE(NULL_200_REPLACED, "null 200 is replaced")                                      \
+    CASE(REPLACED_BY_ITSELF, "a null is replaced by itself")                             \
+    CASE(REPLACED_BY_ANOTHER_NULL, "a null is replaced by another")                      \
+    CASE(ENTRY_FITS, "an entry ends with the log")                                       \
+    CASE(ENTRY_SHORT_BY_ONE, "an entry lacks one word of the log")                       \
+    CASE(ENTRY_OF_MANY_CELLS, "an entry of 500 cells or more is written")                \
+    CASE(FILL_USED_BEYOND_LOG, "a logged substitution: the words in use exceed the log") \
+    CASE(LOGGED_BY_ITSELF, "a null is replaced by itself and logged")                    \
+    CASE(FRESH_BY_DECODE, "decode starts a log fresh that had words in use")             \
+    CASE(UNDO_USED_BEYOND_LOG, "an undo: the words in use exceed the log")               \
+    CASE(ONE_WORD_IN_USE, "an undo: one word is in use")                                 \
+    CASE(ENTRY_CUT_SHORT, "an undo: the words in use lack one of the entry")             \
+    CASE(ENTRY_OF_2_TO_32, "an undo: the entry's words overflow 32 bits")                \
+    CASE(PLACE_OF_RELATION, "an undo: a place is that of a relation's number")           \
+    CASE(PLACE_BEHIND_USE, "an undo: a place is behind the plot's words in use")         \
+    CASE(ENTRY_WITH_NULL_0, "an undo: the entry's null is 0")                            \
+    CASE(ENTRY_WITH_NULL_201, "an undo: the entry's null is 201")                        \
+    CASE(ENTRY_WITH_CELL, "an undo: the entry has the null's cell for its number")       \
+    CASE(ENTRY_OF_NO_CELLS, "an entry of no cells is undone")                            \
+    CASE(PLACE_TWICE, "an entry that names a place twice is undone")                     \
+    CASE(PLACES_NOT_RISING, "an entry whose places do not rise is undone")               \
+    CASE(OUTPUT_FITS, "an encoded card fits its output exactly")                         \
+    CASE(OUTPUT_SHORT_BY_ONE, "an encoded card lacks one byte of output")                \
+    CASE(COUNTS_OF_199, "null counts lack one word of output")                           \
+    CASE(HUNDRED_NODES, "a query of 100 nodes is accepted")                              \
+    CASE(QUERY_OF_808_WORDS, "a query of 808 words is refused")                          \
+    CASE(CANDIDATE_OF_SIX, "a candidate of 6 cells is accepted")                         \
+    CASE(LIST_FITS, "the working list has just the plot's cells")                        \
+    CASE(LIST_SHORT_BY_ONE, "the working list lacks one word")                           \
+    CASE(COST_IS_BUDGET, "the cost is the budget")                                       \
+    CASE(COST_OVER_BY_ONE, "the cost is one more than the budget")                       \
+    CASE(LARGEST_BUDGET, "the budget is 4,294,967,295")                                  \
+    CASE(COST_OVER_32_BITS, "the cost needs more than 32 bits")                          \
+    CASE(CARD_DECODED_AGAIN, "an encoded card decodes to the same plot")                 \
+    CASE(KEPT_TRUE, "true is kept over substitutions")                                   \
+    CASE(KEPT_FALSE, "false is kept over substitutions")                                 \
+    CASE(SETTLED_TRUE, "unknown becomes true")                                           \
+    CASE(SETTLED_FALSE, "unknown becomes false")                                         \
+    CASE(STAYED_UNKNOWN, "unknown stays unknown over substitutions")                     \
+    CASE(LOWER_COST, "the cost is lower after substitutions")                            \
+    CASE(LOGGED_BETWEEN_RUNS, "a substitution between the runs is logged")               \
+    CASE(LOG_FULL_BETWEEN_RUNS, "a substitution between the runs lacks room in the log") \
+    CASE(REFUSED_BETWEEN_RUNS, "a substitution between the runs is refused")             \
+    CASE(CANDIDATE_CHANGED, "a substitution changes the candidate")                      \
+    CASE(CANDIDATE_NULL_STAYS, "a null of the candidate alone stays")                    \
+    CASE(TWO_VALUED_YES, "no null is left, and two-valued logic says yes")               \
+    CASE(TWO_VALUED_NO, "no null is left, and two-valued logic says no")                 \
+    CASE(HISTORY_FROM_CARD, "a history starts with a card")                              \
+    CASE(HISTORY_LOG_FULL, "a history: a substitution lacks room in the log")            \
+    CASE(HISTORY_LOG_EMPTY, "a history: no substitution is left to undo")                \
+    CASE(UNDO_AFTER_INSERT, "a history: a substitution is undone after an insert")       \
+    CASE(UNDO_OVER_FILL, "a history: what an earlier substitution wrote is back")        \
+    CASE(UNDO_BY_ITSELF, "a history: a null's substitution by itself is undone")         \
+    CASE(EQUAL_CELL_STAYS, "a history: an older cell that equals an undone one stays")   \
+    CASE(LATER_CELL_STAYS, "a history: a later cell that equals an undone one stays")    \
+    CASE(LATER_NULL_STAYS, "a history: a later row keeps the null that was replaced")    \
+    CASE(ALL_UNDONE, "a history with inserts: all is undone, and the rows are as entered")
 
 enum named_case {
 #define CASE(name, text) name,

@@ -18,6 +18,7 @@ struct run {
 static struct any_plot before;
 static struct any_cells candidate;
 static struct any_query query;
+static struct any_log fill_log;
 static struct model model;
 
 static void print_words(const char *name, const uint32_t *words, size_t count)
@@ -39,24 +40,6 @@ static _Noreturn void fail_runs(const char *what)
     fail(what);
 }
 
-/* Calls that write no word of the plot may come between the substitutions. */
-static void call_between(struct random *random, const struct palette *palette, struct any_plot *plot)
-{
-    switch (below(random, 8)) {
-    case 0:
-        try_null_counts(random, plot);
-        break;
-    case 1:
-        try_encode(random, plot);
-        break;
-    case 2:
-        try_ask(random, palette, plot);
-        break;
-    default:
-        break;
-    }
-}
-
 static bool candidate_has(uint32_t null)
 {
     for (size_t i = 0; i < model.candidate_length; i++)
@@ -65,15 +48,44 @@ static bool candidate_has(uint32_t null)
     return false;
 }
 
+/* The log of the next substitution: as the last one left it or fresh, and with much room, little or none. */
+static void any_log_size(struct random *random)
+{
+    if (one_in(random, 10) || fill_log.used + MOST_WORDS > LOG_ROOM)
+        fill_log.used = 0;
+    fill_log.length = fill_log.used + below(random, one_in(random, 3) ? 6 : MOST_WORDS);
+    if (one_in(random, 20))
+        fill_log.used = fill_log.length + 1 + below(random, 3);
+}
+
+static uint32_t substitute_logged(struct random *random, struct any_plot *plot, uint32_t null, uint32_t cell,
+                                  uint32_t *count, struct log_size *log)
+{
+    any_log_size(random);
+    log->length = fill_log.length;
+    log->used = fill_log.used;
+    uint32_t number = both_substitute_logged(plot, &fill_log, null, cell, count);
+    if (number == 0 && fill_log.used != log->used + 2 + *count)
+        fail_runs("an entry has not two words and one for each cell");
+    if (number == 0)
+        note(LOGGED_BETWEEN_RUNS);
+    if (number == 47)
+        note(LOG_FULL_BETWEEN_RUNS);
+    return number;
+}
+
 static void substitute_both(struct random *random, const struct palette *palette, struct any_plot *plot, uint32_t null,
                             uint32_t cell)
 {
     uint32_t count = 0;
     uint32_t model_count = 0;
+    struct log_size log;
     bool in_candidate = candidate_has(null);
-    call_between(random, palette, plot);
-    uint32_t number = both_substitute(plot, null, cell, &count);
-    if (number != model_substitute(&model, null, cell, &model_count))
+    bool logged = one_in(random, 2);
+    try_call_between(random, palette, plot);
+    uint32_t number =
+        logged ? substitute_logged(random, plot, null, cell, &count, &log) : both_substitute(plot, null, cell, &count);
+    if (number != model_substitute(&model, logged ? &log : NULL, null, cell, &model_count))
         fail_runs("a substitution and the model return different numbers");
     if (number == 0 && count != model_count)
         fail_runs("a substitution and the model count different cells");
@@ -89,12 +101,9 @@ static void some_substitutions(struct random *random, const struct palette *pale
 {
     for (size_t left = below(random, 8); left > 0; left--) {
         uint32_t null = null_to_replace(random, palette, plot);
-        uint32_t cell = any_cell(random, palette);
         if (model.candidate_length > 0 && one_in(random, 5) && model.candidate[0] > CONSTANTS)
             null = model.candidate[0] - CONSTANTS;
-        if (one_in(random, 8))
-            cell = one_in(random, 2) ? odd_number(random, cell) : CONSTANTS + null;
-        substitute_both(random, palette, plot, null, cell);
+        substitute_both(random, palette, plot, null, any_replacement(random, palette, null));
     }
 }
 
@@ -165,6 +174,7 @@ void try_two_runs(struct random *random, const struct palette *palette, struct a
     if (both_ask(plot, &query, &candidate, a.list_length, a.budget, &a.truth, &a.cost) != 0)
         fail("a query is refused that the reference accepted");
     before = *plot;
+    make_fresh_log(random, &fill_log, LOG_ROOM);
     model_open(&model, plot->header, plot->words, candidate.cells, candidate.length);
     some_substitutions(random, palette, plot);
     if (one_in(random, 2))

@@ -1,4 +1,4 @@
-/* Random plots, cards, queries, candidates and program inputs: valid ones, and damaged ones. */
+/* Random plots, logs, cards, queries, candidates and program inputs: valid ones, and damaged ones. */
 #ifndef GENERATE_H
 #define GENERATE_H
 
@@ -8,6 +8,7 @@
 enum {
     HEADER_ROOM = HEADER_WORDS + 2, /* words: some headers are to be too long */
     PLOT_ROOM = 4400,               /* words: some plots are to be over 4,096 */
+    LOG_ROOM = 12000,               /* words: three entries of a full plot */
     CARD_ROOM = 327700,             /* bytes: 65,535 rows of one column */
     QUERY_ROOM = 832,               /* words: 101 nodes, and what damage adds */
     CELLS_ROOM = 16,
@@ -19,6 +20,12 @@ struct any_plot {
     size_t header_length;
     uint32_t words[PLOT_ROOM];
     size_t length;
+};
+
+struct any_log {
+    uint32_t words[LOG_ROOM];
+    size_t length;
+    size_t used; /* more than the length if damaged */
 };
 
 struct any_card {
@@ -66,6 +73,27 @@ void damage_plot(struct random *random, struct any_plot *plot);
 /* The number of cells of an undamaged plot, and of its values. */
 size_t count_cells(const struct any_plot *plot);
 size_t count_values(const struct any_plot *plot);
+
+/* A log for an undamaged plot: fresh, or of entries that can be undone, also ones that no substitution writes. */
+void make_log(struct random *random, const struct any_plot *plot, struct any_log *log);
+/* The same length and arbitrary words, none of them in use. */
+void make_fresh_log(struct random *random, struct any_log *log, size_t length);
+
+/* What damage_log did. Only after CHANGED_AT_RANDOM an undo may still be accepted. */
+enum log_damage {
+    USED_BEYOND_LENGTH,
+    USED_ONE,
+    NUMBER_OVER_BY_ONE, /* of the last entry's places, for the words in use */
+    NUMBER_NEAR_2_TO_32,
+    PLACE_IS_RELATION,
+    PLACE_IS_BEHIND,
+    NULL_IS_0,
+    NULL_IS_201,
+    NULL_IS_ITS_CELL, /* 1,000,000 + its number */
+    CHANGED_AT_RANDOM
+};
+
+enum log_damage damage_log(struct random *random, const struct any_plot *plot, struct any_log *log);
 
 void make_card(struct random *random, const struct palette *palette, struct any_card *card);
 /* As many rows as two bytes can count, far more than a plot can hold. */

@@ -32,9 +32,10 @@ static void make_fields(struct random *random, struct any_input *input)
     static struct any_plot plot = {.header_length = HEADER_WORDS, .length = MOST_WORDS};
     struct any_cells candidate;
     struct palette palette = make_palette(random);
+    size_t log_used;
     do
         make_card(random, &palette, &card);
-    while (ref_decode(card.bytes, card.length, plot.header, HEADER_WORDS, plot.words, MOST_WORDS) != 0);
+    while (ref_decode(card.bytes, card.length, plot.header, HEADER_WORDS, plot.words, MOST_WORDS, &log_used) != 0);
     make_candidate(random, &palette, &candidate);
     make_query(random, &palette, plot.header, count_values(&plot), candidate.length, &query);
     if (one_in(random, 3))

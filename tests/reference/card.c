@@ -81,7 +81,7 @@ static uint32_t number_blanks(void)
 }
 
 uint32_t ref_decode(const uint8_t *card, size_t card_length, uint32_t *header, size_t header_length, uint32_t *words,
-                    size_t length)
+                    size_t length, size_t *log_used)
 {
     struct bytes bytes = {card, card_length, 0};
     if (header_length != HEADER_WORDS)
@@ -89,7 +89,11 @@ uint32_t ref_decode(const uint8_t *card, size_t card_length, uint32_t *header, s
     uint32_t refusal = read_rows(&bytes);
     if (refusal == 0)
         refusal = number_blanks();
-    return refusal != 0 ? refusal : plot_store(&plot, header, words, length);
+    if (refusal == 0)
+        refusal = plot_store(&plot, header, words, length);
+    if (refusal == 0)
+        *log_used = 0;
+    return refusal;
 }
 
 uint32_t ref_encode(const uint32_t *header, size_t header_length, const uint32_t *words, size_t length, uint8_t *card,

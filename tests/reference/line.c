@@ -45,11 +45,12 @@ void ref_line(const uint8_t *input, size_t length, char line[LINE_BYTES])
     static uint32_t words[MOST_WORDS];
     static uint32_t list[MOST_WORDS];
     uint32_t header[HEADER_WORDS];
+    size_t log_used;
     uint32_t truth = 0;
     uint32_t cost = 0;
     uint32_t refusal = take_fields(&fields, input, length);
     if (refusal == 0)
-        refusal = ref_decode(fields.card, fields.card_length, header, HEADER_WORDS, words, MOST_WORDS);
+        refusal = ref_decode(fields.card, fields.card_length, header, HEADER_WORDS, words, MOST_WORDS, &log_used);
     if (refusal == 0)
         refusal = ref_ask(header, HEADER_WORDS, words, MOST_WORDS, fields.query, fields.query_length, fields.candidate,
                           fields.candidate_length, list, MOST_WORDS, fields.budget, &truth, &cost);

@@ -12,12 +12,24 @@ void model_open(struct model *model, const uint32_t header[HEADER_WORDS], const 
     model->candidate_length = candidate_length;
 }
 
-uint32_t model_substitute(struct model *model, uint32_t null, uint32_t cell, uint32_t *count)
+/* Whether two words and one for each cell are left in the log. */
+static bool log_has_room(const struct log_size *log, size_t cells)
+{
+    return log->used <= log->length && 2 + cells <= log->length - log->used;
+}
+
+uint32_t model_substitute(struct model *model, const struct log_size *log, uint32_t null, uint32_t cell,
+                          uint32_t *count)
 {
     size_t used = model->header[HEADER_USED];
-    uint32_t refusal = ref_substitute(model->header, HEADER_WORDS, model->words, used, null, cell, count);
+    uint32_t words[MOST_WORDS];
+    memcpy(words, model->words, used * sizeof *words);
+    uint32_t refusal = ref_substitute(model->header, HEADER_WORDS, words, used, null, cell, count);
     if (refusal != 0)
         return refusal;
+    if (log != NULL && !log_has_room(log, *count))
+        return 47;
+    memcpy(model->words, words, used * sizeof *words);
     for (size_t i = 0; i < model->candidate_length; i++)
         if (null_of(model->candidate[i]) == null)
             model->candidate[i] = cell;
