@@ -19,7 +19,10 @@ static void *allocate(size_t size)
     return memory;
 }
 
-/* Lends the first elements of a content; the guard behind them is what follows, as far as that goes. */
+/*
+ * Lends the first `count` elements of an array of `whole`. The guard after the library's copy holds the bytes that
+ * follow in the array, and guard bytes once the array ends.
+ */
 static struct lent lend(const char *name, const void *content, size_t count, size_t whole, size_t unit)
 {
     size_t size = count * unit;

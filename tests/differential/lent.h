@@ -19,14 +19,14 @@ struct lent {
     void *before;
     void *library;
     void *reference;
-    uint8_t behind[GUARD]; /* the guard bytes behind the library's copy */
+    uint8_t behind[GUARD]; /* the bytes after the library's copy, as they were lent */
 };
 
 struct lent lend_words(const char *name, const uint32_t *words, size_t count);
 struct lent lend_bytes(const char *name, const uint8_t *bytes, size_t count);
 /*
- * The first words of a longer array. The library's copy has the array's next words behind it, so that a call which
- * reads too far finds words that may fit.
+ * The first words of a longer array. The array's next words follow the library's copy, so that a call that reads too
+ * far finds words that look valid.
  */
 struct lent lend_part(const char *name, const uint32_t *words, size_t count, size_t whole);
 /* A single number, which a call may read and write. */

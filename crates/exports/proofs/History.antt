@@ -1,7 +1,6 @@
 -- The exported calls follow the history: with a header of ten words they are the library's calls. Assumes nothing.
 use Prim.Native.Nat.{ℕ, suc, _+_}
 use mathlib.Core.Path.{_≡_, refl, sym, ap, ap₂, _∙_, subst}
-use mathlib.Core.Logic.{_↔_}
 use mathlib.Core.Bool.{true, false≢true}
 use mathlib.Core.List.{List, [], _∷_, _++_, map}
 use native.Mathlib.Omega.{arith}
@@ -14,7 +13,6 @@ use Rattle.calculus.specs.declared.answer.Answer.the-variants.{Done, Refused}
 use Rattle.calculus.specs.Answer.{numberOf, after}
 use Rattle.calculus.specs.Refusal.{unsound, log-empty, bad-log}
 use Rattle.calculus.proofs.Answers.{demand-done}
-use Rattle.calculus.proofs.Bools.{zero-not-one}
 use Rattle.instance.specs.declared.header.Header.{Header}
 use Rattle.instance.specs.Header.{maxRelations, headerWith}
 use Rattle.calculus.specs.Row.{Row}

@@ -1,12 +1,12 @@
 -- The refusals of a fill before its cells are counted, and after. Assumes nothing.
 use Prim.Native.Nat.{ℕ, _<_, _≤_}
-use mathlib.Core.Path.{_≡_, refl}
+use mathlib.Core.Path.{_≡_}
 use mathlib.Core.Bool.{Bool, true, false}
 use mathlib.Core.List.{List, _++_}
 use borrow.Author.Tests.{lt-ltb, le-ltb, leb-true}
 use native.Mathlib.Omega.{arith}
 use lib.ListN.{drop}
-use lib.Dec.{leb, ltb}
+use lib.Dec.{leb}
 use Rattle.calculus.specs.declared.answer.Answer.{Answer}
 use Rattle.calculus.specs.declared.answer.Answer.the-variants.{Done, Refused}
 use Rattle.calculus.specs.Cell.{nulls, isCell, isMark}

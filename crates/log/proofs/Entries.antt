@@ -9,7 +9,7 @@ use Rattle.calculus.specs.Cell.{null}
 use Rattle.calculus.specs.Fill.{entryLength, held}
 use Rattle.calculus.specs.Row.{Row}
 use Rattle.log.specs.Places.{placesOf}
-use Rattle.log.specs.Log.{entryOf, lastCount, lastMark, lastPlaces}
+use Rattle.log.specs.Log.{entryOf, lastCount, lastMark}
 use Rattle.log.proofs.Places.{places-count}
 
 pub entry-length : (m : ℕ) (rs : List Row) → length (entryOf m rs) ≡ entryLength (held m rs)

@@ -1,21 +1,20 @@
 -- An instance and its log follow their history. Assumes nothing.
-use Prim.Native.Nat.{ℕ, suc, _+_, _-_, _≤_, _<_}
+use Prim.Native.Nat.{ℕ, _+_, _-_, _≤_}
 use mathlib.Core.Path.{_≡_, refl, sym, ap, ap₂, _∙_, subst}
 use mathlib.Core.Logic.{_↔_}
-use mathlib.Core.Bool.{Bool, true, false, _&&_}
-use mathlib.Core.List.{List, [], _∷_, _++_, map, append-assoc, append-nil}
+use mathlib.Core.Bool.{Bool, true, false}
+use mathlib.Core.List.{List, [], _∷_, _++_, append-assoc, append-nil}
 use native.Mathlib.Omega.{arith}
 use borrow.Author.Tests.{le-leb, lt-ltb, le-ltb, leb-true}
 use lib.ListN.{length, take, drop, length-append, length-drop, take-append-drop}
-use lib.Seq.{take-at, drop-at, drop-drop, length-take-le}
+use lib.Seq.{take-at, drop-at, drop-drop}
 use lib.Dec.{ltb, leb, eqb}
 use Rattle.calculus.specs.declared.answer.Answer.{Answer}
 use Rattle.calculus.specs.declared.answer.Answer.the-variants.{Done, Refused}
 use Rattle.calculus.specs.All.{all}
-use Rattle.calculus.specs.Answer.{after}
 use Rattle.calculus.specs.Cell.{null, isMark, isCell, put}
 use Rattle.calculus.specs.Demand.{demand}
-use Rattle.calculus.specs.Fill.{Logging, intoLog, hasRoomFor, entryLength, held, substitute, filled}
+use Rattle.calculus.specs.Fill.{Logging, intoLog, entryLength, held, substitute}
 use Rattle.calculus.specs.Overwrite.{overwrite}
 use Rattle.calculus.specs.Refusal.{log-empty, bad-log}
 use Rattle.calculus.specs.Row.{Row}
@@ -29,17 +28,17 @@ use Rattle.instance.specs.Room.{hasRoom}
 use Rattle.instance.specs.Rows.{areCells, rowWellFormed, rowsWellFormed, wordsOf}
 use Rattle.instance.specs.Sound.{sound, rows, headerFor}
 use Rattle.instance.specs.Insert.{enterable, inserted, insertedHeader, insertedWords}
-use Rattle.instance.specs.Substitute.{substituted, substitutedWords}
+use Rattle.instance.specs.Substitute.{substituted}
 use Rattle.instance.proofs.Accepted.{insert-accepted, substitute-accepted}
 use Rattle.instance.proofs.Fillable.{words-done, words-refused}
-use Rattle.instance.proofs.Headers.{Holds, rows-sound, words-alike, map-alike, header-same}
+use Rattle.instance.proofs.Headers.{Holds, rows-sound, words-alike, map-alike}
 use Rattle.instance.proofs.Kept.{map-well-formed}
 use Rattle.instance.proofs.Rows.{words-append, row-well-formed}
 use Rattle.instance.proofs.Sound.{sound-gives}
 use Rattle.log.specs.Places.{placesOf, arePlaces, putAt}
 use Rattle.log.specs.Log.{entryOf, logged, loggedWords, loggedLog, loggedUsed, entryWellFormed, undone, undoneWords, undoneUsed}
 use Rattle.log.specs.History.{Step, fills, undoes, inserts, State, stepAnswer, stepState, stepAnswers, stateAfter, Event, insertion, filling}
-use Rattle.log.specs.History.{rowsBy, entriesBy, struck, undoBy, answerBy, happens, eventsAfter, answersBy, history, Follows, start}
+use Rattle.log.specs.History.{rowsBy, entriesBy, struck, undoBy, answerBy, eventsAfter, answersBy, history, Follows, start}
 use Rattle.log.specs.History.{fillsIn, HistoryHolds, NeverBad, EmptyIfNoFillCounts}
 use Rattle.log.proofs.Places.{filled-places, put-back}
 use Rattle.log.proofs.Entries.{entry-length, entry-used, entry-within, entry-count, entry-mark, entry-front, entry-places, entry-before}

@@ -1,6 +1,5 @@
 -- The worked histories, each by computation. Assumes nothing.
 use mathlib.Core.Path.{refl}
-use mathlib.Core.List.{[], _∷_}
 use Rattle.calculus.specs.All.{all}
 use Rattle.calculus.specs.Cell.{isCell, put}
 use Rattle.calculus.specs.Fill.{countOf}

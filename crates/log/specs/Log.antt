@@ -1,6 +1,6 @@
 -- The log, a fill that is logged (noted) in it, and undo, which takes the latest logged fill back. Document 02, request 1: "A note is the cells' word
 -- places in the plot, counted from 0, in plot order, the mark and their number, which both calls answer; a fresh log has no words in use."
-use Prim.Native.Nat.{ℕ, suc, _+_, _-_}
+use Prim.Native.Nat.{ℕ, _+_, _-_}
 use mathlib.Core.Bool.{Bool, _&&_}
 use mathlib.Core.List.{List, [], _∷_, _++_}
 use lib.ListN.{length, getD, take, drop}

@@ -20,7 +20,8 @@ pub record Result : Type 0 where
   pub left : List ℕ
   pub entries : List ℕ
 
--- One relation of one column with a row for each cell, room for two rows more, and a log of so many words; steps, and their result.
+-- An instance of one relation with one column, and its steps. `cells` has the cell of each row, and there is room for two more rows; `log` is the
+-- number of words of the log.
 pub record Case : Type 0 where
   pub cells : List ℕ
   pub log : ℕ

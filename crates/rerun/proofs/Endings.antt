@@ -9,8 +9,7 @@ use lib.ListN.{length}
 use Rattle.calculus.specs.declared.truth.Truth.{Truth}
 use Rattle.calculus.specs.Refusal.{output-too-short}
 use Rattle.calculus.specs.Eval.{Outcome}
-use Rattle.calculus.specs.Model.{Fill, Model, afterFills, run}
-use Rattle.instance.specs.declared.header.Header.{Header}
+use Rattle.calculus.specs.Model.{Fill, afterFills, run}
 use Rattle.instance.specs.Header.{maxColumns}
 use Rattle.instance.specs.Sound.{sound}
 use Rattle.instance.specs.Run.{filledWords, modelOf}
@@ -19,7 +18,6 @@ use Rattle.query.proofs.Passed as passed
 use Rattle.answer.specs.declared.asked.Asked.{Asked}
 use Rattle.answer.specs.declared.asked.Asked.the-variants as asked
 use Rattle.answer.specs.Ask.{ask, askedBuffer}
-use Rattle.answer.specs.Rerun.{Rerun}
 use Rattle.answer.proofs.Told.{Of, tells-verdict, ask-outcome}
 use Rattle.answer.proofs.RerunLaws.{verdict-asked, not-refused, demand-three}
 use Rattle.rerun.specs.declared.reran.Reran.{Reran}

@@ -1,5 +1,5 @@
 -- `substitute::substitute` meets its contract: counting and filling act on the words in use as on the cells of the rows. Assumes nothing.
-use Prim.Native.Nat.{ℕ, _≤_}
+use Prim.Native.Nat.{ℕ}
 use mathlib.Core.Path.{_≡_, refl, sym, ap, _∙_}
 use mathlib.Core.List.{List, _++_}
 use native.Mathlib.Omega.{arith}
