@@ -1,11 +1,10 @@
 -- A map of cells that leaves constants as they are turns a closed instance into an image of it: rows that were there are still there, rows that
 -- did not unify still do not, and the values are the images of the old values. Assumes nothing.
-use Prim.Native.Nat.{ℕ, _+_}
-use native.Mathlib.Nat.{le-of-eq}
+use Prim.Native.Nat.{ℕ, _+_, _≤_}
+use native.Mathlib.Omega.{arith}
 use mathlib.Core.Path.{_≡_, refl, sym, ap, _∙_, subst}
 use mathlib.Core.Bool.{Bool, true, false, _&&_, cond}
 use mathlib.Core.List.{List, map, map-map}
-use lib.ListN.{length, length-map}
 use lib.Dec.{eqb}
 use borrow.Author.Tests.{eqb-true, eq-eqb}
 use Rattle.calculus.specs.declared.truth.Truth.the-variants.{False, Unknown, True}
@@ -15,7 +14,7 @@ use Rattle.calculus.specs.Unify.{under, unifies}
 use Rattle.calculus.specs.Formula.{Formula, inked}
 use Rattle.calculus.specs.Eval.{eval}
 use Rattle.calculus.specs.Domain.{distinct, domain}
-use Rattle.calculus.specs.Closed.{tuples, some, identical, stands, equality, closed}
+use Rattle.calculus.specs.Closed.{tuples, some, identical, stands, equality, examined, closed}
 use Rattle.calculus.proofs.Bools.{false-not-true, and-parts}
 use Rattle.calculus.specs.Order.{_⊑_, unknown, alike, _⊑ₒ_, Keeps}
 use Rattle.calculus.proofs.Image.{Image, eval-image}
@@ -24,6 +23,7 @@ use Rattle.calculus.proofs.Valuations.{after, after-is}
 use Rattle.calculus.proofs.Unification.{unifies-agrees}
 use Rattle.calculus.proofs.Distinct.{distinct-map}
 use Rattle.calculus.proofs.Tuples.{tuples-map, some-mono, some-of-map, identical-refl, identical-is}
+use Rattle.calculus.proofs.UpTo.{up-to-map}
 use Rattle.calculus.proofs.Lists.{map-same}
 
 -- identical lists unify
@@ -64,6 +64,11 @@ module _ (h : ℕ → ℕ) (keeps : Keeps h) where
       go false false false true f g k = false-not-true (g refl)
       go false false false false f g k = alike
 
+  -- a row that was identical still is, so no more rows are examined
+  pub examined-map : (ts : List (List ℕ)) (row : List ℕ) → examined (map (map h) ts) (map h row) ≤ examined ts row
+  unfolding examined
+  examined-map ts row = up-to-map _ _ (map h) (identical-map row) ts
+
   pub equality-map : (a b : ℕ) → equality a b ⊑ equality (h a) (h b)
   unfolding equality
   equality-map a b = go (eqb a b) refl (isConstant a && isConstant b) refl
@@ -85,7 +90,7 @@ module _ (h : ℕ → ℕ) (keeps : Keeps h) where
     keeps = keeps;
     atoms = λ r row. record {
       truth = subst (λ (ts : List (List ℕ)). stands (tuples r rs) row ⊑ stands ts (map h row)) (sym (tuples-map h r rs)) (stands-map (tuples r rs) row);
-      cost = le-of-eq (ap (λ (ts : List (List ℕ)). 1 + length ts) (tuples-map h r rs) ∙ ap (λ (n : ℕ). 1 + n) (length-map (tuples r rs) (map h)));
+      cost = subst (λ (ts : List (List ℕ)). 1 + examined ts (map h row) ≤ 1 + examined (tuples r rs) row) (sym (tuples-map h r rs)) (omega (arith, examined-map (tuples r rs) row));
     };
     equals = equality-map;
     starts = λ j. alike;

@@ -1,8 +1,7 @@
--- The closed instance as a structure: what document 01, "Verdicts and looks", says of kinds 1 and 2.
-use Prim.Native.Nat.{ℕ, _+_}
+-- The closed instance as a structure: what document 01, "Verdicts and looks", and document 02, request 2, say of kinds 1 and 2.
+use Prim.Native.Nat.{ℕ, suc, _+_}
 use mathlib.Core.Bool.{Bool, true, false, _&&_, _||_, cond}
 use mathlib.Core.List.{List, [], _∷_}
-use lib.ListN.{length}
 use lib.Dec.{eqb}
 use Rattle.calculus.specs.declared.truth.Truth.{Truth}
 use Rattle.calculus.specs.declared.truth.Truth.the-variants.{False, Unknown, True}
@@ -23,6 +22,11 @@ unfoldable pub some : (List ℕ → Bool) → List (List ℕ) → Bool
 some test [] = false
 some test (t ∷ ts) = test t || some test ts
 
+-- the number of tuples up to and including the first that passes the test, or of all of them if none passes
+unfoldable pub upTo : (List ℕ → Bool) → List (List ℕ) → ℕ
+upTo test [] = 0
+upTo test (t ∷ ts) = suc (cond (test t) 0 (upTo test ts))
+
 unfoldable pub identical : List ℕ → List ℕ → Bool
 identical [] [] = true
 identical [] (y ∷ ys) = false
@@ -38,10 +42,14 @@ stands ts row = cond (some (identical row) ts) True (cond (some (unifies row) ts
 unfoldable pub equality : ℕ → ℕ → Truth
 equality a b = cond (eqb a b) True (cond (isConstant a && isConstant b) False Unknown)
 
--- "kind 1 costs 1 plus the number of rows of that sheet". The closed world of Libkin's paper: a row that unifies with none of them is false.
+-- Document 02, request 2: "the rows of its sheet up to and including the first identical one, or all of them where none is identical"
+unfoldable pub examined : List (List ℕ) → List ℕ → ℕ
+examined ts row = upTo (identical row) ts
+
+-- "a kind 1 node costs 1 plus" the rows examined. The closed world of Libkin's paper: a row that unifies with none of them is false.
 abbrev pub closed : List Row → Structure
 closed rs = record {
-  holds = λ r row. record { truth = stands (tuples r rs) row; cost = 1 + length (tuples r rs) };
+  holds = λ r row. record { truth = stands (tuples r rs) row; cost = 1 + examined (tuples r rs) row };
   equals = equality;
   start = unit;
   range = domain rs;

@@ -14,10 +14,9 @@ use Rattle.calculus.specs.Kleene.{Junction, join, unit, negate}
 use Rattle.calculus.specs.Formula.{Formula, value, values}
 use Rattle.calculus.specs.Eval.{Outcome, Structure, settles, joined, over, eval}
 use Rattle.calculus.specs.Closed.{tuples}
-use Rattle.instance.specs.Header.{arityOf, maxRelations, maxColumns, maxWords}
+use Rattle.instance.specs.Header.{arityOf, maxRelations, maxColumns}
 use Rattle.calculus.proofs.Kleene.{join-comm}
 use Rattle.instance.proofs.Rows.{headed}
-use Rattle.instance.proofs.Walk.{tuples-few}
 use Rattle.query.specs.Check.{isTerm}
 use Rattle.instance.specs.Rows.{rowsFrom}
 use Rattle.query.specs.Words.{Kind, kinds, rowStands, equals, noKind, negates, joins, ranges, kindOf, wordAt, nodeCount}
@@ -65,7 +64,6 @@ pub record AtomWellFormed (n : ℕ) (ars ws qs counts : List ℕ) (i : ℕ) : Ty
   pub relation : wordAt qs i 1 < n
   pub eight : wordAt qs i 1 < maxRelations
   pub counted : getD counts (wordAt qs i 1) 0 ≡ length (tuples (wordAt qs i 1) (rowsFrom ars 0 ws))
-  pub few : getD counts (wordAt qs i 1) 0 ≤ maxWords
   pub narrow : arityOf ars (wordAt qs i 1) ≤ maxColumns
   pub terms : (j : ℕ) → j < arityOf ars (wordAt qs i 1) → isTerm (wordAt qs i (2 + j)) ≡ true
 
@@ -75,12 +73,10 @@ pub atom-well-formed :
 atom-well-formed n ars ws qs counts i r known is =
     let by = well-formed-by n ars ws qs counts i rowStands r known is in
     let head = headed n ars (r .well-formed .header) in
-    let count = r .counted (wordAt qs i 1) (by .0) in
     record {
       relation = by .0;
       eight = omega (arith, by .0, head .few);
-      counted = count;
-      few = omega (arith, count, tuples-few (wordAt qs i 1) ars ws, r .well-formed .few);
+      counted = r .counted (wordAt qs i 1) (by .0);
       narrow = head .columns (wordAt qs i 1) (by .0) .1;
       terms = by .1;
     }

@@ -1,4 +1,5 @@
 pub mod Budget
+pub mod Covered
 pub mod Steps
 pub mod Children
 pub mod TermLaws

@@ -3,7 +3,8 @@ ghost use mathlib.Core.Path.{_≡_};
 ghost use Rattle.calculus.specs.Eval.{settles as settlesOf, Structure};
 ghost use Rattle.calculus.specs.Kleene.{join as joinOf, unit as unitOf};
 ghost use Prim.Native.Nat.{_<_, ℕ};
-ghost use lib.ListN.{length, set};
+ghost use lib.ListN.{length, set, getD};
+ghost use Rattle.instance.specs.Header.{maxRelations};
 ghost use Rattle.calculus.specs.Formula.{variables};
 ghost use Rattle.query.specs.Words.{nodeCount, nodeWords, wordAt, kindOf, rowStands, equals, negates, joins, ranges};
 ghost use Rattle.evaluate.specs.Ready.{Evaluable, Right, junctionOf, Ready, RightIn};
@@ -30,6 +31,14 @@ fn word(query: &[u32], node: usize, j: usize) -> usize
     query[node * NODE_WORDS + j] as usize
 }
 
+// The number of rows of a relation.
+fn rows_of(counts: &[u32; 8], relation: usize) -> u32
+    requires { ⌜ relation < maxRelations ⌝ }
+    ensures { λ r. ⌜ r ≡ getD (now (counts .entry)) relation 0 ⌝ }
+{
+    counts[relation]
+}
+
 // Gives a variable the value `cell`.
 fn assign(env: &mut [u32; 16], variable: usize, cell: u32)
     requires { ⌜ (variable < variables) × (length (now env) ≡ variables) ⌝ }
@@ -38,7 +47,7 @@ fn assign(env: &mut [u32; 16], variable: usize, cell: u32)
     env[variable] = cell;
 }
 
-// Evaluates an atom.
+// Evaluates an atom. No more rows are examined than the budget covers besides the atom itself.
 fn atom(
     query: &[u32],
     node: usize,
@@ -53,18 +62,28 @@ fn atom(
     requires { ⌜ kindOf (wordAt (now query) node 0) ≡ rowStands ⌝ }
     ensures right { λ r. ⌜ Right (now (arities .entry)) (now (words .entry)) (now (query .entry)) node (now (env .entry)) budget r ⌝ }
 {
-    let relation = word(query, node, 1);
-    let rows = counts[relation];
-    let cost = 1 + rows;
-    if budget < cost {
+    if budget == 0 {
         return Evaluated::Spent;
+    }
+    let covered = budget - 1;
+    let relation = word(query, node, 1);
+    let rows = rows_of(counts, relation);
+    let mut most = rows;
+    if covered < rows {
+        most = covered;
     }
     let arity = arities[relation] as usize;
     let row = asked_row(query, node, arity, env);
-    Evaluated::Verdict(
-        stands(words, arities, relations, relation as u32, rows, &row),
-        cost,
-    )
+    let examined = stands(words, arities, relations, relation as u32, most, &row);
+    let truth = examined.truth;
+    let cost = 1 + examined.rows;
+    // The budget covers no other row, so only an identical one gives a verdict.
+    if most < rows {
+        if !settles(false, truth) {
+            return Evaluated::Spent;
+        }
+    }
+    Evaluated::Verdict(truth, cost)
 }
 
 // Evaluates an equality.

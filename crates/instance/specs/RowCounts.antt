@@ -1,4 +1,4 @@
--- The number of rows of each relation. Document 01: "kind 1 costs 1 plus the number of rows of that sheet".
+-- The number of rows of each relation: an atom's walk ends at the last one.
 use Prim.Native.Nat.{ℕ}
 use mathlib.Core.List.{List}
 use lib.ListN.{length}
