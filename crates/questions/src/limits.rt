@@ -62,32 +62,43 @@ pub fn deepest() {
 }
 
 // The row (0) is in sheet 0.
-const ATOM: [u32; 3] = [1, 0, 0];
+const ZERO: [u32; 3] = [1, 0, 0];
 
-const MOST: u32 = 4_294_967_295;
+// The row (1) is in sheet 0.
+const ONE: [u32; 3] = [1, 0, 1];
 
-// A full plot of 2,048 rows with the values 0 and 1, so that an atom takes 2,049 looks.
+// A full plot of 2,048 rows: only the last is (1), and all the others are (0). An atom takes 2,049 looks for the one, and 2 for the other. What
+// happens at the limit of 32 bits is told by tests/limit.c.
 pub fn full() {
     let mut plot = [0u32; 4096];
     plot[4095] = 1;
     let mut list = [9u32; 2048];
     chained(
-        b"2 to the 20 atoms of 2,049 looks",
-        20,
-        ATOM,
+        b"2 to the 12 atoms of 2,049 looks",
+        12,
+        ONE,
         4096,
         &plot,
         &mut list,
-        MOST,
+        8_392_704,
     );
     chained(
-        b"looks beyond 32 bits",
-        21,
-        ATOM,
+        b"with one look less",
+        12,
+        ONE,
         4096,
         &plot,
         &mut list,
-        MOST,
+        8_392_703,
+    );
+    chained(
+        b"2 to the 21 atoms of 2 looks",
+        21,
+        ZERO,
+        4096,
+        &plot,
+        &mut list,
+        4_294_967_295,
     );
     let some = [list[0], list[1], list[2], list[2047]];
     show::words(&some);

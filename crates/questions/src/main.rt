@@ -1,5 +1,6 @@
 // Worked questions and worked reruns; the file stdout has what this prints.
 mod asking;
+mod charges;
 mod limits;
 mod question;
 mod rerunning;
@@ -15,6 +16,11 @@ fn main() {
     asking::refused();
     asking::refused_nodes();
     asking::short_list();
+    charges::identical_row();
+    charges::no_identical_row();
+    charges::after_a_fill();
+    charges::more_columns_and_nodes();
+    charges::allowance();
     limits::deepest();
     limits::full();
     rerunning::settled();

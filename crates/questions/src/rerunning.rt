@@ -75,7 +75,7 @@ fn one(name: &[u8], query: &[u32], cell: u32, fills: &[u32], budget: u32) {
     );
 }
 
-// Asks whether the cell is in the sheet, with an allowance that just suffices for both rows.
+// Asks whether the cell is in the sheet, with an allowance that suffices if both rows are counted.
 fn stands(name: &[u8], cell: u32, fills: &[u32]) {
     one(name, &STANDS, cell, fills, 3);
 }
@@ -84,12 +84,13 @@ fn by_eight(name: &[u8], cell: u32) {
     stands(name, cell, &[1, 8, 0]);
 }
 
-// Reading 10, and candidates with and without the mark that is filled.
+// Reading 10; candidates with and without the mark that is filled; one whose row is the second before the fill and the first after it.
 pub fn settled() {
     one(b"every x: x = 7, m1 by 8", &ALL_SEVEN, 0, &[1, 8, 0], 100);
     by_eight(b"m1 in the sheet, m1 by 8", 1_000_001);
     by_eight(b"m2 in the sheet, m1 by 8", 1_000_002);
     by_eight(b"5 in the sheet, m1 by 8", 5);
+    by_eight(b"8 in the sheet, m1 by 8", 8);
 }
 
 // Fills that are refused with 29, 16 and 43, and then m1 by m2; no fill at all; one word and two words that are no fill.
@@ -154,7 +155,7 @@ pub fn second_refused() {
     let mut short = [9u32];
     let mut list2 = [9u32; 3];
     by_eight_logged(b"a list of 1 word for run B", 0, &mut short, 3);
-    by_eight_logged(b"a budget of 2 for run B", 0, &mut list2, 2);
+    by_eight_logged(b"a budget of 1 for run B", 0, &mut list2, 1);
 }
 
 // 44, and refusals of run A; under 46 only A's list is written.
