@@ -12,12 +12,14 @@ static void query_row(const char *name, answering *loop, uint32_t expected)
 {
     work *const works[] = {ask, ask_scanning, ask_hashing, ask_reference};
     double ns[4];
+    uint32_t cost = 0;
 
     by_hand = loop;
     for (int i = 0; i < 4; i++) {
         must_do(works[i]);
-        if (truth != expected) {
-            fprintf(stderr, "bench: a truth of '%s' differs\n", name);
+        cost = i == 0 ? count : cost;
+        if (truth != expected || count != cost) {
+            fprintf(stderr, "bench: a truth or a cost of '%s' differs\n", name);
             exit(1);
         }
     }
@@ -184,6 +186,7 @@ static void look_table(void)
     puts("|---|---|---|");
     make_plot(&now, PLOTASK_COLUMNS, FULL_ROWS, FEW_VALUES);
     look_row("for every value one row of a sheet with 585 rows, no match", ask_absent);
+    look_row("for every pair of values one row of a sheet with 585 rows, match in the first row", ask_first_row);
     make_plot(&now, 1, PLOTASK_WORDS / 2 - 1, FEW_VALUES);
     add_last_row(&now);
     look_row("for every value one row of a sheet whose only row stands last, after 2,047 of one cell", ask_last_row);

@@ -85,25 +85,30 @@ static const struct {
     uint32_t columns, rows, values;
     void (*change)(struct sample *sample); /* of the plot, or null */
     void (*query)(struct sample *sample);
+    work *call;
 } queries[] = {
-    {"no row asked; 3,510 different values", PLOTASK_COLUMNS, FULL_ROWS, PLOTASK_CELLS, NULL, ask_nothing},
-    {"one row, no match; 3,510 different values", PLOTASK_COLUMNS, FULL_ROWS, PLOTASK_CELLS, NULL, ask_absent_row},
+    {"no row asked; 3,510 different values", PLOTASK_COLUMNS, FULL_ROWS, PLOTASK_CELLS, NULL, ask_nothing, ask},
+    {"one row, no match; 3,510 different values", PLOTASK_COLUMNS, FULL_ROWS, PLOTASK_CELLS, NULL, ask_absent_row, ask},
     {"no row asked; 3,510 different values, chosen to share four buckets", PLOTASK_COLUMNS, FULL_ROWS, PLOTASK_CELLS,
-     share_buckets, ask_nothing},
-    {"no row asked; 16 different values", PLOTASK_COLUMNS, FULL_ROWS, FEW_VALUES, NULL, ask_nothing},
-    {"one row, no match; 16 different values", PLOTASK_COLUMNS, FULL_ROWS, FEW_VALUES, NULL, ask_absent_row},
+     share_buckets, ask_nothing, ask},
+    {"no row asked; 16 different values", PLOTASK_COLUMNS, FULL_ROWS, FEW_VALUES, NULL, ask_nothing, ask},
+    {"one row, no match; 16 different values", PLOTASK_COLUMNS, FULL_ROWS, FEW_VALUES, NULL, ask_absent_row, ask},
     {"one row, match in the first row; 16 different values", PLOTASK_COLUMNS, FULL_ROWS, FEW_VALUES, NULL,
-     ask_first_columns},
-    {"for every value one row, no match; 16 different values", PLOTASK_COLUMNS, FULL_ROWS, FEW_VALUES, NULL,
-     ask_absent},
-    {"no row asked; 1 value", PLOTASK_COLUMNS, FULL_ROWS, 1, NULL, ask_nothing},
+     ask_first_columns, ask},
+    {"for every pair of values one row, match in the first row; 16 different values", PLOTASK_COLUMNS, FULL_ROWS,
+     FEW_VALUES, NULL, ask_first_row, ask},
+    {"for every value one row, no match; 16 different values", PLOTASK_COLUMNS, FULL_ROWS, FEW_VALUES, NULL, ask_absent,
+     ask},
+    {"no row asked; 1 value", PLOTASK_COLUMNS, FULL_ROWS, 1, NULL, ask_nothing, ask},
     {"one row, unifies with every row; marks in every row, 205 different values", PLOTASK_COLUMNS, FULL_ROWS, 1,
-     null_every_row, ask_first_columns},
+     null_every_row, ask_first_columns, ask},
     {"no row asked; 4,096 words in rows of one cell, 16 different values", 1, PLOTASK_WORDS / 2, FEW_VALUES, NULL,
-     ask_nothing},
+     ask_nothing, ask},
     {"one row, no match; 4,096 words in rows of one cell, 16 different values", 1, PLOTASK_WORDS / 2, FEW_VALUES, NULL,
-     ask_absent_row},
-    {"two nested quantifiers over 64 rows of one cell; 64 different values", 1, 64, 64, NULL, ask_pairs},
+     ask_absent_row, ask},
+    {"one row, no match, refused with 46 for a budget of 100; 4,096 words in rows of one cell, 16 different values", 1,
+     PLOTASK_WORDS / 2, FEW_VALUES, NULL, ask_absent_row, ask_refused},
+    {"two nested quantifiers over 64 rows of one cell; 64 different values", 1, 64, 64, NULL, ask_pairs, ask},
 };
 
 /* The other calls: how many rows of six columns the plot has. */
@@ -135,7 +140,7 @@ static const char *prepare(size_t row)
     if (queries[row].change)
         queries[row].change(&now);
     queries[row].query(&now);
-    timed = ask;
+    timed = queries[row].call;
     return queries[row].name;
 }
 

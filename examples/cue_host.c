@@ -124,7 +124,10 @@ int main(void)
 
     /* A refused call changes nothing, so the host goes on. */
     fill(1, 203);
+
+    /* A sheet's looks end at the lamp's own row: 4 are enough for 201, which hangs first, and one too few for 202. */
     ask_to_hire(201, 4);
+    ask_to_hire(202, 4);
 
     if (refused(plotask_encode(PLOTASK_HEADER(&header), plot, PLOTASK_WORDS, written, sizeof written, &bytes)))
         return 1;

@@ -51,7 +51,7 @@
  *
  * A plot is a struct plotask_header and an array of words. A row is one word with its sheet number, counted from 0, and
  * then its cells. The rows follow each other from the first word, in the order in which they were entered. Equal rows
- * may occur twice: the verdict is the same as with one of them, but each costs a look.
+ * may occur twice: the verdict is the same as with one of them, but a repeated row may cost a look.
  *
  * A plot is sound if its header has 1 to 8 sheets, gives each of them 1 to 6 columns and every other sheet 0, and if
  * the words in use are at most 4,096, at most as many as the slice has, and whole rows: sheet numbers that the header
@@ -104,8 +104,8 @@
  *
  * STACK, in bytes below the caller's own frame, as measured by `make bench` (docs/BENCHMARKS.md):
  *
- *   ask            3,032 for a question of 1 node (a row of six columns; 2,904 for two terms), and 256 more for each
- *                  level below it; 28,376 for 100 nodes in one chain
+ *   ask            3,040 for a question of 1 node (a row of six columns; 2,904 for two terms), and 240 more for each
+ *                  level below it; 26,800 for 100 nodes in one chain
  *   null counts      976
  *   insert           256
  *   encode           240
@@ -402,13 +402,14 @@ uint32_t plotask_encode(const uint32_t *header, size_t header_words, const uint3
  * true. "Some" is the highest and "every" the lowest over the plot's values in their order; over none, "some" is false
  * and "every" true.
  *
- * Looks. "Equal" costs 1, "row stands" 1 plus the number of rows of that sheet, and the other kinds what their children
- * cost. The right child of "and" is not asked if the left is false, nor that of "or" if the left is true; "some" stops
- * after the first true, "every" after the first false.
+ * Looks. "Equal" costs 1. "Row stands" costs 1 plus the rows of that sheet, in the plot's order, up to and including
+ * the first that is the very row, or all of them if none is. A row that is not the very row, but can be made equal to
+ * it, does not end the count. The other kinds cost what their children cost. The right child of "and" is not asked if the left is false, nor
+ * that of "or" if the left is true; "some" stops after the first true, "every" after the first false.
  *
- * Looks do not measure time: "row stands" passes the rows of every sheet up to the last one of its own. The time that a
- * question may take grows with its looks and with the words in use, at most with their product. What a look takes is
- * measured in docs/BENCHMARKS.md.
+ * Looks do not measure time: "row stands" also passes over the rows of other sheets that come before the row at which
+ * its count ends. The time that a question may take grows with its looks and with the words in use, at most with their
+ * product. What a look takes is measured in docs/BENCHMARKS.md.
  *
  *   header, header_words        PLOTASK_CONST_HEADER(&header) or PLOTASK_HEADER(&header)
  *   plot, plot_words            the plot

@@ -1,6 +1,6 @@
 /*
- * Document 01's "Readings to hold up beside the rules", and a history with a log, asked of the library and of the
- * reference at once.
+ * Document 01's "Readings to hold up beside the rules", what a row costs, and a history with a log, asked of the
+ * library and of the reference at once.
  */
 #include "differential/compare.h"
 #include "support/checks.h"
@@ -15,7 +15,7 @@ struct plot_text {
     uint32_t relations;
     uint32_t arities[2];
     size_t used;
-    uint32_t words[4];
+    uint32_t words[12];
 };
 
 struct query_text {
@@ -32,7 +32,13 @@ static const struct plot_text two_relations = {2, {1, 1}, 4, {0, 201, 1, M(1)}};
 static const struct plot_text row_m1 = {1, {1}, 2, {0, M(1)}};
 static const struct plot_text rows_m1_8 = {1, {1}, 4, {0, M(1), 0, 8}};
 static const struct plot_text row_m200 = {1, {1}, 2, {0, M(200)}};
+static const struct plot_text three_pairs = {1, {2}, 9, {0, 5, 6, 0, 5, M(1), 0, 5, 7}};
+static const struct plot_text six_rows = {2, {1, 1}, 12, {0, 5, 1, 7, 0, 6, 0, M(1), 0, 6, 0, 9}};
 
+static const struct query_text stands = {1, {{ROW_STANDS, 0, X(0)}}};
+static const struct query_text stands_in_1 = {1, {{ROW_STANDS, 1, X(0)}}};
+static const struct query_text every_stands = {
+    4, {{EVERY, 0, 1}, {OR, 2, 3}, {ROW_STANDS, 0, X(0)}, {ROW_STANDS, 1, X(0)}}};
 static const struct query_text stands_2 = {1, {{ROW_STANDS, 0, X(0), X(1)}}};
 static const struct query_text stands_3 = {1, {{ROW_STANDS, 0, X(0), X(1), X(2)}}};
 static const struct query_text equal = {1, {{EQUAL, X(0), X(1)}}};
@@ -88,6 +94,36 @@ static const struct reading readings[] = {
     {"11: allowance 4", &two_relations, {0, 0}, &without, {{201}, 1}, 4, 0, UNKNOWN, 4},
 };
 
+/*
+ * "1 plus the rows of its sheet up to and including the first identical one, or all of them where none is identical":
+ * relation 0 of the six rows has (5), (6), (m1), (6) and (9), with relation 1's (7) after the first. The budget is the
+ * cost.
+ */
+static const struct reading charges[] = {
+    {"charge: the first row", &six_rows, {0, 0}, &stands, {{5}, 1}, 2, 0, YES, 2},
+    {"charge: one that stands twice, behind relation 1", &six_rows, {0, 0}, &stands, {{6}, 1}, 3, 0, YES, 3},
+    {"charge: m1, after rows that unify", &six_rows, {0, 0}, &stands, {{M(1)}, 1}, 4, 0, YES, 4},
+    {"charge: the last row, after one that unifies", &six_rows, {0, 0}, &stands, {{9}, 1}, 6, 0, YES, 6},
+    {"charge: none identical, one unifies", &six_rows, {0, 0}, &stands, {{8}, 1}, 6, 0, UNKNOWN, 6},
+    {"charge: identical in relation 1 alone", &six_rows, {0, 0}, &stands, {{7}, 1}, 6, 0, UNKNOWN, 6},
+    {"charge: the only row", &six_rows, {0, 0}, &stands_in_1, {{7}, 1}, 2, 0, YES, 2},
+    {"charge: none identical, none unifies", &six_rows, {0, 0}, &stands_in_1, {{6}, 1}, 2, 0, NO, 2},
+    {"charge: m1, after m1 by 5 in the candidate too", &six_rows, {1, 5}, &stands, {{5}, 1}, 2, 0, YES, 2},
+    {"charge: 8, after m1 by 5", &six_rows, {1, 5}, &stands, {{8}, 1}, 6, 0, NO, 6},
+    {"charge: 8, after m1 by 8", &six_rows, {1, 8}, &stands, {{8}, 1}, 4, 0, YES, 4},
+    {"charge: no rows", &no_rows, {0, 0}, &stands, {{5}, 1}, 1, 0, NO, 1},
+    {"charge: rows that agree in a column, or unify, before it",
+     &three_pairs,
+     {0, 0},
+     &stands_2,
+     {{5, 7}, 2},
+     4,
+     0,
+     YES,
+     4},
+    {"charge: every value of the six rows", &six_rows, {0, 0}, &every_stands, {{0}, 0}, 23, 0, YES, 23},
+};
+
 static void check_named(const char *name, bool holds)
 {
     if (!check(holds))
@@ -118,6 +154,16 @@ static void check_reading(const struct reading *reading)
     uint32_t number = both_ask(&plot, &query, &reading->candidate, plot.length, reading->budget, &truth, &cost);
     bool same = number == 0 && truth == reading->truth && cost == reading->cost;
     check_named(reading->name, number == reading->number && (number != 0 || same));
+}
+
+/* Asks with the cost as budget, which is enough, and with one less. */
+static void check_charge(const struct reading *charge)
+{
+    struct reading refused = *charge;
+    refused.budget--;
+    refused.number = 46;
+    check_reading(charge);
+    check_reading(&refused);
 }
 
 /* Reading 12: the limits of nulls and of nodes. */
@@ -233,6 +279,8 @@ int main(void)
 {
     for (size_t i = 0; i < sizeof readings / sizeof *readings; i++)
         check_reading(&readings[i]);
+    for (size_t i = 0; i < sizeof charges / sizeof *charges; i++)
+        check_charge(&charges[i]);
     check_limits();
     check_history();
     check_longest_entry();

@@ -6,7 +6,7 @@
 #include <string.h>
 
 /* A page with fewer blocks has lost some. */
-enum { BLOCKS = 20 };
+enum { BLOCKS = 29 };
 
 /* The line that the program prints for a block, without its line feed; false if it prints none. */
 static bool run(const char *program, const struct block *block, char *line, size_t room)

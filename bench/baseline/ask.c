@@ -80,24 +80,29 @@ static int unifies(const uint32_t *a, const uint32_t *b, uint32_t columns)
     return 1;
 }
 
-uint32_t row_stands(const struct plotask_header *header, const uint32_t *plot, uint32_t relation, const uint32_t *row)
+uint32_t row_stands(const struct plotask_header *header, const uint32_t *plot, uint32_t relation, const uint32_t *row,
+                    uint64_t *cost)
 {
     const uint32_t *end = plot + header->used;
     uint32_t columns = header->arities[relation];
-    uint32_t truth = PLOTASK_FALSE;
+    uint32_t truth = PLOTASK_FALSE, rows = 0;
 
     for (; plot < end; plot += 1 + header->arities[*plot]) {
         if (*plot != relation)
             continue;
+        rows++;
         uint32_t i = 0;
         while (i < columns && plot[1 + i] == row[i])
             i++;
-        if (i == columns)
-            return PLOTASK_TRUE;
+        if (i == columns) {
+            truth = PLOTASK_TRUE;
+            break;
+        }
         if (row[i] < PLOTASK_CONSTANTS && plot[1 + i] < PLOTASK_CONSTANTS)
             continue;
         if (truth == PLOTASK_FALSE && unifies(plot + 1 + i, row + i, columns - i))
             truth = PLOTASK_UNKNOWN;
     }
+    *cost += 1 + rows;
     return truth;
 }

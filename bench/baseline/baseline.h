@@ -20,8 +20,9 @@ typedef size_t listing(const struct plotask_header *header, const uint32_t *plot
 listing list_by_scan;  /* searches the list for each cell */
 listing list_by_table; /* with a hash table of 16 KiB */
 
-/* The truth of "the row stands in the relation". */
-uint32_t row_stands(const struct plotask_header *header, const uint32_t *plot, uint32_t relation, const uint32_t *row);
+/* The truth of "the row stands in the relation"; what it costs is added to `cost`. */
+uint32_t row_stands(const struct plotask_header *header, const uint32_t *plot, uint32_t relation, const uint32_t *row,
+                    uint64_t *cost);
 
 /* Each returns 0 if it refuses. All of the card's rules are tested. */
 uint32_t decode_card(const uint8_t *card, size_t bytes, struct plotask_header *header, uint32_t *plot,

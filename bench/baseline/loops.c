@@ -16,47 +16,48 @@ static uint32_t not(uint32_t truth)
     return PLOTASK_TRUE - truth;
 }
 
-static uint32_t equal(uint32_t a, uint32_t b)
+static uint32_t equal(uint32_t a, uint32_t b, uint64_t *cost)
 {
+    *cost += 1;
     if (a == b)
         return PLOTASK_TRUE;
     return a < PLOTASK_CONSTANTS && b < PLOTASK_CONSTANTS ? PLOTASK_FALSE : PLOTASK_UNKNOWN;
 }
 
-uint32_t nothing_by_hand(const uint32_t *values, size_t count)
+uint32_t nothing_by_hand(const uint32_t *values, size_t count, uint64_t *cost)
 {
     (void)values;
     (void)count;
-    return PLOTASK_TRUE;
+    return equal(0, 0, cost);
 }
 
-uint32_t row_by_hand(const uint32_t *values, size_t count)
+uint32_t row_by_hand(const uint32_t *values, size_t count, uint64_t *cost)
 {
     (void)values;
     (void)count;
-    return row_stands(&now.header, now.plot, 0, now.candidate);
+    return row_stands(&now.header, now.plot, 0, now.candidate, cost);
 }
 
-uint32_t absent_by_hand(const uint32_t *values, size_t count)
+uint32_t absent_by_hand(const uint32_t *values, size_t count, uint64_t *cost)
 {
     uint32_t result = PLOTASK_TRUE;
 
     for (size_t i = 0; i < count && result != PLOTASK_FALSE; i++) {
         uint32_t v = values[i], row[PLOTASK_COLUMNS] = {v, v, v, v, v, v};
-        result = lower(result, not(row_stands(&now.header, now.plot, 0, row)));
+        result = lower(result, not(row_stands(&now.header, now.plot, 0, row, cost)));
     }
     return result;
 }
 
-uint32_t pairs_by_hand(const uint32_t *values, size_t count)
+uint32_t pairs_by_hand(const uint32_t *values, size_t count, uint64_t *cost)
 {
     uint32_t result = PLOTASK_TRUE;
 
     for (size_t i = 0; i < count && result != PLOTASK_FALSE; i++)
         for (size_t j = 0; j < count && result != PLOTASK_FALSE; j++) {
-            uint32_t either = equal(values[i], values[j]);
+            uint32_t either = equal(values[i], values[j], cost);
             if (either != PLOTASK_TRUE)
-                either = higher(either, not(equal(values[i], values[j])));
+                either = higher(either, not(equal(values[i], values[j], cost)));
             result = lower(result, either);
         }
     return result;

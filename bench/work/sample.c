@@ -72,6 +72,16 @@ void ask_row(struct sample *sample, uint32_t first)
     add_row_node(sample, 0, 1);
 }
 
+void ask_first_row(struct sample *sample)
+{
+    sample->candidate_cells = sample->header.arities[0];
+    memcpy(sample->candidate, sample->plot + 1, sample->candidate_cells * sizeof *sample->candidate);
+    sample->query_words = 0;
+    add_node(sample, PLOTASK_EVERY, 6, 1);
+    add_node(sample, PLOTASK_EVERY, 7, 2);
+    add_row_node(sample, 0, 1);
+}
+
 void ask_absent(struct sample *sample)
 {
     sample->query_words = 0;

@@ -34,6 +34,9 @@ void ask_nothing(struct sample *sample);
 /* the candidate, which is first, first + 1 and so on, stands in relation 0 */
 void ask_row(struct sample *sample, uint32_t first);
 
+/* every v6: every v7: the candidate, which is the plot's first row, stands in relation 0 */
+void ask_first_row(struct sample *sample);
+
 /* every v0: not (v0, .., v0) stands in relation 0 */
 void ask_absent(struct sample *sample);
 

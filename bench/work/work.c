@@ -29,10 +29,21 @@ void ask(void)
                          now.candidate, now.candidate_cells, list, PLOTASK_CELLS, UINT32_MAX, &truth, &count);
 }
 
+void ask_refused(void)
+{
+    refusal =
+        build->ask(PLOTASK_HEADER(&now.header), now.plot, PLOTASK_WORDS, now.query, now.query_words, now.candidate,
+                   now.candidate_cells, list, PLOTASK_CELLS, 100, &truth, &count) != PLOTASK_BUDGET_SPENT;
+}
+
 static void ask_by_hand(listing *list_values)
 {
+    uint64_t cost = 0;
+
     refusal = !is_sound(&now.header, now.plot, PLOTASK_WORDS);
-    truth = by_hand(list, list_values(&now.header, now.plot, list));
+    truth = by_hand(list, list_values(&now.header, now.plot, list), &cost);
+    refusal |= cost > UINT32_MAX;
+    count = (uint32_t)cost;
 }
 
 void ask_scanning(void)

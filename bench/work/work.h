@@ -33,9 +33,12 @@ extern const struct build *build;
 /* What the last work returned: a refusal; if that is 0, the truth and cost of a query, or the count of another call. */
 extern uint32_t refusal, truth, count;
 
-/* A query as a loop in C: its truth over the listed values. Set before ask_scanning and ask_hashing. */
-typedef uint32_t answering(const uint32_t *values, size_t count);
+/* A query as a loop in C: its truth over the listed values, and its cost. Set before ask_scanning and ask_hashing. */
+typedef uint32_t answering(const uint32_t *values, size_t count, uint64_t *cost);
 extern answering *by_hand;
+
+/* A query with a budget of 100, which it exceeds. */
+work ask_refused;
 
 work ask, ask_scanning, ask_hashing, ask_reference;
 work decode, decode_by_hand, decode_reference;

@@ -1,4 +1,5 @@
 #include "calls.h"
+#include "one_row.h"
 
 /* The highest cost that the reference is asked to find. */
 enum { MOST_FORESEEN = 200000 };
@@ -70,6 +71,8 @@ void try_ask(struct random *random, const struct palette *palette, struct any_pl
     make_candidate(random, palette, &candidate);
     if (endless)
         make_endless_query(random, &query);
+    else if (plot->header[HEADER_USED] > 0 && one_in(random, 8))
+        make_row_query(random, palette, plot, &candidate, &query);
     else
         make_query(random, palette, plot->header, values, candidate.length, &query);
     if (!endless && one_in(random, 3))
@@ -88,4 +91,6 @@ void try_ask(struct random *random, const struct palette *palette, struct any_pl
     if (asked.number == 46 && endless && lent == plot)
         note(COST_OVER_32_BITS);
     note_asked(lent, &asked, cells, foreseen);
+    if (asks_one_row(&query) && (asked.number == 0 || asked.number == 46))
+        note_one_row(lent, &query, &candidate, asked.number, asked.budget);
 }

@@ -62,6 +62,15 @@ enum { CODES = 64 };
     CASE(COST_OVER_BY_ONE, "the cost is one more than the budget")                       \
     CASE(LARGEST_BUDGET, "the budget is 4,294,967,295")                                  \
     CASE(COST_OVER_32_BITS, "the cost needs more than 32 bits")                          \
+    CASE(IDENTICAL_FIRST, "one row asked: identical to the first of several")            \
+    CASE(IDENTICAL_BETWEEN, "one row asked: identical to one in the middle")             \
+    CASE(IDENTICAL_LAST, "one row asked: identical to the last of several")              \
+    CASE(IDENTICAL_TWICE, "one row asked: identical to two or more")                     \
+    CASE(UNIFYING_BEFORE, "one row asked: one before the identical one unifies")         \
+    CASE(OTHERS_BETWEEN, "one row asked: a row of another relation stands between")      \
+    CASE(NO_IDENTICAL, "one row asked: identical to none, one before the last unifies")  \
+    CASE(BELOW_ALL_ROWS, "one row asked: accepted, though all rows exceed the budget")   \
+    CASE(BEYOND_BUDGET, "one row asked: the identical one exceeds the budget by one")    \
     CASE(CARD_DECODED_AGAIN, "an encoded card decodes to the same plot")                 \
     CASE(KEPT_TRUE, "true is kept over substitutions")                                   \
     CASE(KEPT_FALSE, "false is kept over substitutions")                                 \
@@ -69,6 +78,7 @@ enum { CODES = 64 };
     CASE(SETTLED_FALSE, "unknown becomes false")                                         \
     CASE(STAYED_UNKNOWN, "unknown stays unknown over substitutions")                     \
     CASE(LOWER_COST, "the cost is lower after substitutions")                            \
+    CASE(ROW_LOWER_COST, "one row asked: the cost is lower after substitutions")         \
     CASE(LOGGED_BETWEEN_RUNS, "a substitution between the runs is logged")               \
     CASE(LOG_FULL_BETWEEN_RUNS, "a substitution between the runs lacks room in the log") \
     CASE(REFUSED_BETWEEN_RUNS, "a substitution between the runs is refused")             \

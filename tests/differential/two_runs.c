@@ -1,4 +1,5 @@
 #include "two_runs.h"
+#include "one_row.h"
 
 #include <inttypes.h>
 #include <stdio.h>
@@ -139,6 +140,8 @@ static void check_runs(const struct run *a, const struct run *b)
         fail_runs("B's cost is higher than A's");
     if (b->cost < a->cost)
         note(LOWER_COST);
+    if (b->cost < a->cost && asks_one_row(&query))
+        note(ROW_LOWER_COST);
     if (b->truth == TRUTH_UNKNOWN)
         note(STAYED_UNKNOWN);
     else if (b->truth == TRUTH_TRUE)
@@ -166,7 +169,10 @@ void try_two_runs(struct random *random, const struct palette *palette, struct a
     struct any_cells candidate_left;
     struct run a;
     make_candidate(random, palette, &candidate);
-    make_query(random, palette, plot->header, count_values(plot), candidate.length, &query);
+    if (plot->header[HEADER_USED] > 0 && one_in(random, 6))
+        make_row_query(random, palette, plot, &candidate, &query);
+    else
+        make_query(random, palette, plot->header, count_values(plot), candidate.length, &query);
     if (foresee(plot, &query, &candidate, 3000, &a.cost) != 0)
         return;
     a.budget = a.cost + (one_in(random, 3) ? below(random, 1000) : 0);

@@ -106,6 +106,12 @@ void damage_candidate(struct random *random, struct any_cells *candidate);
 /* A query for a plot with this header and number of values, and for k candidate cells. */
 void make_query(struct random *random, const struct palette *palette, const uint32_t *header, size_t value_count,
                 size_t k, struct any_query *query);
+/*
+ * A query of one node, for a plot that has rows: does the candidate stand in a relation? The candidate is a row of that
+ * relation, or differs from one in a cell.
+ */
+void make_row_query(struct random *random, const struct palette *palette, const struct any_plot *plot,
+                    struct any_cells *candidate, struct any_query *query);
 void damage_query(struct random *random, struct any_query *query);
 /* A query whose cost is above 2^32 if the plot has 8 values or more. */
 void make_endless_query(struct random *random, struct any_query *query);

@@ -140,6 +140,34 @@ void make_query(struct random *random, const struct palette *palette, const uint
     number_nodes(&tree, query);
 }
 
+/* The index, among a plot's words, of the row that one of them belongs to. */
+static size_t any_row(struct random *random, const struct any_plot *plot)
+{
+    size_t word = below(random, plot->header[HEADER_USED]);
+    size_t row = 0;
+    for (size_t next = 0; next <= word; next += 1 + arity_of(plot->header, plot->words[row]))
+        row = next;
+    return row;
+}
+
+void make_row_query(struct random *random, const struct palette *palette, const struct any_plot *plot,
+                    struct any_cells *candidate, struct any_query *query)
+{
+    const uint32_t *row = plot->words + any_row(random, plot);
+    candidate->length = arity_of(plot->header, row[0]);
+    memcpy(candidate->cells, row + 1, candidate->length * sizeof *row);
+    if (one_in(random, 4))
+        candidate->cells[below(random, candidate->length)] = any_cell(random, palette);
+    query->length = NODE_WORDS;
+    memset(query->words, 0, NODE_WORDS * sizeof *query->words);
+    query->words[0] = ROW_STANDS;
+    query->words[1] = row[0];
+    for (uint32_t i = 0; i < candidate->length; i++) {
+        uint32_t cell = candidate->cells[i];
+        query->words[2 + i] = cell < CONSTANTS && one_in(random, 4) ? cell : FIRST_VARIABLE + i;
+    }
+}
+
 void make_endless_query(struct random *random, struct any_query *query)
 {
     uint32_t *words = query->words;

@@ -54,19 +54,36 @@ static bool unify(const uint32_t *a, const uint32_t *b, size_t n)
     return true;
 }
 
+static bool is_identical(const struct row *row, const uint32_t *cells)
+{
+    return memcmp(row->cells, cells, plot.arities[row->relation] * sizeof *cells) == 0;
+}
+
+/* "The rows of its sheet up to and including the first identical one, or all of them where none is identical." */
+static uint64_t rows_charged(uint32_t relation, const uint32_t *cells)
+{
+    uint64_t rows = 0;
+    for (size_t i = 0; i < plot.row_count; i++) {
+        if (plot.rows[i].relation != relation)
+            continue;
+        rows++;
+        if (is_identical(&plot.rows[i], cells))
+            return rows;
+    }
+    return rows;
+}
+
 static enum truth row_stands(struct asking *asking, uint32_t relation, const uint32_t *cells)
 {
-    size_t arity = plot.arities[relation];
     enum truth truth = TRUTH_FALSE;
-    asking->cost += 1;
+    asking->cost += 1 + rows_charged(relation, cells);
     for (size_t i = 0; i < plot.row_count; i++) {
         const struct row *row = &plot.rows[i];
         if (row->relation != relation)
             continue;
-        asking->cost += 1;
-        if (memcmp(row->cells, cells, arity * sizeof *cells) == 0)
+        if (is_identical(row, cells))
             truth = TRUTH_TRUE;
-        else if (truth == TRUTH_FALSE && unify(row->cells, cells, arity))
+        else if (truth == TRUTH_FALSE && unify(row->cells, cells, plot.arities[relation]))
             truth = TRUTH_UNKNOWN;
     }
     return truth;
