@@ -77,9 +77,9 @@
  *   the plot is always its rows as they were entered, with the fills that have not been taken back. A fill, and so its
  *   undo, does not touch rows that are entered after it. Here plotask_undo is never refused with 49, and with 48
  *   exactly if no fill is left.
- * - plotask_undo tests that an entry could belong to this plot, not that it does. If anything else writes the plot between
- *   a logged fill and its undo, plotask_substitute too, then the undo writes the mark over whatever the cells hold by
- *   then.
+ * - plotask_undo tests that an entry could belong to this plot, not that it does. If anything else writes the plot
+ *   between a logged fill and its undo, plotask_substitute too, then the undo writes the mark over whatever the cells
+ *   hold by then.
  * - An undo is no fill: a verdict that was true or false may be unknown again, or change once the mark is filled anew,
  *   and the looks may rise. The candidate is the host's, as with a fill: if it was filled too, the host puts it back.
  *
@@ -264,8 +264,8 @@ static inline const uint32_t *plotask_const_header_words(const struct plotask_he
  *   card, card_bytes      the card; any length
  *   header, header_words  PLOTASK_HEADER(&header)
  *   plot, plot_words      room for the rows; 4,096 words are enough for every card that is accepted
- *   log_used              gets 0, the words in use of a fresh log; what it held before does not matter. A host without a
- *                         log passes any size_t
+ *   log_used              gets 0, the words in use of a fresh log; what it held before does not matter. A host
+ *                         without a log passes any size_t
  *
  * Writes: the header, the first header.used words of the plot, and log_used.
  * Refuses: 41 (header_words is not PLOTASK_HEADER_WORDS); then the card byte by byte: 11 if a byte is missing, else the
@@ -341,8 +341,8 @@ uint32_t plotask_substitute_logged(const uint32_t *header, size_t header_words, 
  * Writes: the cells that the entry names, log_used, and count.
  * Refuses: 41; 48 (*log_used is 0); 49 if *log_used exceeds log_words, or is less than the last entry has words (2, and
  * as many more as the last word in use says), or the entry's mark is not 1 to 200, or a place in it is not that of a
- * cell: it is the word of a row's sheet number, or at or past the end of the plot's words in use. There is no other test: an
- * entry without places, or with places that are repeated or do not rise, is taken back too.
+ * cell: it is the word of a row's sheet number, or at or past the end of the plot's words in use. There is no other
+ * test: an entry without places, or with places that are repeated or do not rise, is taken back too.
  */
 uint32_t plotask_undo(const uint32_t *header, size_t header_words, uint32_t *plot, size_t plot_words,
                       const uint32_t *log, size_t log_words, size_t *log_used, uint32_t *count);
@@ -404,8 +404,9 @@ uint32_t plotask_encode(const uint32_t *header, size_t header_words, const uint3
  *
  * Looks. "Equal" costs 1. "Row stands" costs 1 plus the rows of that sheet, in the plot's order, up to and including
  * the first that is the very row, or all of them if none is. A row that is not the very row, but can be made equal to
- * it, does not end the count. The other kinds cost what their children cost. The right child of "and" is not asked if the left is false, nor
- * that of "or" if the left is true; "some" stops after the first true, "every" after the first false.
+ * it, does not end the count. The other kinds cost what their children cost. The right child of "and" is not asked if
+ * the left is false, nor that of "or" if the left is true; "some" stops after the first true, "every" after the first
+ * false.
  *
  * Looks do not measure time: "row stands" also passes over the rows of other sheets that come before the row at which
  * its count ends. The time that a question may take grows with its looks and with the words in use, at most with their

@@ -21,12 +21,12 @@ module _ (row : List ℕ) where
       go true e = absurd (other (identical-is row t e))
       go false e = e
 
-  examined-first : (before behind : List (List ℕ)) → (List·Memᴰ row before → ⊥) → examined (before ++ (row ∷ behind)) row ≡ suc (length before)
+  examined-first : (before after : List (List ℕ)) → (List·Memᴰ row before → ⊥) → examined (before ++ (row ∷ after)) row ≡ suc (length before)
   unfolding examined
-  examined-first [] behind none = up-to-here (identical row) row behind (identical-refl row)
-  examined-first (t ∷ before) behind none =
-      up-to-past (identical row) t (before ++ (row ∷ behind)) (differs t (λ e. none (List·Memᴰ·head e))) ∙
-      ap suc (examined-first before behind (λ m. none (List·Memᴰ·tail m)))
+  examined-first [] after none = up-to-here (identical row) row after (identical-refl row)
+  examined-first (t ∷ before) after none =
+      up-to-past (identical row) t (before ++ (row ∷ after)) (differs t (λ e. none (List·Memᴰ·head e))) ∙
+      ap suc (examined-first before after (λ m. none (List·Memᴰ·tail m)))
 
   examined-all : (ts : List (List ℕ)) → (List·Memᴰ row ts → ⊥) → examined ts row ≡ length ts
   unfolding examined
@@ -36,17 +36,17 @@ module _ (row : List ℕ) where
 
   pub examined-means : (ts : List (List ℕ)) → MeansExamined ts row (examined ts row)
   examined-means ts = record {
-    first = λ before behind is none. ap (λ (us : List (List ℕ)). examined us row) is ∙ examined-first before behind none;
+    first = λ before after is none. ap (λ (us : List (List ℕ)). examined us row) is ∙ examined-first before after none;
     none = examined-all ts;
   }
 
 -- ---- no other number has the meaning
 
--- the tuples ahead of the first identical one, and those behind it
+-- the tuples before the first identical one, and those after it
 record First (row : List ℕ) (ts : List (List ℕ)) : Type 0 where
   before : List (List ℕ)
-  behind : List (List ℕ)
-  is : ts ≡ before ++ (row ∷ behind)
+  after : List (List ℕ)
+  is : ts ≡ before ++ (row ∷ after)
   none : List·Memᴰ row before → ⊥
 
 module _ (row : List ℕ) where
@@ -63,10 +63,10 @@ module _ (row : List ℕ) where
   first-of (t ∷ ts) e = go (identical row t) refl e (first-of ts)
     where
       go : (b : Bool) → identical row t ≡ b → (b || some (identical row) ts) ≡ true → (some (identical row) ts ≡ true → First row ts) → First row (t ∷ ts)
-      go true p q rest = record { before = []; behind = ts; is = ap (λ (u : List ℕ). u ∷ ts) (sym (identical-is row t p)); none = nowhere }
+      go true p q rest = record { before = []; after = ts; is = ap (λ (u : List ℕ). u ∷ ts) (sym (identical-is row t p)); none = nowhere }
       go false p q rest =
           let f = rest q in
-          record { before = t ∷ f .before; behind = f .behind; is = ap (λ (us : List (List ℕ)). t ∷ us) (f .is); none = not-before t (f .before) p (f .none) }
+          record { before = t ∷ f .before; after = f .after; is = ap (λ (us : List (List ℕ)). t ∷ us) (f .is); none = not-before t (f .before) p (f .none) }
 
   pub examined-settled : (ts : List (List ℕ)) (n : ℕ) → MeansExamined ts row n → n ≡ examined ts row
   examined-settled ts n m = go (some (identical row) ts) refl
@@ -74,7 +74,7 @@ module _ (row : List ℕ) where
       go : (b : Bool) → some (identical row) ts ≡ b → n ≡ examined ts row
       go true e =
           let f = first-of ts e in
-          m .first (f .before) (f .behind) (f .is) (f .none) ∙ sym (examined-means row ts .first (f .before) (f .behind) (f .is) (f .none))
+          m .first (f .before) (f .after) (f .is) (f .none) ∙ sym (examined-means row ts .first (f .before) (f .after) (f .is) (f .none))
       go false e =
           let none : List·Memᴰ row ts → ⊥ = λ there. false-not-true (sym e ∙ some-member (identical row) row ts there (identical-refl row)) in
           m .none none ∙ sym (examined-means row ts .none none)
@@ -90,7 +90,7 @@ module _ (k : ℕ) (ts : List (List ℕ)) (row : List ℕ) where
   unfolding examined
   front-examined e = up-to-front (identical row) k ts (stands-true (take k ts) row .0 e)
 
-  -- without one in the front, the rows behind it are examined too
+  -- without one in the front, rows after it are examined too
   pub beyond-front : (stands (take k ts) row ≡ True → ⊥) → k < length ts → k < examined ts row
   unfolding examined
   beyond-front not-there more = go (some (identical row) (take k ts)) refl

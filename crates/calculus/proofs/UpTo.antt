@@ -9,7 +9,7 @@ use Rattle.calculus.specs.Closed.{some, upTo, examined}
 use Rattle.calculus.proofs.Bools.{false-not-true}
 
 module _ (test : List ℕ → Bool) (t : List ℕ) (ts : List (List ℕ)) where
-  -- the tuple that passes is counted, and none behind it
+  -- the tuple that passes is counted, and none after it
   pub up-to-here : test t ≡ true → upTo test (t ∷ ts) ≡ 1
   unfolding upTo
   up-to-here e = rw e refl
@@ -51,7 +51,7 @@ up-to-map test other f passes (t ∷ ts) = go (other (f t)) refl (test t) refl (
     go false e true d l = false-not-true (sym e ∙ passes t d)
     go false e false d l = omega (arith, up-to-past other (f t) (map f ts) e, up-to-past test t ts d)
 
--- one more tuple ahead of both lists
+-- one more tuple at the front of both lists
 pub up-to-cons : (test : List ℕ → Bool) (t : List ℕ) (ts us : List (List ℕ)) → upTo test ts ≤ upTo test us → upTo test (t ∷ ts) ≤ upTo test (t ∷ us)
 up-to-cons test t ts us l = go (test t) refl
   where
@@ -62,7 +62,7 @@ up-to-cons test t ts us l = go (test t) refl
 -- ---- the front of a list
 
 module _ (test : List ℕ → Bool) where
-  -- a tuple of the front passes: those behind it do not matter
+  -- if a tuple of the front passes, the tuples after the front do not matter
   pub some-front : (k : ℕ) (ts : List (List ℕ)) → some test (take k ts) ≡ true → some test ts ≡ true
   unfolding some
   some-front zero ts e = false-not-true e

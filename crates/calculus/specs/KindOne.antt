@@ -16,7 +16,7 @@ pub record MeansStands (ts : List (List ℕ)) (row : List ℕ) (t : Truth) : Typ
   pub certain : rank t ≡ rank True ↔ List·Memᴰ row ts
   pub impossible : rank t ≡ rank False ↔ ((u : List ℕ) → List·Memᴰ u ts → Unify row u → ⊥)
 
--- what the number n of rows examined means: `first` is for a relation that has the row, and `before` are the tuples ahead of the first identical one
+-- what the number n of rows examined means: `first` is for a relation that has the row, and `before` are the tuples before the first identical one
 pub record MeansExamined (ts : List (List ℕ)) (row : List ℕ) (n : ℕ) : Type 0 where
-  pub first : (before behind : List (List ℕ)) → ts ≡ before ++ (row ∷ behind) → (List·Memᴰ row before → ⊥) → n ≡ suc (length before)
+  pub first : (before after : List (List ℕ)) → ts ≡ before ++ (row ∷ after) → (List·Memᴰ row before → ⊥) → n ≡ suc (length before)
   pub none : (List·Memᴰ row ts → ⊥) → n ≡ length ts

@@ -56,55 +56,40 @@ pub fn after_a_fill() {
     filled(b"8 after m1 by 5", 5, 8);
 }
 
-// Rows of two columns that agree with the row asked for in one column, or unify with it, come before it; and a question that asks for rows of both
-// sheets.
-pub fn more_columns_and_nodes() {
+// Rows of two columns that agree with the row asked for in one column, or unify with it, come before it.
+pub fn two_columns() {
+    let query = [1u32, 0, 2_000_000, 7, 0, 0, 0, 0];
     let mut list = [9u32; 6];
-    let pair = [1u32, 0, 2_000_000, 7, 0, 0, 0, 0];
     let answer = ask(
         one_sheet(2, 9),
         &[0, 5, 6, 0, 5, 1_000_001, 0, 5, 7],
-        &pair,
+        &query,
         &[5],
         &mut list,
         100,
     );
     show::asked(b"(5, 7) after (5, 6) and (5, m1)", answer);
-    let every = [
-        7u32,
-        0,
-        1,
-        0,
-        0,
-        0,
-        0,
-        0,
-        5,
-        2,
-        3,
-        0,
-        0,
-        0,
-        0,
-        0,
-        1,
-        0,
-        2_000_000,
-        0,
-        0,
-        0,
-        0,
-        0,
-        1,
-        1,
-        2_000_000,
-        0,
-        0,
-        0,
-        0,
-        0,
-    ];
-    let answer = ask(two_sheets(1, 1, 12), &ROWS, &every, &[], &mut list, 100);
+}
+
+// A question of four nodes that asks rows of both sheets for each value in turn: 5, 7, 6, m1 and 9.
+pub fn every_value() {
+    let mut query = [0u32; 32];
+    // every x0
+    query[0] = 7;
+    query[2] = 1;
+    // node 2 or node 3
+    query[8] = 5;
+    query[9] = 2;
+    query[10] = 3;
+    // (x0) is in sheet 0
+    query[16] = 1;
+    query[18] = 2_000_000;
+    // (x0) is in sheet 1
+    query[24] = 1;
+    query[25] = 1;
+    query[26] = 2_000_000;
+    let mut list = [9u32; 6];
+    let answer = ask(two_sheets(1, 1, 12), &ROWS, &query, &[], &mut list, 100);
     show::asked(b"every x: x in sheet 0 or in sheet 1", answer);
 }
 

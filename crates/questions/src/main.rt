@@ -19,7 +19,8 @@ fn main() {
     charges::identical_row();
     charges::no_identical_row();
     charges::after_a_fill();
-    charges::more_columns_and_nodes();
+    charges::two_columns();
+    charges::every_value();
     charges::allowance();
     limits::deepest();
     limits::full();
