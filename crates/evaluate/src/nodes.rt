@@ -68,21 +68,21 @@ fn atom(
     let covered = budget - 1;
     let relation = word(query, node, 1);
     let rows = rows_of(counts, relation);
-    let mut most = rows;
-    if covered < rows {
-        most = covered;
-    }
     let arity = arities[relation] as usize;
     let row = asked_row(query, node, arity, env);
-    let examined = stands(words, arities, relations, relation as u32, most, &row);
-    let truth = examined.truth;
-    let cost = 1 + examined.rows;
-    // The budget covers no other row, so only an identical one gives a verdict.
-    if most < rows {
-        if !settles(false, truth) {
-            return Evaluated::Spent;
+    if covered < rows {
+        let front = stands(words, arities, relations, relation as u32, covered, &row);
+        let truth = front.truth;
+        let cost = 1 + front.rows;
+        // The budget covers no other row, so only an identical one gives a verdict.
+        if settles(false, truth) {
+            return Evaluated::Verdict(truth, cost);
         }
+        return Evaluated::Spent;
     }
+    let all = stands(words, arities, relations, relation as u32, rows, &row);
+    let truth = all.truth;
+    let cost = 1 + all.rows;
     Evaluated::Verdict(truth, cost)
 }
 

@@ -1,7 +1,7 @@
 -- What the rows of a relation say of a row, one by one: an identical one settles it, and one that unifies makes it possible. Only an identical one
 -- ends the count of those examined. Assumes nothing.
 use Prim.Native.Nat.{ℕ, suc}
-use mathlib.Core.Path.{_≡_, refl}
+use mathlib.Core.Path.{_≡_, refl, sym, ap, _∙_}
 use mathlib.Core.Bool.{Bool, true, false, _||_, cond}
 use mathlib.Core.List.{List, [], _∷_}
 use Rattle.calculus.specs.declared.truth.Truth.{Truth}
@@ -11,7 +11,7 @@ use Rattle.calculus.proofs.UpTo.{up-to-nothing, up-to-here, up-to-past}
 use Rattle.calculus.specs.Unify.{unifies}
 use Rattle.lookup.specs.declared.row.Match.{Match}
 use Rattle.lookup.specs.declared.row.Match.the-variants.{Identical, Unifies, Apart}
-use Rattle.lookup.specs.Matching.{unified, matching}
+use Rattle.lookup.specs.Matching.{unified, matching, matchAfter}
 
 -- what the tuples ts say of a row; `possible` tells whether an earlier tuple unified with it
 unfoldable pub truthFrom : Bool → List (List ℕ) → List ℕ → Truth
@@ -32,20 +32,33 @@ truthAfter Identical possible ts row = True
 truthAfter Unifies possible ts row = truthFrom true ts row
 truthAfter Apart possible ts row = truthFrom possible ts row
 
+module _ (possible : Bool) (row t : List ℕ) where
+  -- the match that is told: in full at first, and by identity alone once an earlier tuple unified
+  pub match-first : possible ≡ false → matching row t ≡ matchAfter possible row t
+  match-first e = ap (λ (b : Bool). matchAfter b row t) (sym e)
+
+  pub match-same : possible ≡ true → identical row t ≡ true → Identical ≡ matchAfter possible row t
+  match-same e s = sym (ap (λ (b : Bool). matchAfter b row t) e ∙ ap (λ (b : Bool). cond b Identical Unifies) s)
+
+  pub match-other : possible ≡ true → identical row t ≡ false → Unifies ≡ matchAfter possible row t
+  match-other e s = sym (ap (λ (b : Bool). matchAfter b row t) e ∙ ap (λ (b : Bool). cond b Identical Unifies) s)
+
 pub truth-step :
     (possible : Bool) (t : List ℕ) (ts : List (List ℕ)) (row : List ℕ) →
-    truthFrom possible (t ∷ ts) row ≡ truthAfter (matching row t) possible ts row
+    truthFrom possible (t ∷ ts) row ≡ truthAfter (matchAfter possible row t) possible ts row
 unfolding truthFrom some matching
 truth-step possible t ts row = go (identical row t) (unifies row t) possible
   where
     go :
         (same can possible : Bool) →
         cond (same || some (identical row) ts) True (cond (possible || (can || some (unifies row) ts)) Unknown False) ≡
-        truthAfter (cond same Identical (unified can)) possible ts row
-    go true can possible = refl
+        truthAfter (cond possible (cond same Identical Unifies) (cond same Identical (unified can))) possible ts row
+    go true can true = refl
+    go true can false = refl
     go false true true = refl
     go false true false = refl
-    go false false possible = refl
+    go false false true = refl
+    go false false false = refl
 
 -- the rows examined, from a tuple with this match on
 abbrev pub examinedAfter : Match → List (List ℕ) → List ℕ → ℕ
@@ -53,14 +66,19 @@ examinedAfter Identical ts row = 1
 examinedAfter Unifies ts row = suc (examined ts row)
 examinedAfter Apart ts row = suc (examined ts row)
 
-pub examined-step : (t : List ℕ) (ts : List (List ℕ)) (row : List ℕ) → examined (t ∷ ts) row ≡ examinedAfter (matching row t) ts row
+pub examined-step :
+    (possible : Bool) (t : List ℕ) (ts : List (List ℕ)) (row : List ℕ) → examined (t ∷ ts) row ≡ examinedAfter (matchAfter possible row t) ts row
 unfolding examined matching
-examined-step t ts row = go (identical row t) refl (unifies row t)
+examined-step possible t ts row = go (identical row t) refl (unifies row t) possible
   where
-    go : (same : Bool) → identical row t ≡ same → (can : Bool) → examined (t ∷ ts) row ≡ examinedAfter (cond same Identical (unified can)) ts row
-    go true e can = up-to-here (identical row) t ts e
-    go false e true = up-to-past (identical row) t ts e
-    go false e false = up-to-past (identical row) t ts e
+    go :
+        (same : Bool) → identical row t ≡ same → (can possible : Bool) →
+        examined (t ∷ ts) row ≡ examinedAfter (cond possible (cond same Identical Unifies) (cond same Identical (unified can))) ts row
+    go true e can true = up-to-here (identical row) t ts e
+    go true e can false = up-to-here (identical row) t ts e
+    go false e can true = up-to-past (identical row) t ts e
+    go false e true false = up-to-past (identical row) t ts e
+    go false e false false = up-to-past (identical row) t ts e
 
 pub examined-ends : (row : List ℕ) → examined [] row ≡ 0
 unfolding examined

@@ -1,3 +1,9 @@
 pub mod Columns
+pub mod Left
 pub mod Matching
+pub mod Meaning
+pub mod Alike
 pub mod Atom
+pub mod Passing
+pub mod Probes
+pub mod EveryRow

@@ -12,7 +12,6 @@ use Rattle.calculus.specs.Cell.{constants}
 use Rattle.calculus.specs.declared.truth.Truth.the-variants.{False, Unknown, True}
 use Rattle.calculus.specs.Closed.{identical, some, stands}
 use Rattle.calculus.specs.Unify.{bind, unifiesWith, unifies}
-use Rattle.lookup.specs.declared.row.Match.{Match}
 use Rattle.lookup.specs.declared.row.Match.the-variants.{Identical, Apart}
 use Rattle.lookup.specs.Matching.{unified, matching, rowVerdict, through}
 
@@ -60,11 +59,17 @@ pub through-more :
 through-more from to a b n c l m =
     rw (through-step, getD-set-same from n a 0 l, getD-set-same to n b 0 m, through-set from to a b n n c (omega arith)) refl
 
+-- the same for cells that the binding s comes to first
 pub unify-more :
-    (from to : List ℕ) (a b n : ℕ) → n < length from → n < length to → (xs ys : List ℕ) →
-    unifiesWith (λ c. bind a b (through from to n c)) xs ys ≡ unifiesWith (through (set from n a) (set to n b) (n + 1)) xs ys
-unify-more from to a b n l m xs ys =
-    unify-same (λ c. bind a b (through from to n c)) (through (set from n a) (set to n b) (n + 1)) (λ c. sym (through-more from to a b n c l m)) xs ys
+    (s : ℕ → ℕ) (from to : List ℕ) (a b n : ℕ) → n < length from → n < length to → (xs ys : List ℕ) →
+    unifiesWith (λ c. bind a b (through from to n (s c))) xs ys ≡ unifiesWith (λ c. through (set from n a) (set to n b) (n + 1) (s c)) xs ys
+unify-more s from to a b n l m xs ys =
+    unify-same
+    (λ c. bind a b (through from to n (s c)))
+    (λ c. through (set from n a) (set to n b) (n + 1) (s c))
+    (λ c. sym (through-more from to a b n (s c) l m))
+    xs
+    ys
 
 -- ---- identical columns first
 
@@ -73,18 +78,24 @@ module _ (x y : ℕ) (xs ys : List ℕ) where
   unfolding matching identical
   matching-alike e = rw (unify-alike (λ c. c) x y x y refl refl xs ys e) (simp (eq-eqb x y e))
 
-  pub matching-differs : (x ≡ y → ⊥) → matching (x ∷ xs) (y ∷ ys) ≡ unified (unifies (x ∷ xs) (y ∷ ys))
+  matching-differs : (x ≡ y → ⊥) → matching (x ∷ xs) (y ∷ ys) ≡ unified (unifies (x ∷ xs) (y ∷ ys))
   unfolding matching identical
   matching-differs ne = simp (ne-eqb x y ne)
 
   pub matching-apart : (x ≡ y → ⊥) → x < constants → y < constants → matching (x ∷ xs) (y ∷ ys) ≡ Apart
   matching-apart ne p q = matching-differs ne ∙ ap unified (unify-apart (λ c. c) x y x y refl refl xs ys ne p q)
 
+  pub matching-left : (x ≡ y → ⊥) → constants ≤ x → matching (x ∷ xs) (y ∷ ys) ≡ unified (unifiesWith (bind x y) xs ys)
+  matching-left ne p = matching-differs ne ∙ ap unified (unify-left (λ c. c) x y x y refl refl xs ys ne p)
+
+  pub matching-right : (x ≡ y → ⊥) → x < constants → constants ≤ y → matching (x ∷ xs) (y ∷ ys) ≡ unified (unifiesWith (bind y x) xs ys)
+  matching-right ne p q = matching-differs ne ∙ ap unified (unify-right (λ c. c) x y x y refl refl xs ys ne p q)
+
 -- ---- one row's verdict
 
-pub row-told : (xs ys : List ℕ) {m : Match} → m ≡ matching xs ys → (m ≡ matching xs ys) × (rowVerdict m ≡ stands (ys ∷ []) xs)
+pub row-verdict : (xs ys : List ℕ) → rowVerdict (matching xs ys) ≡ stands (ys ∷ []) xs
 unfolding matching stands some
-row-told xs ys e = (e, ap rowVerdict e ∙ go (identical xs ys) (unifies xs ys))
+row-verdict xs ys = go (identical xs ys) (unifies xs ys)
   where
     go : (a b : Bool) → rowVerdict (cond a Identical (unified b)) ≡ cond (a || false) True (cond (b || false) Unknown False)
     go true b = refl

@@ -1,6 +1,6 @@
 // What an atom says of a row: whether it is in a relation, and how many of the relation's rows are examined for that.
 ghost use mathlib.Core.Path.{_≡_};
-ghost use Prim.Native.Nat.{_<_, _≤_};
+ghost use Prim.Native.Nat.{_+_, _<_, _≤_};
 ghost use lib.ListN.{length, take};
 ghost use Rattle.calculus.specs.Closed.{tuples};
 ghost use Rattle.calculus.specs.KindOne.{MeansStands, MeansExamined};
@@ -8,8 +8,14 @@ ghost use Rattle.instance.specs.Header.{arityOf, maxColumns};
 ghost use Rattle.instance.specs.Rows.{rowsFrom};
 ghost use Rattle.instance.specs.InstanceWellFormed.{InstanceWellFormed};
 ghost use Rattle.lookup.specs.Examined.{examinedOf};
+ghost use Rattle.lookup.specs.Matching.{matchAfter};
+ghost use Rattle.lookup.specs.Place.{cellsAt};
+use super::probe::next_probe;
+use super::probe::probe_at;
 use super::row::Match;
+use super::row::alike;
 use super::row::compare;
+use super::rows::next_near;
 use calculus::truth::Truth;
 
 // What rows of a relation say of a row, and how many of them were examined.
@@ -18,8 +24,22 @@ pub struct Examined {
     pub rows: u32,
 }
 
-// What the first `most` rows of the relation say. Goes row by row; a row of another relation is one step. An identical row ends the pass, and so does
-// the last of those rows. A row that only unifies does not: a later one may be identical.
+// How the row at a place compares with an asked row, if it matters: once an earlier row has unified, only identity does.
+fn compare_after(words: &[u32], place: usize, row: &[u32], possible: bool) -> Match
+    requires { ⌜ (place + (1 + length (now row)) ≤ length (now words)) × (length (now row) ≤ maxColumns) ⌝ }
+    ensures { λ r. ⌜ r ≡ matchAfter possible (now (row .entry)) (cellsAt (now (words .entry)) place (length (now (row .entry)))) ⌝ }
+{
+    if possible {
+        if alike(words, place, row) == row.len() {
+            return Match::Identical;
+        }
+        return Match::Unifies;
+    }
+    compare(words, place, row)
+}
+
+// What the first `most` rows of the relation say. An identical row ends the pass, and so does the last of those rows. A row that only unifies does not:
+// a later one may be identical. A row is not compared if a probe of one column tells enough.
 pub fn stands(
     words: &[u32],
     arities: &[u32; 8],
@@ -36,13 +56,32 @@ pub fn stands(
     ensures charge { λ r. ⌜ MeansExamined (take most (tuples relation (rowsFrom (now (arities .entry)) 0 (now (words .entry))))) (take (arityOf (now (arities .entry)) relation) (now (row .entry))) (r .rows) ⌝ }
 {
     let arity = arities[relation as usize] as usize;
+    // A part of an array behind a reference is taken from its whole slice.
+    let cells = &row[..];
+    let asked = &cells[..arity];
+    let mut probe = probe_at(asked, 0, false);
     let mut possible = false;
     let mut more = most;
     let mut i = 0;
     while 0 < more {
-        let w = words[i];
-        if w == relation {
-            match compare(words, i + 1, row, arity) {
+        let column = probe.column;
+        let cell = asked[column];
+        let low = probe.low;
+        let near = next_near(
+            words,
+            arities,
+            relations,
+            relation,
+            column,
+            cell,
+            low,
+            i,
+            more,
+        );
+        more = near.more;
+        if 0 < more {
+            let earlier = possible;
+            match compare_after(words, near.place, asked, possible) {
                 Match::Identical => {
                     let examined = most - more + 1;
                     return Examined {
@@ -55,9 +94,10 @@ pub fn stands(
                 }
                 Match::Apart => {}
             }
+            probe = next_probe(words, near.place, asked, probe, earlier, possible);
             more -= 1;
+            i = near.place + 1 + arity;
         }
-        i += 1 + arities[w as usize] as usize;
     }
     if possible {
         return Examined {

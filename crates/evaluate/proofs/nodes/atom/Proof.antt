@@ -1,9 +1,8 @@
 -- `evaluate::nodes::atom` meets its contract: an atom costs 1 plus the rows of its relation that are examined. Assumes nothing.
-use mathlib.Core.Path.{_≡_, refl, sym, ap, _∙_}
-use mathlib.Core.Bool.{Bool, true, false, not}
-use Prim.Native.Nat.{ℕ, _+_, _<_, _≤_}
+use mathlib.Core.Path.{_≡_, refl, sym, ap, subst, _∙_}
+use mathlib.Core.Bool.{true}
+use Prim.Native.Nat.{ℕ, _+_, _-_, _<_, _≤_}
 use mathlib.Core.List.{List}
-use mathlib.Core.Logic.{⊎-elim}
 use native.Mathlib.Omega.{arith}
 use lib.ListN.{length, getD, take}
 use lib.Seq.{length-take-le}
@@ -15,8 +14,9 @@ use Rattle.calculus.specs.Eval.{settles}
 use Rattle.calculus.specs.Formula.{values}
 use Rattle.calculus.proofs.Bools.{false-not-true}
 use Rattle.calculus.proofs.UpTo.{examined-le}
-use Rattle.instance.specs.Header.{arityOf}
+use Rattle.instance.specs.Header.{arityOf, maxColumns}
 use Rattle.instance.specs.Rows.{rowsFrom}
+use Rattle.instance.specs.InstanceWellFormed.{InstanceWellFormed}
 use Rattle.lookup.specs.declared.relation.Examined.{Examined}
 use Rattle.lookup.specs.Examined.{examinedOf}
 use Rattle.query.specs.Tree.{termsAt}
@@ -59,10 +59,6 @@ only-true False e = false-not-true e
 only-true Unknown e = false-not-true e
 only-true True e = refl
 
-not-not : (b : Bool) → not b ≡ false → b ≡ true
-not-not true e = refl
-not-not false e = false-not-true (sym e)
-
 -- after the word with its relation was read
 abbrev start : tie.After-word → tie.Start
 start c = c .before .before .before .before
@@ -81,105 +77,167 @@ word-requires c κs = search needs
 rows-of-requires : tie.Need-rows-of-requires
 rows-of-requires c κs = omega (arith, c .word .ensures, node (start c) .eight)
 
--- the rows of the node's relation, and how many of them are examined at most
-module _ (c : tie.Joined2) where
+-- the node's relation and its rows
+module _ (c : tie.After-rows-of) where
   abbrev s : tie.Start
-  s = start (c .before .before)
+  s = start (c .before)
 
-  abbrev most : ℕ
-  most = c .if2 .most
+  abbrev of : ℕ
+  of = named s
 
-  all-rows : c .before .rows-of .result ≡ length (ts s (named s))
-  all-rows = c .before .rows-of .ensures ∙ ap (λ (r : ℕ). getD (s .args .counts .now) r 0) (omega (arith, c .before .before .word .ensures)) ∙ node s .counted
+  is-named : c .before .word .result ≡ of
+  is-named = c .before .word .ensures
 
-  few : most ≤ length (ts s (named s))
-  few = ⊎-elim (λ a. rw (a .1) (omega (arith, a .0 .taken, all-rows))) (λ a. rw (a .1) (omega (arith, all-rows))) (c .if2 .came)
-
-  covered : most + 1 ≤ s .args .budget
-  covered =
-      let some = c .before .before .before .if1 .left in
-      ⊎-elim (λ a. rw (a .1) (omega (arith, some))) (λ a. rw (a .1) (omega (arith, some, a .0 .left))) (c .if2 .came)
-
-  -- if there are more rows, the budget covers no other
-  dear : most < length (ts s (named s)) → s .args .budget ≤ most + 1
-  dear more = ⊎-elim (λ a. rw (a .1) (omega arith)) (λ a. absurd (omega (arith, more, all-rows, a .1))) (c .if2 .came)
+  all-rows : c .rows-of .result ≡ length (ts s of)
+  all-rows = c .rows-of .ensures ∙ ap (λ (r : ℕ). getD (s .args .counts .now) r 0) (omega (arith, is-named)) ∙ node s .counted
 
 mul-arity : tie.Need-mul-arity
-mul-arity c = omega (arith, c .before .before .word .ensures, node (s c) .eight)
+mul-arity c = omega (arith, is-named c, node (s c) .eight)
 
 element-copy-out-arity : tie.Need-element-copy-out-arity
-element-copy-out-arity c = omega (arith, c .before .before .word .ensures, node (s c) .eight)
+element-copy-out-arity c = omega (arith, is-named c, node (s c) .eight)
 
 cast-arity : tie.Need-cast-arity
-cast-arity c = rw (c .before .before .before .word .ensures) (omega (arith, node (s (c .before)) .narrow))
+cast-arity c = rw (is-named (c .before)) (omega (arith, node (s (c .before)) .narrow))
 
 asked-row-requires : tie.Need-asked-row-requires
 asked-row-requires c κs =
     let a = node (s (c .before)) in
-    rw (c .before .before .before .word .ensures) (record { known = known (s (c .before)); narrow = a .narrow; terms = a .terms; sixteen = s (c .before) .pre .0 .2 })
+    rw (is-named (c .before)) (record { known = known (s (c .before)); narrow = a .narrow; terms = a .terms; sixteen = s (c .before) .pre .0 .2 })
 
-cast-stands : tie.Need-cast-stands
-cast-stands c = let j = c .before .before in omega (arith, j .before .before .word .ensures, node (s j) .eight)
+-- what the first `most` rows say of the row that the node's terms stand for; the budget covers them
+module _ (c : tie.After-asked-row) where
+  abbrev at : tie.After-rows-of
+  at = c .before .before
 
-stands-requires : tie.Need-stands-requires
-stands-requires c κs =
-    let j = c .before .before .before in
-    let w = j .before .before in
-    let a = node (s j) in
-    let six = row-six _ _ _ _ _ (c .before .asked-row .ensures) (rw (w .word .ensures) (a .narrow)) in
-    (s j .pre .0 .0 .well-formed, ((omega (arith, w .word .ensures, a .relation), six), rw (w .word .ensures) (few j)))
-
--- what the rows examined say of the row that the node's terms stand for
-module _ (c : tie.After-stands) where
-  abbrev j : tie.Joined2
-  j = c .before .before .before .before
-
-  abbrev of : ℕ
-  of = named (s j)
-
-  told : c .stands .result ≡ examinedOf (take (most j) (ts (s j) of)) (row (s j) of)
-  told =
-      c .stands .ensures .0 ∙
-      ap (examinedOf (take (most j) (ts (s j) (j .before .before .word .result)))) (row-front _ _ _ _ _ (c .before .before .asked-row .ensures)) ∙
-      ap (λ (r : ℕ). examinedOf (take (most j) (ts (s j) r)) (row (s j) r)) (j .before .before .word .ensures)
-
-  says : c .stands .result .truth ≡ stands (take (most j) (ts (s j) of)) (row (s j) of)
-  says = ap (λ (e : Examined). e .truth) told
-
-  charges : 1 + c .stands .result .rows ≡ 1 + examined (take (most j) (ts (s j) of)) (row (s j) of)
-  charges = ap (λ (e : Examined). 1 + e .rows) told
+  lent :
+      (most : ℕ) → most ≤ length (ts (s at) (of at)) →
+      InstanceWellFormed (s at .args .relations) (s at .args .arities .now) (s at .args .words .now)
+      × (((at .before .word .result < s at .args .relations) × (length (c .asked-row .result) ≡ maxColumns))
+      × (most ≤ length (ts (s at) (at .before .word .result))))
+  lent most few =
+      let a = node (s at) in (
+        s at .pre .0 .0 .well-formed,
+        (
+          (omega (arith, is-named at, a .relation), row-six _ _ _ _ _ (c .asked-row .ensures) (rw (is-named at) (a .narrow))),
+          subst (λ (r : ℕ). most ≤ length (ts (s at) r)) (sym (is-named at)) few,
+        ),
+      )
 
   right : {r : Evaluated} →
-      r ≡ within (s j .args .budget) (atomOf (ts (s j) of) (row (s j) of)) →
-      Right (s j .args .arities .now) (s j .args .words .now) (s j .args .query .now) (s j .args .node) (s j .args .env .now) (s j .args .budget) r
-  right e = λ k h. e ∙ atom-right _ _ _ _ (known (s j)) (is (s j)) _ _ k h
+      r ≡ within (s at .args .budget) (atomOf (ts (s at) (of at)) (row (s at) (of at))) →
+      Right (s at .args .arities .now) (s at .args .words .now) (s at .args .query .now) (s at .args .node) (s at .args .env .now) (s at .args .budget) r
+  right e = λ k h. e ∙ atom-right _ _ _ _ (known (s at)) (is (s at)) _ _ k h
 
-  low : c .stands .result .rows ≤ most j
-  low = omega (arith, charges, examined-le (take (most j) (ts (s j) of)) (row (s j) of), length-take-le (most j) (ts (s j) of) (few j))
+  module _ (most : ℕ) (few : most ≤ length (ts (s at) (of at))) (covered : most + 1 ≤ s at .args .budget) (e : Examined)
+      (answered : e ≡ examinedOf (take most (ts (s at) (at .before .word .result)))
+      (take (arityOf (s at .args .arities .now) (at .before .word .result)) (c .asked-row .result))) where
+    told : e ≡ examinedOf (take most (ts (s at) (of at))) (row (s at) (of at))
+    told =
+        answered ∙
+        ap (examinedOf (take most (ts (s at) (at .before .word .result)))) (row-front _ _ _ _ _ (c .asked-row .ensures)) ∙
+        ap (λ (r : ℕ). examinedOf (take most (ts (s at) r)) (row (s at) r)) (is-named at)
+
+    says : e .truth ≡ stands (take most (ts (s at) (of at))) (row (s at) (of at))
+    says = ap (λ (e : Examined). e .truth) told
+
+    charges : 1 + e .rows ≡ 1 + examined (take most (ts (s at) (of at))) (row (s at) (of at))
+    charges = ap (λ (e : Examined). 1 + e .rows) told
+
+    fits : 1 + e .rows ≤ s at .args .budget
+    fits = omega (arith, charges, covered, examined-le (take most (ts (s at) (of at))) (row (s at) (of at)), length-take-le most (ts (s at) (of at)) few)
+
+-- the budget does not cover all rows
+module _ (c : tie.Then2) where
+  abbrev covered : ℕ
+  covered = s (at (c .before)) .args .budget - 1
+
+  some : 0 < s (at (c .before)) .args .budget
+  some = omega (arith, at (c .before) .before .before .if1 .left)
+
+  more : covered < length (ts (s (at (c .before))) (of (at (c .before))))
+  more = omega (arith, c .if2 .taken, all-rows (at (c .before)))
+
+cast-stands : tie.Need-cast-stands
+cast-stands c = let b = at (c .before) in omega (arith, is-named b, node (s b) .eight)
+
+stands-requires : tie.Need-stands-requires
+stands-requires c κs = let t = c .before in lent (t .before) (covered t) (omega (arith, more t))
+
+-- what the rows that it covers say
+module _ (c : tie.After-stands) where
+  abbrev then : tie.Then2
+  then = c .before .before
+
+  abbrev asked : tie.After-asked-row
+  asked = then .before
+
+  enough : covered then + 1 ≤ s (at asked) .args .budget
+  enough = omega (arith, some then)
+
+  low : covered then ≤ length (ts (s (at asked)) (of (at asked)))
+  low = omega (arith, more then)
+
+  front-says : c .stands .result .truth ≡ stands (take (covered then) (ts (s (at asked)) (of (at asked)))) (row (s (at asked)) (of (at asked)))
+  front-says = says asked (covered then) low enough _ (c .stands .ensures .0)
 
 add-cost : tie.Need-add-cost
-add-cost c = omega (arith, low (c .before), covered (j (c .before)), s (j (c .before)) .fits .budget)
+add-cost c =
+    let b = c .before in
+    let a = asked b in
+    omega (arith, fits a (covered (then b)) (low b) (enough b) _ (b .stands .ensures .0), s (at a) .fits .budget)
 
 settles-requires : tie.Need-settles-requires
 settles-requires c κs = search needs
 
 returns-2 : tie.Need-returns-2
 returns-2 c =
-    let a = c .before .before .before .before in
-    let more : most (j a) < length (ts (s (j a)) (of a)) = omega (arith, c .before .before .if3 .taken, all-rows (j a)) in
-    right a (sym (beyond-spent _ (most (j a)) _ _ (dear (j a) more) more (λ e.
-    false-not-true (sym (ap not (c .before .settles .ensures ∙ ap (settles disj) (says a ∙ e))) ∙ c .if4 .taken))))
+    let b = c .before .before .before in
+    let a = asked b in
+    let found = only-true _ (sym (c .before .settles .ensures) ∙ c .if3 .taken) in
+    right a
+    (verdicts (front-says b) (charges a (covered (then b)) (low b) (enough b) _ (b .stands .ensures .0)) ∙
+    found-verdict _ (covered (then b)) _ _ (enough b) (low b) (sym (front-says b) ∙ found))
 
 returns-3 : tie.Need-returns-3
 returns-3 c =
-    let a = c .before .before .before .before in
-    let found = only-true _ (sym (c .before .settles .ensures) ∙ not-not _ (c .if4 .left)) in
-    right a (verdicts (says a) (charges a) ∙ found-verdict _ (most (j a)) _ _ (covered (j a)) (few (j a)) (sym (says a) ∙ found))
+    let b = c .before .before .before in
+    let a = asked b in
+    right a
+    (sym
+    (beyond-spent _ (covered (then b)) _ _ (omega (arith, enough b)) (more (then b)) (λ e.
+    false-not-true (sym (c .if3 .left) ∙ c .before .settles .ensures ∙ ap (settles disj) (front-says b ∙ e)))))
+
+-- the budget covers all rows
+module _ (c : tie.Else2) where
+  abbrev rows : ℕ
+  rows = at (c .before) .rows-of .result
+
+  all-few : rows ≤ length (ts (s (at (c .before))) (of (at (c .before))))
+  all-few = omega (arith, all-rows (at (c .before)))
+
+  all-covered : rows + 1 ≤ s (at (c .before)) .args .budget
+  all-covered = omega (arith, c .if2 .left, at (c .before) .before .before .if1 .left)
+
+cast-stands-2 : tie.Need-cast-stands-2
+cast-stands-2 c = let b = at (c .before) in omega (arith, is-named b, node (s b) .eight)
+
+stands-requires-2 : tie.Need-stands-requires-2
+stands-requires-2 c κs = let t = c .before in lent (t .before) (rows t) (all-few t)
+
+add-cost-2 : tie.Need-add-cost-2
+add-cost-2 c =
+    let e = c .before .before .before in
+    omega (arith, fits (e .before) (rows e) (all-few e) (all-covered e) _ (c .before .stands2 .ensures .0), s (at (e .before)) .fits .budget)
 
 returns-4 : tie.Need-returns-4
 returns-4 c =
-    let a = c .before .before in
-    right a (verdicts (says a) (charges a) ∙ all-verdict _ (most (j a)) _ _ (covered (j a)) (few (j a)) (omega (arith, c .if3 .left, all-rows (j a))))
+    let e = c .before .before .before in
+    let a = e .before in
+    let told-all = c .before .stands2 .ensures .0 in
+    right a
+    (verdicts (says a (rows e) (all-few e) (all-covered e) _ told-all) (charges a (rows e) (all-few e) (all-covered e) _ told-all) ∙
+    all-verdict _ (rows e) _ _ (all-covered e) (all-few e) (omega (arith, all-rows (at a))))
 
 pub atom-spec : {M : Type 1} → statement M
 atom-spec =
@@ -199,4 +257,7 @@ atom-spec =
     settles-requires
     returns-2
     returns-3
+    cast-stands-2
+    stands-requires-2
+    add-cost-2
     returns-4)

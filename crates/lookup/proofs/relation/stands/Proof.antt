@@ -1,29 +1,36 @@
--- `lookup::relation::stands` meets its contract: the rows from index i decide, and whether an earlier row unified; the rows examined are those before
+-- `lookup::relation::stands` meets its contract: the rows left at index i decide, and whether an earlier row unified; the rows examined are those before
 -- index i and those from there on. Assumes nothing.
 use Prim.Native.Nat.{ℕ, suc, _≤_, _<_, _-_, _+_}
-use mathlib.Core.Path.{_≡_, refl, sym, ap, _∙_}
+use mathlib.Core.Path.{_≡_, refl, sym, ap, subst, _∙_}
 use mathlib.Core.Bool.{Bool, true, false, cond}
 use mathlib.Core.Logic.{⊎-elim}
 use mathlib.Core.List.{List, [], _∷_}
 use native.Mathlib.Omega.{arith}
 use borrow.Author.Needs.{needs}
-use lib.ListN.{length, getD, take, drop, length-drop}
+use lib.ListN.{length, getD, take, drop}
+use lib.Seq.{length-take-le}
 use Rattle.calculus.specs.declared.truth.Truth.{Truth}
 use Rattle.calculus.specs.declared.truth.Truth.the-variants.{False, Unknown}
 use Rattle.calculus.specs.Closed.{stands, examined, tuples}
 use Rattle.calculus.specs.KindOne.{MeansStands, MeansExamined}
 use Rattle.instance.specs.Header.{arityOf, maxRelations, maxColumns}
 use Rattle.instance.specs.Rows.{rowsFrom}
+use Rattle.instance.proofs.Rows.{headed}
 use Rattle.lookup.specs.declared.row.Match.{Match}
 use Rattle.lookup.specs.declared.row.Match.the-variants.{Identical, Unifies, Apart}
-use Rattle.lookup.specs.Matching.{matching}
 use Rattle.lookup.specs.declared.relation.Examined.{Examined}
 use Rattle.lookup.specs.Examined.{examinedOf}
+use Rattle.lookup.specs.Matching.{matchAfter}
+use Rattle.lookup.specs.Passing.{RowsLeft, limitOf, toldApart, passing}
+use Rattle.lookup.specs.Place.{cellsAt}
+use Rattle.lookup.specs.Probe.{Probes}
 use Rattle.calculus.proofs.KindOne.{row-means}
 use Rattle.calculus.proofs.Examined.{examined-means}
-use Rattle.instance.proofs.Walk.{AtRow, row-here, relation-few, arity-few, tuples-few, Walk, walk-starts}
-use Rattle.calculus.proofs.Tuples.{tuples-here, tuples-other}
+use Rattle.instance.proofs.Walk.{relation-few}
 use Rattle.lookup.proofs.Atom.{truthFrom, truth-starts, truth-ends, truthAfter, truth-step, examinedAfter, examined-step, examined-ends}
+use Rattle.lookup.proofs.Probes.{probe-stands}
+use Rattle.lookup.proofs.Left.{fewer-left, same-step, same-within, same-left}
+use Rattle.lookup.proofs.Passing.{passing-shorter, passed}
 use Rattle.lookup.proofs.relation.stands.Statement.{statement}
 use Rattle.lookup.proofs.relation.stands.Tie as tie
 
@@ -33,31 +40,42 @@ means :
     (_≡_ {A = Examined} (record { truth = t; rows = n }) (examinedOf ts row)) × (MeansStands ts row t × MeansExamined ts row n)
 means ts row p q = (rw (p, q) refl, (row-means ts row p, rw q (examined-means row ts)))
 
+-- none of any tuples
+none-left : (k : ℕ) → k ≡ 0 → (ts us : List (List ℕ)) → take k ts ≡ take k us
+none-left k e ts us = ap (λ (k : ℕ). take k ts) e ∙ sym (ap (λ (k : ℕ). take k us) e)
+
 abbrev Inv-loop : tie.InvT-loop
-Inv-loop words arities relations relation most row arity possible₀ more₀ i₀ possible more i =
-    Walk relations arities words i
-    × (stands (take most (tuples relation (rowsFrom arities 0 words))) (take (arityOf arities relation) row)
-    ≡ truthFrom possible (take more (tuples relation (rowsFrom arities 0 (drop i words)))) (take (arityOf arities relation) row))
-    × (more ≤ length (tuples relation (rowsFrom arities 0 (drop i words)))) × (more ≤ most)
-    × (examined (take most (tuples relation (rowsFrom arities 0 words))) (take (arityOf arities relation) row) + more
-    ≡ most + examined (take more (tuples relation (rowsFrom arities 0 (drop i words)))) (take (arityOf arities relation) row))
+Inv-loop words arities relations relation most row arity asked probe₀ possible₀ more₀ i₀ probe possible more i =
+    RowsLeft relations arities words relation i more
+    × Probes possible asked probe
+    × (stands (take most (tuples relation (rowsFrom arities 0 words))) asked
+    ≡ truthFrom possible (take more (tuples relation (rowsFrom arities 0 (drop i words)))) asked)
+    × (more ≤ most)
+    × (examined (take most (tuples relation (rowsFrom arities 0 words))) asked + more
+    ≡ most + examined (take more (tuples relation (rowsFrom arities 0 (drop i words)))) asked)
 
 abbrev μ-loop : tie.MeasureT-loop
-μ-loop words arities relations relation most row arity possible₀ more₀ i₀ possible more i = length words - i
+μ-loop words arities relations relation most row arity asked probe₀ possible₀ more₀ i₀ probe possible more i = more
 
 module _ (c : tie.Start Inv-loop μ-loop) where
   -- the tuples to examine, and the row that is asked
   abbrev all : List (List ℕ)
   all = take (c .args .most) (tuples (c .args .relation) (rowsFrom (c .args .arities .now) 0 (c .args .words .now)))
 
+  abbrev arity : ℕ
+  arity = arityOf (c .args .arities .now) (c .args .relation)
+
   abbrev asked : List ℕ
-  asked = take (arityOf (c .args .arities .now) (c .args .relation)) (c .args .row .now)
+  asked = take arity (c .args .row .now)
 
   relation-low : c .args .relation < maxRelations
   relation-low = relation-few (c .args .relations) (c .args .arities .now) (c .args .words .now) _ (c .pre .0) (c .pre .1 .0 .0)
 
-  arity-low : arityOf (c .args .arities .now) (c .args .relation) ≤ maxColumns
-  arity-low = arity-few (c .args .relations) (c .args .arities .now) (c .args .words .now) _ (c .pre .0) (c .pre .1 .0 .0)
+  columns : (1 ≤ arity) × (arity ≤ maxColumns)
+  columns = headed _ _ (c .pre .0 .header) .columns _ (c .pre .1 .0 .0)
+
+  size : length asked ≡ arity
+  size = length-take-le arity (c .args .row .now) (omega (arith, columns .1, c .pre .1 .0 .1))
 
 mul-arity : tie.Need-mul-arity Inv-loop μ-loop
 mul-arity c = omega (arith, relation-low (c .before))
@@ -66,15 +84,43 @@ element-copy-out-arity : tie.Need-element-copy-out-arity Inv-loop μ-loop
 element-copy-out-arity c = relation-low (c .before)
 
 cast-arity : tie.Need-cast-arity Inv-loop μ-loop
-cast-arity c = omega (arith, arity-low (c .before .before))
+cast-arity c = omega (arith, columns (c .before .before) .1)
+
+slice-aggregate-asked : tie.Need-slice-aggregate-asked Inv-loop μ-loop
+slice-aggregate-asked c = sym (size (c .before .before .before .before))
+
+probe-at-requires : tie.Need-probe-at-requires Inv-loop μ-loop
+probe-at-requires c κs = let b = c .before .before .before .before in omega (arith, size b, columns b .0)
 
 loop-holds : tie.Need-loop-holds Inv-loop μ-loop
-loop-holds c = (walk-starts _ _ _ (c .before .before .pre .0 .words), truth-starts _ _, c .before .before .pre .1 .1, omega arith, omega arith)
+loop-holds c =
+    let b = c .before .before .before .before .before in (
+      record { within = omega arith; well-formed = b .pre .0 .words; some = b .pre .1 .1 },
+      probe-stands _ _ _ (c .probe-at .ensures) (omega (arith, size b, columns b .0)),
+      truth-starts _ _,
+      omega arith,
+      omega arith,
+    )
 
--- the row at index i
-module _ (c : tie.In-loop Inv-loop μ-loop) where
+mul-cell : tie.Need-mul-cell Inv-loop μ-loop
+mul-cell c = let b = c .before .before .before .before .before .before .before in omega (arith, c .before .loop .inv .1 .column, size b, columns b .1)
+
+shared-slice-read-cell : tie.Need-shared-slice-read-cell Inv-loop μ-loop
+shared-slice-read-cell c = c .before .before .loop .inv .1 .column
+
+next-near-requires : tie.Need-next-near-requires Inv-loop μ-loop
+next-near-requires c κs =
+    let l = c .before .before in
+    let b = l .before .before .before .before .before .before in
+    ((b .pre .0, b .pre .1 .0 .0, omega (arith, l .loop .inv .1 .column, size b)), l .loop .inv .0)
+
+-- the next row that is not passed over, if there is one
+module _ (c : tie.After-next-near Inv-loop μ-loop) where
+  abbrev at : tie.At-loop Inv-loop μ-loop
+  at = c .before .before .before
+
   abbrev start : tie.Start Inv-loop μ-loop
-  start = c .before .before .before .before
+  start = at .before .before .before .before .before .before
 
   abbrev n : ℕ
   n = start .args .relations
@@ -88,26 +134,26 @@ module _ (c : tie.In-loop Inv-loop μ-loop) where
   abbrev relation : ℕ
   relation = start .args .relation
 
-  abbrev cells : List ℕ
-  cells = asked start
-
-  abbrev possible : Bool
-  possible = c .before .loop .possible
-
-  abbrev i : ℕ
-  i = c .before .loop .i
-
-  abbrev w : ℕ
-  w = getD ws i 0
-
-  abbrev behind : List (List ℕ)
-  behind = tuples relation (rowsFrom ars 0 (drop (i + (1 + arityOf ars w)) ws))
-
   abbrev most : ℕ
   most = start .args .most
 
+  abbrev cells : List ℕ
+  cells = asked start
+
+  abbrev column : ℕ
+  column = at .loop .probe .column
+
+  abbrev possible : Bool
+  possible = at .loop .possible
+
+  abbrev test : List ℕ → Bool
+  test = toldApart column (getD cells column 0) (limitOf possible (getD cells column 0))
+
+  abbrev place : ℕ
+  place = c .next-near .result .place
+
   abbrev more : ℕ
-  more = c .before .loop .more
+  more = c .next-near .result .more
 
   abbrev answer : Truth
   answer = stands (all start) cells
@@ -115,90 +161,102 @@ module _ (c : tie.In-loop Inv-loop μ-loop) where
   abbrev charge : ℕ
   charge = examined (all start) cells
 
-  -- rows of the relation are still to come, so words are
-  within : i < length ws
-  within = omega (arith, c .loop-test .taken, c .before .loop .inv .2, tuples-few relation ars (drop i ws), length-drop i ws)
-
-  here : AtRow n ars ws i
-  here = row-here n ars ws i within (c .before .loop .inv .0)
-
-  few : w < maxRelations
-  few = relation-few n ars ws w (start .pre .0) (here .relation)
-
+  -- the rows left before the search and after it
   abbrev coming : List (List ℕ)
-  coming = tuples relation (rowsFrom ars 0 (drop i ws))
+  coming = take (at .loop .more) (tuples relation (rowsFrom ars 0 (drop (at .loop .i) ws)))
 
-  abbrev this : List ℕ
-  this = take (arityOf ars relation) (drop (i + 1) ws)
+  abbrev rest : List (List ℕ)
+  rest = take more (tuples relation (rowsFrom ars 0 (drop place ws)))
 
-  -- the tuples still to come, if the row at index i is of another relation and if it is of this one
-  coming-other : (w ≡ relation → ⊥) → coming ≡ behind
-  coming-other ne = ap (tuples relation) (here .rows) ∙ tuples-other relation _ _ ne
+  skipped : rest ≡ passing test coming
+  skipped = c .next-near .ensures .0 ∙ ap (λ (k : ℕ). passing (toldApart column (getD cells column 0) k) coming) (at .loop .inv .1 .low)
 
-  coming-same : w ≡ relation → coming ≡ this ∷ behind
-  coming-same e =
-      ap (tuples relation) (here .rows) ∙ tuples-here relation _ _ e ∙ ap (λ (r : ℕ). take (arityOf ars r) (drop (i + 1) ws) ∷ behind) e
+  left : RowsLeft n ars ws relation place more
+  left = c .next-near .ensures .1 .0
 
-  -- the same of those to examine
-  left-other : (w ≡ relation → ⊥) → take more coming ≡ take more behind
-  left-other ne = ap (take more) (coming-other ne)
+  coming-size : length coming ≡ at .loop .more
+  coming-size = length-take-le _ _ (at .loop .inv .0 .some)
 
-  left-same : w ≡ relation → take more coming ≡ this ∷ take (more - 1) behind
-  left-same e =
-      let one : more ≡ suc (more - 1) = omega (arith, c .loop-test .taken) in
-      ap (take more) (coming-same e) ∙ ap (λ (k : ℕ). take k (this ∷ behind)) one
+  rest-size : length rest ≡ more
+  rest-size = length-take-le _ _ (left .some)
 
-  seen : (ts : List (List ℕ)) → take more coming ≡ ts → answer ≡ truthFrom possible ts cells
-  seen ts e = c .before .loop .inv .1 ∙ ap (λ (ts : List (List ℕ)). truthFrom possible ts cells) e
+  fewer : more ≤ at .loop .more
+  fewer = omega (arith, rest-size, ap length skipped, passing-shorter test coming, coming-size)
 
-  counted : (ts : List (List ℕ)) → take more coming ≡ ts → charge + more ≡ most + examined ts cells
-  counted ts e = c .before .loop .inv .4 ∙ ap (λ (ts : List (List ℕ)). most + examined ts cells) e
+  -- they say the same
+  same-after : (truthFrom possible coming cells ≡ truthFrom possible rest cells) × (examined coming cells + length rest ≡ examined rest cells + length coming)
+  same-after = rw skipped (passed possible column cells coming)
 
-  module _ (e : w ≡ relation) (m : Match) (told : matching cells this ≡ m) where
-    same : answer ≡ truthAfter m possible (take (more - 1) behind) cells
-    same = seen _ (left-same e) ∙ truth-step possible _ (take (more - 1) behind) cells ∙ ap (λ (m : Match). truthAfter m possible (take (more - 1) behind) cells) told
+  seen : answer ≡ truthFrom possible rest cells
+  seen = at .loop .inv .2 ∙ same-after .0
 
-    counted-same : charge + more ≡ most + examinedAfter m (take (more - 1) behind) cells
-    counted-same =
-        counted _ (left-same e) ∙
-        ap (λ (n : ℕ). most + n) (examined-step _ (take (more - 1) behind) cells ∙ ap (λ (m : Match). examinedAfter m (take (more - 1) behind) cells) told)
+  counted : charge + more ≡ most + examined rest cells
+  counted = omega (arith, at .loop .inv .4, same-after .1, coming-size, rest-size)
 
-  one-less : w ≡ relation → more - 1 ≤ length behind
-  one-less e = omega (arith, c .before .loop .inv .2, ap length (coming-same e))
+  -- the row at that place
+  module _ (some : 0 < more) where
+    abbrev next : ℕ
+    next = place + 1 + arity start
 
-  no-less : (w ≡ relation → ⊥) → more ≤ length behind
-  no-less ne = omega (arith, c .before .loop .inv .2, ap length (coming-other ne))
+    sum : place + (1 + arity start) ≡ next
+    sum = omega arith
 
-mul-w : tie.Need-mul-w Inv-loop μ-loop
-mul-w c = omega (arith, within c)
+    abbrev this : List ℕ
+    this = cellsAt ws place (length cells)
 
-shared-slice-read-w : tie.Need-shared-slice-read-w Inv-loop μ-loop
-shared-slice-read-w c = within (c .before)
+    abbrev behind : List (List ℕ)
+    behind = take (more - 1) (tuples relation (rowsFrom ars 0 (drop next ws)))
 
-add-compare : tie.Need-add-compare Inv-loop μ-loop
-add-compare c = omega arith
+    is : getD ws place 0 ≡ relation
+    is = c .next-near .ensures .1 .1 some
 
-compare-requires : tie.Need-compare-requires Inv-loop μ-loop
-compare-requires c κs =
-    let b = c .before .before in
-    let cut : arityOf (ars b) (w b) ≡ arityOf (ars b) (relation b) = ap (arityOf (ars b)) (c .if1 .taken) in
-    (omega (arith, here b .next .within), arity-low (start b), start b .pre .1 .0 .1)
+    within : next ≤ length ws
+    within = omega (arith, same-within _ _ _ _ _ left some is)
+
+    after : RowsLeft n ars ws relation next (more - 1)
+    after = subst (λ (k : ℕ). RowsLeft n ars ws relation k (more - 1)) sum (same-left _ _ _ _ _ left some is (more - 1) (omega (arith, some)))
+
+    here : rest ≡ this ∷ behind
+    here =
+        let one : more ≡ suc (more - 1) = omega (arith, some) in
+        let step =
+        same-step _ _ _ _ _ left some is ∙ ap (λ (k : ℕ). cellsAt ws place (arity start) ∷ tuples relation (rowsFrom ars 0 (drop k ws))) sum
+        in
+        ap (take more) step ∙ ap (λ (k : ℕ). take k (cellsAt ws place (arity start) ∷ tuples relation (rowsFrom ars 0 (drop next ws)))) one ∙
+        ap (λ (k : ℕ). cellsAt ws place k ∷ behind) (sym (size start))
+
+    module _ (m : Match) (told : matchAfter possible cells this ≡ m) where
+      same : answer ≡ truthAfter m possible behind cells
+      same =
+          seen ∙ ap (λ (ts : List (List ℕ)). truthFrom possible ts cells) here ∙ truth-step possible this behind cells ∙
+          ap (λ (m : Match). truthAfter m possible behind cells) told
+
+      counted-same : charge + more ≡ most + examinedAfter m behind cells
+      counted-same =
+          counted ∙
+          ap (λ (n : ℕ). most + n)
+          (ap (λ (ts : List (List ℕ)). examined ts cells) here ∙ examined-step possible this behind cells ∙ ap (λ (m : Match). examinedAfter m behind cells) told)
+
+compare-after-requires : tie.Need-compare-after-requires Inv-loop μ-loop
+compare-after-requires c κs =
+    let b = c .before in (omega (arith, within b (c .if1 .taken), size (start b)), omega (arith, size (start b), columns (start b) .1))
 
 enum-told : tie.Need-enum-told Inv-loop μ-loop
 enum-told c = search needs
 
 sub-examined : tie.Need-sub-examined Inv-loop μ-loop
-sub-examined c = c .before .before .before .before .before .before .loop .inv .3
+sub-examined c = let b = c .before .before .before .before in omega (arith, fewer b, at b .loop .inv .3)
 
 add-examined : tie.Need-add-examined Inv-loop μ-loop
-add-examined c = let b = c .before .before .before .before .before in omega (arith, b .loop-test .taken, start b .fits .most)
+add-examined c =
+    let b = c .before .before .before .before in omega (arith, fewer b, at b .loop .inv .3, c .before .before .before .if1 .taken, start b .fits .most)
 
 returns : tie.Need-returns Inv-loop μ-loop
 returns c =
-    let b = c .before .before .before .before .before in
-    let is = c .before .before .before .if1 .taken in
-    let told = sym (c .before .before .compare .ensures .0) ∙ c .enum-told .given .1 in
-    means _ _ (sym (same b is Identical told)) (omega (arith, counted-same b is Identical told, b .before .loop .inv .3))
+    let b = c .before .before .before .before in
+    let some = c .before .before .before .if1 .taken in
+    let told = sym (c .before .before .compare-after .ensures) ∙ c .enum-told .given .1 in
+    means _ _ (sym (same b some Identical told)) (omega (arith, counted-same b some Identical told, fewer b, at b .loop .inv .3))
 
 enum-told-2 : tie.Need-enum-told-2 Inv-loop μ-loop
 enum-told-2 c = search needs
@@ -206,56 +264,68 @@ enum-told-2 c = search needs
 enum-told-3 : tie.Need-enum-told-3 Inv-loop μ-loop
 enum-told-3 c = search needs
 
+next-probe-requires : tie.Need-next-probe-requires Inv-loop μ-loop
+next-probe-requires c κs =
+    let b = c .before .before .before in (omega (arith, within b (c .before .before .if1 .taken), size (start b)), at b .loop .inv .1)
+
 sub-more : tie.Need-sub-more Inv-loop μ-loop
-sub-more c = omega (arith, c .before .before .before .before .loop-test .taken)
+sub-more c = omega (arith, c .before .before .before .if1 .taken)
 
-cast-i : tie.Need-cast-i Inv-loop μ-loop
-cast-i c = omega (arith, few (c .before .before))
+-- after the row at that place
+module _ (c : tie.After-struct-known Inv-loop μ-loop) where
+  abbrev came : tie.At-match-came Inv-loop μ-loop
+  came = c .before .before
 
-mul-i : tie.Need-mul-i Inv-loop μ-loop
-mul-i c = omega (arith, few (c .before .before))
+  abbrev b : tie.After-next-near Inv-loop μ-loop
+  b = came .before .before .before
 
-element-copy-out-i : tie.Need-element-copy-out-i Inv-loop μ-loop
-element-copy-out-i c = few (c .before .before)
-
-cast-i-2 : tie.Need-cast-i-2 Inv-loop μ-loop
-cast-i-2 c = omega (arith, here (c .before .before .before) .next .within)
+  abbrev some : 0 < more b
+  some = came .before .before .if1 .taken
 
 add-i : tie.Need-add-i Inv-loop μ-loop
-add-i c = omega (arith, here (c .before .before .before) .next .within)
+add-i c = omega (arith, within (b c) (some c), start (b c) .pre .0 .few)
 
 add-i-2 : tie.Need-add-i-2 Inv-loop μ-loop
-add-i-2 c = omega (arith, here (c .before .before .before) .next .within)
+add-i-2 c = omega (arith, within (b c) (some c), start (b c) .pre .0 .few)
 
 loop-less : tie.Need-loop-less Inv-loop μ-loop
-loop-less c = omega (arith, here (c .before .before .before) .next .within)
+loop-less c = omega (arith, fewer (b c), some c)
 
 loop-again : tie.Need-loop-again Inv-loop μ-loop
 loop-again c =
-    let b = c .before .before .before in (
-      here b .next,
+    let told = sym (came c .before .compare-after .ensures) in (
+      after (b c) (some c),
+      c .before .next-probe .ensures,
       ⊎-elim
-          (λ a. rw (a .3, a .4) (⊎-elim
-          (λ m. rw (m .2) (same b (a .0 .taken) Unifies (sym (a .1 .ensures .0) ∙ m .1 .given .1)))
-          (λ m. rw (m .2) (same b (a .0 .taken) Apart (sym (a .1 .ensures .0) ∙ m .1 .given .1)))
-          (a .2 .came)))
-          (λ a. rw (a .1, a .2) (seen b _ (left-other b (a .0 .left))))
-          (c .before .if1 .came),
-      ⊎-elim (λ a. rw (a .4) (one-less b (a .0 .taken))) (λ a. rw (a .2) (no-less b (a .0 .left))) (c .before .if1 .came),
-      ⊎-elim (λ a. rw (a .4) (omega (arith, b .before .loop .inv .3))) (λ a. rw (a .2) (b .before .loop .inv .3)) (c .before .if1 .came),
+          (λ m. rw (m .2) (same (b c) (some c) Unifies (told ∙ m .1 .given .1)))
+          (λ m. rw (m .2) (same (b c) (some c) Apart (told ∙ m .1 .given .1)))
+          (came c .match .came),
+      omega (arith, fewer (b c), at (b c) .loop .inv .3),
       ⊎-elim
-          (λ a. rw (a .4) (⊎-elim
-          (λ m. omega (arith, b .loop-test .taken, counted-same b (a .0 .taken) Unifies (sym (a .1 .ensures .0) ∙ m .1 .given .1)))
-          (λ m. omega (arith, b .loop-test .taken, counted-same b (a .0 .taken) Apart (sym (a .1 .ensures .0) ∙ m .1 .given .1)))
-          (a .2 .came)))
-          (λ a. rw (a .2) (counted b _ (left-other b (a .0 .left))))
-          (c .before .if1 .came),
+          (λ m. omega (arith, some c, counted-same (b c) (some c) Unifies (told ∙ m .1 .given .1)))
+          (λ m. omega (arith, some c, counted-same (b c) (some c) Apart (told ∙ m .1 .given .1)))
+          (came c .match .came),
+    )
+
+loop-less-2 : tie.Need-loop-less-2 Inv-loop μ-loop
+loop-less-2 c = omega (arith, c .if1 .left, c .before .before .before .loop-test .taken)
+
+loop-again-2 : tie.Need-loop-again-2 Inv-loop μ-loop
+loop-again-2 c =
+    let b = c .before in
+    let none : more b ≡ 0 = omega (arith, c .if1 .left) in
+    let left-none : rest b ≡ take (more b) (tuples (relation b) (rowsFrom (ars b) 0 (drop (at b .loop .i) (ws b)))) = none-left _ none _ _ in (
+      fewer-left _ _ _ _ _ (at b .loop .inv .0) _ (fewer b),
+      at b .loop .inv .1,
+      seen b ∙ ap (λ (ts : List (List ℕ)). truthFrom (possible b) ts (cells b)) left-none,
+      omega (arith, fewer b, at b .loop .inv .3),
+      counted b ∙ ap (λ (ts : List (List ℕ)). most b + examined ts (cells b)) left-none,
     )
 
 -- after the last row to examine
 module _ (c : tie.After-loop Inv-loop μ-loop) where
   abbrev given : tie.Start Inv-loop μ-loop
-  given = c .before .before .before .before
+  given = c .before .before .before .before .before .before .before
 
   abbrev beyond : List (List ℕ)
   beyond = tuples (given .args .relation) (rowsFrom (given .args .arities .now) 0 (drop (c .before .loop .i) (given .args .words .now)))
@@ -264,7 +334,7 @@ module _ (c : tie.After-loop Inv-loop μ-loop) where
   none = let zero : c .before .loop .more ≡ 0 = omega (arith, c .loop-test .left) in ap (λ (k : ℕ). take k beyond) zero
 
   at-end : (possible : Bool) → c .before .loop .possible ≡ possible → stands (all given) (asked given) ≡ cond possible Unknown False
-  at-end possible e = c .before .loop .inv .1 ∙ rw (e, none) (truth-ends possible _)
+  at-end possible e = c .before .loop .inv .2 ∙ rw (e, none) (truth-ends possible _)
 
   all-examined : given .args .most ≡ examined (all given) (asked given)
   all-examined =
@@ -286,25 +356,26 @@ stands-spec =
     mul-arity
     element-copy-out-arity
     cast-arity
+    slice-aggregate-asked
+    probe-at-requires
     loop-holds
-    mul-w
-    shared-slice-read-w
-    add-compare
-    compare-requires
+    mul-cell
+    shared-slice-read-cell
+    next-near-requires
+    compare-after-requires
     enum-told
     sub-examined
     add-examined
     returns
     enum-told-2
     enum-told-3
+    next-probe-requires
     sub-more
-    cast-i
-    mul-i
-    element-copy-out-i
-    cast-i-2
     add-i
     add-i-2
     loop-less
     loop-again
+    loop-less-2
+    loop-again-2
     returns-2
     returns-3)

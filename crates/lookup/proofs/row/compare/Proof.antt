@@ -1,132 +1,150 @@
--- `lookup::row::compare` meets its contract: the columns from index i decide. Assumes nothing.
-use Prim.Native.Nat.{ℕ, _≤_, _-_, _+_}
-use mathlib.Core.Path.{_≡_, refl, sym, ap₂, _∙_}
+-- `lookup::row::compare` meets its contract: the first column that differs decides, with those after it. Assumes nothing.
+use Prim.Native.Nat.{ℕ, _<_, _+_}
+use mathlib.Core.Path.{_≡_, refl, sym, ap, ap₂, subst, _∙_}
+use mathlib.Core.Logic.{⊎-elim}
 use mathlib.Core.List.{List, _∷_}
 use native.Mathlib.Omega.{arith}
-use lib.ListN.{getD, take, drop}
-use Rattle.calculus.specs.Closed.{identical}
-use Rattle.calculus.specs.Unify.{unifies}
+use lib.ListN.{length, getD, drop}
+use Rattle.calculus.specs.Unify.{bind, unifiesWith}
+use Rattle.calculus.proofs.Lists.{drop-step}
 use Rattle.lookup.specs.declared.row.Match.{Match}
-use Rattle.lookup.specs.Matching.{unified, matching}
-use Rattle.lookup.proofs.Columns.{first-step, first-end, part-step}
-use Rattle.lookup.proofs.Matching.{matching-alike, matching-differs, matching-apart, row-told}
+use Rattle.lookup.specs.Matching.{alike, unified, matching}
+use Rattle.lookup.specs.Place.{cellsAt, comparedAt}
+use Rattle.lookup.proofs.Alike.{alike-identical, alike-other, matching-past}
+use Rattle.lookup.proofs.Columns.{cells-size, cells-at, cells-step}
+use Rattle.lookup.proofs.Matching.{matching-apart, matching-left, matching-right}
+use Rattle.lookup.proofs.Meaning.{row-told}
 use Rattle.lookup.proofs.row.compare.Statement.{statement}
 use Rattle.lookup.proofs.row.compare.Tie as tie
 
-abbrev Inv-loop : tie.InvT-loop
-Inv-loop words at row arity i₀ i =
-    (i ≤ arity)
-    × (matching (take arity row) (take arity (drop at words)) ≡ matching (drop i (take arity row)) (drop i (take arity (drop at words))))
+alike-requires : tie.Need-alike-requires
+alike-requires c κs = c .before .before .pre .0
 
-abbrev μ-loop : tie.MeasureT-loop
-μ-loop words at row arity i₀ i = arity - i
+-- the columns that are alike
+module _ (c : tie.After-alike) where
+  abbrev start : tie.Start
+  start = c .before .before .before
 
-loop-holds : tie.Need-loop-holds Inv-loop μ-loop
-loop-holds c = (omega arith, refl)
-
-mul-x : tie.Need-mul-x Inv-loop μ-loop
-mul-x c = omega arith
-
-element-copy-out-x : tie.Need-element-copy-out-x Inv-loop μ-loop
-element-copy-out-x c = omega arith
-
-add-y : tie.Need-add-y Inv-loop μ-loop
-add-y c = omega arith
-
-mul-y : tie.Need-mul-y Inv-loop μ-loop
-mul-y c = omega arith
-
-shared-slice-read-y : tie.Need-shared-slice-read-y Inv-loop μ-loop
-shared-slice-read-y c = omega arith
-
--- the column at index i
-module _ (c : tie.In-loop Inv-loop μ-loop) where
   abbrev words : List ℕ
-  words = c .before .before .before .args .words .now
+  words = start .args .words .now
+
+  abbrev place : ℕ
+  place = start .args .place
 
   abbrev row : List ℕ
-  row = c .before .before .before .args .row .now
+  row = start .args .row .now
 
-  abbrev at : ℕ
-  at = c .before .before .before .args .at
-
-  abbrev arity : ℕ
-  arity = c .before .before .before .args .arity
+  abbrev cells : List ℕ
+  cells = cellsAt words place (length row)
 
   abbrev i : ℕ
-  i = c .before .loop .i
+  i = c .alike .result
+
+  is : i ≡ alike row cells
+  is = c .alike .ensures
+
+  size : length row ≡ length cells
+  size = cells-size words place (length row) (start .pre .0)
+
+returns : tie.Need-returns
+unfolding matching
+returns c =
+    let b = c .before in
+    row-told (row b) (cells b) (rw (alike-identical (row b) (cells b) (size b) (sym (is b) ∙ c .if1 .taken)) refl)
+
+-- the first column that differs
+module _ (c : tie.Else1) where
+  abbrev at : tie.After-alike
+  at = c .before
 
   abbrev x : ℕ
-  x = getD row i 0
+  x = getD (row at) (i at) 0
 
   abbrev y : ℕ
-  y = getD words (at + i) 0
+  y = getD (words at) (place at + 1 + i at) 0
 
   abbrev xs : List ℕ
-  xs = drop (i + 1) (take arity row)
+  xs = drop (i at + 1) (row at)
 
   abbrev ys : List ℕ
-  ys = drop (i + 1) (take arity (drop at words))
+  ys = drop (i at + 1) (cells at)
 
-  abbrev answer : Match
-  answer = matching (take arity row) (take arity (drop at words))
+  low : i at < length (row at)
+  low = omega (arith, is at, alike-other (row at) (cells at) (size at) (λ e. c .if1 .left (is at ∙ e)) .0)
 
-  column : drop i (take arity row) ≡ x ∷ xs
-  column = first-step row arity i (omega arith) (omega arith)
+  ne : x ≡ y → ⊥
+  ne e =
+      let differ = alike-other (row at) (cells at) (size at) (λ e. c .if1 .left (is at ∙ e)) .2 in
+      let same : getD (row at) (i at) 0 ≡ getD (cells at) (i at) 0 = e ∙ sym (cells-at (words at) (place at) (length (row at)) (i at) low) in
+      differ (subst (λ (k : ℕ). getD (row at) k 0 ≡ getD (cells at) k 0) (is at) same)
 
-  column-too : drop i (take arity (drop at words)) ≡ y ∷ ys
-  column-too = part-step words at arity i (omega arith) (omega arith)
+  seen : comparedAt (words at) (place at) (row at) ≡ matching (x ∷ xs) (y ∷ ys)
+  seen =
+      matching-past (row at) (cells at)
+      ∙ ap (λ (k : ℕ). matching (drop k (row at)) (drop k (cells at))) (sym (is at))
+      ∙ ap₂ matching (drop-step (row at) (i at) low) (cells-step (words at) (place at) (length (row at)) (i at) (start at .pre .0) low)
 
-  seen : answer ≡ matching (x ∷ xs) (y ∷ ys)
-  seen = c .before .loop .inv .1 ∙ ap₂ matching column column-too
+mul-asked : tie.Need-mul-asked
+mul-asked c = omega (arith, low c)
 
-  differs : (x ≡ y → ⊥) → answer ≡ unified (unifies (drop i (take arity row)) (drop i (take arity (drop at words))))
-  differs ne = seen ∙ matching-differs x y xs ys ne ∙ ap₂ (λ (l k : List ℕ). unified (unifies l k)) (sym column) (sym column-too)
+shared-slice-read-asked : tie.Need-shared-slice-read-asked
+shared-slice-read-asked c = low (c .before)
 
-returns : tie.Need-returns Inv-loop μ-loop
-returns c =
-    let b = c .before .before .before .before .before in
-    row-told _ _ (sym (seen b ∙ matching-apart (x b) (y b) (xs b) (ys b) (c .before .before .if1 .taken) (c .before .if2 .taken) (c .if3 .taken)))
+add-found : tie.Need-add-found
+add-found c = omega (arith, low (c .before), start (at (c .before)) .pre .0)
 
-unify-requires : tie.Need-unify-requires Inv-loop μ-loop
-unify-requires c κs = let p = c .before .before .before .before .before .before .before .pre in (p .0, p .1, p .2, omega arith)
+add-found-2 : tie.Need-add-found-2
+add-found-2 c = omega (arith, low (c .before), start (at (c .before)) .pre .0)
 
-returns-2 : tie.Need-returns-2 Inv-loop μ-loop
-returns-2 c = row-told _ _ (c .unify .ensures ∙ sym (differs (c .before .before .before .before .before) (c .before .before .if1 .taken)))
+mul-found : tie.Need-mul-found
+mul-found c = omega (arith, low (c .before), start (at (c .before)) .pre .0)
 
-add-i : tie.Need-add-i Inv-loop μ-loop
-add-i c = omega arith
+shared-slice-read-found : tie.Need-shared-slice-read-found
+shared-slice-read-found c = omega (arith, low (c .before .before), start (at (c .before .before)) .pre .0)
 
-loop-less : tie.Need-loop-less Inv-loop μ-loop
-loop-less c = omega arith
+returns-2 : tie.Need-returns-2
+returns-2 c =
+    let b = c .before .before .before .before in
+    row-told _ _ (sym (seen b ∙ matching-apart (x b) (y b) (xs b) (ys b) (ne b) (c .before .if2 .taken) (c .if3 .taken)))
 
-loop-again : tie.Need-loop-again Inv-loop μ-loop
-loop-again c = let b = c .before .before .before in (omega arith, seen b ∙ matching-alike (x b) (y b) (xs b) (ys b) (c .if1 .left))
+-- one of its cells is a null, which is bound to the other
+module _ (c : tie.Joined2) where
+  abbrev here : tie.Else1
+  here = c .before .before .before
 
-returns-3 : tie.Need-returns-3 Inv-loop μ-loop
-unfolding matching identical
-returns-3 c =
-    let a = c .before .before .before .args in
-    let l : a .arity ≤ c .before .loop .i = omega arith in
-    row-told (take (a .arity) (a .row .now)) (take (a .arity) (drop (a .at) (a .words .now)))
-    (rw (c .before .loop .inv .1, first-end (a .row .now) (a .arity) (c .before .loop .i) l, first-end (drop (a .at) (a .words .now)) (a .arity) (c .before .loop .i) l) refl)
+  abbrev after : ℕ → ℕ → Match
+  after null cell = unified (unifiesWith (bind null cell) (xs here) (ys here))
+
+  bound : comparedAt (words (at here)) (place (at here)) (row (at here)) ≡ after (c .if2 .null) (c .if2 .cell)
+  bound =
+      seen here ∙
+      ⊎-elim
+      (λ a. matching-right (x here) (y here) (xs here) (ys here) (ne here) (a .0 .taken) (a .1 .left) ∙ ap₂ after (sym (a .2)) (sym (a .3)))
+      (λ a. matching-left (x here) (y here) (xs here) (ys here) (ne here) (a .0 .left) ∙ ap₂ after (sym (a .1)) (sym (a .2)))
+      (c .if2 .came)
+
+add-unify : tie.Need-add-unify
+add-unify c = omega (arith, low (here c), start (at (here c)) .pre .1)
+
+unify-requires : tie.Need-unify-requires
+unify-requires c κs = start (at (here c)) .pre
+
+returns-3 : tie.Need-returns-3
+returns-3 c = row-told _ _ (c .unify .ensures ∙ sym (bound (c .before)))
 
 pub compare-spec : {M : Type 1} → statement M
 compare-spec =
     tie.close
     (tie.spec
-    Inv-loop
-    μ-loop
-    loop-holds
-    mul-x
-    element-copy-out-x
-    add-y
-    mul-y
-    shared-slice-read-y
+    alike-requires
     returns
-    unify-requires
+    mul-asked
+    shared-slice-read-asked
+    add-found
+    add-found-2
+    mul-found
+    shared-slice-read-found
     returns-2
-    add-i
-    loop-less
-    loop-again
+    add-unify
+    unify-requires
     returns-3)

@@ -1,0 +1,68 @@
+-- The rows of a relation that are left at a place: the row there, and those left after it. Assumes nothing.
+use Prim.Native.Nat.{ℕ, _+_, _≤_, _<_}
+use mathlib.Core.Path.{_≡_, sym, ap, subst, _∙_}
+use mathlib.Core.List.{List, _∷_}
+use native.Mathlib.Omega.{arith}
+use lib.ListN.{length, getD, drop, length-drop}
+use Rattle.calculus.specs.Closed.{tuples}
+use Rattle.calculus.proofs.Tuples.{tuples-here, tuples-other}
+use Rattle.instance.specs.Header.{arityOf}
+use Rattle.instance.specs.Rows.{rowsFrom}
+use Rattle.instance.proofs.Walk.{Walk, AtRow, row-here, tuples-few}
+use Rattle.lookup.specs.Passing.{RowsLeft}
+use Rattle.lookup.specs.Place.{cellsAt}
+
+module _ (n : ℕ) (ars ws : List ℕ) (relation i : ℕ) where
+  -- the tuples that are left at index k
+  abbrev leftAt : ℕ → List (List ℕ)
+  leftAt k = tuples relation (rowsFrom ars 0 (drop k ws))
+
+  module _ {m : ℕ} (left : RowsLeft n ars ws relation i m) where
+    abbrev walk : Walk n ars ws i
+    walk = record { within = left .within; well-formed = left .well-formed }
+
+    -- words are left if a row is
+    pub words-left : 0 < m → i < length ws
+    words-left some = omega (arith, some, left .some, tuples-few relation ars (drop i ws), length-drop i ws)
+
+    pub row-left : 0 < m → AtRow n ars ws i
+    row-left some = row-here n ars ws i (words-left some) walk
+
+    -- fewer are left, too
+    pub fewer-left : (k : ℕ) → k ≤ m → RowsLeft n ars ws relation i k
+    fewer-left k l = record { within = left .within; well-formed = left .well-formed; some = omega (arith, l, left .some) }
+
+    -- and more, if so many tuples are
+    pub more-left : (k : ℕ) → k ≤ length (leftAt i) → RowsLeft n ars ws relation i k
+    more-left k l = record { within = left .within; well-formed = left .well-formed; some = l }
+
+    -- past a row of another relation
+    module _ (some : 0 < m) (ne : getD ws i 0 ≡ relation → ⊥) where
+      abbrev past : ℕ
+      past = i + (1 + arityOf ars (getD ws i 0))
+
+      pub other-same : leftAt past ≡ leftAt i
+      other-same = sym (ap (tuples relation) (row-left some .rows) ∙ tuples-other relation _ _ ne)
+
+      pub other-left : RowsLeft n ars ws relation past m
+      other-left =
+          let next = row-left some .next in
+          record { within = next .within; well-formed = next .well-formed; some = omega (arith, left .some, ap length other-same) }
+
+    -- past a row of this relation
+    module _ (some : 0 < m) (is : getD ws i 0 ≡ relation) where
+      abbrev next : ℕ
+      next = i + (1 + arityOf ars relation)
+
+      pub same-step : leftAt i ≡ cellsAt ws i (arityOf ars relation) ∷ leftAt next
+      same-step =
+          ap (tuples relation) (row-left some .rows) ∙ tuples-here relation _ _ is ∙
+          ap (λ (r : ℕ). cellsAt ws i (arityOf ars r) ∷ leftAt (i + (1 + arityOf ars r))) is
+
+      pub same-within : next ≤ length ws
+      same-within = omega (arith, row-left some .next .within, ap (arityOf ars) is)
+
+      pub same-left : (k : ℕ) → k + 1 ≤ m → RowsLeft n ars ws relation next k
+      same-left k l =
+          let walk-on : Walk n ars ws next = subst (λ (r : ℕ). Walk n ars ws (i + (1 + arityOf ars r))) is (row-left some .next) in
+          record { within = walk-on .within; well-formed = walk-on .well-formed; some = omega (arith, l, left .some, ap length same-step) }

@@ -1,0 +1,210 @@
+-- `lookup::rows::next_row` meets its contract: the rows left at index i are those left at the start. Assumes nothing.
+use Prim.Native.Nat.{ℕ, _<_, _-_, _+_}
+use mathlib.Core.Path.{_≡_, refl, sym, ap, _∙_}
+use mathlib.Core.Logic.{⊎-elim}
+use mathlib.Core.List.{List}
+use native.Mathlib.Omega.{arith}
+use lib.ListN.{length, getD, drop}
+use Rattle.calculus.specs.Closed.{tuples}
+use Rattle.instance.specs.Header.{arityOf, maxRelations}
+use Rattle.instance.specs.Rows.{rowsFrom}
+use Rattle.instance.proofs.Walk.{AtRow, relation-few}
+use Rattle.lookup.specs.Passing.{RowsLeft}
+use Rattle.lookup.proofs.Left.{words-left, row-left, other-same, other-left}
+use Rattle.lookup.proofs.rows.next_row.Statement.{statement}
+use Rattle.lookup.proofs.rows.next_row.Tie as tie
+
+abbrev Inv-loop : tie.InvT-loop
+Inv-loop words arities relations relation place other₀ step₀ i₀ w₀ other step i w =
+    RowsLeft relations arities words relation i 1
+    × (tuples relation (rowsFrom arities 0 (drop i words)) ≡ tuples relation (rowsFrom arities 0 (drop place words)))
+    × (w ≡ getD words i 0)
+    × ((other ≡ relation → ⊥) → step ≡ 1 + arityOf arities other)
+
+abbrev μ-loop : tie.MeasureT-loop
+μ-loop words arities relations relation place other₀ step₀ i₀ w₀ other step i w = length words - i
+
+-- past a row of another relation
+passed-over :
+    (n : ℕ) (ars ws : List ℕ) (relation k step : ℕ) → RowsLeft n ars ws relation k 1 → (getD ws k 0 ≡ relation → ⊥) → step ≡ 1 + arityOf ars (getD ws k 0) →
+    RowsLeft n ars ws relation (k + step) 1 × (tuples relation (rowsFrom ars 0 (drop (k + step) ws)) ≡ tuples relation (rowsFrom ars 0 (drop k ws)))
+passed-over n ars ws relation k step left ne e = rw e (other-left _ _ _ _ _ left (omega arith) ne, other-same _ _ _ _ _ left (omega arith) ne)
+
+mul-w : tie.Need-mul-w Inv-loop μ-loop
+mul-w c = omega (arith, words-left _ _ _ _ _ (c .pre .1) (omega arith))
+
+shared-slice-read-w : tie.Need-shared-slice-read-w Inv-loop μ-loop
+shared-slice-read-w c = words-left _ _ _ _ _ (c .before .pre .1) (omega arith)
+
+loop-holds : tie.Need-loop-holds Inv-loop μ-loop
+loop-holds c = (c .before .pre .1, refl, refl, λ ne. absurd (ne refl))
+
+-- the row at index i, which is of another relation
+module _ (c : tie.In-loop Inv-loop μ-loop) where
+  abbrev start : tie.Start Inv-loop μ-loop
+  start = c .before .before .before
+
+  abbrev n : ℕ
+  n = start .args .relations
+
+  abbrev ars : List ℕ
+  ars = start .args .arities .now
+
+  abbrev ws : List ℕ
+  ws = start .args .words .now
+
+  abbrev relation : ℕ
+  relation = start .args .relation
+
+  abbrev i : ℕ
+  i = c .before .loop .i
+
+  abbrev w : ℕ
+  w = c .before .loop .w
+
+  abbrev left : RowsLeft n ars ws relation i 1
+  left = c .before .loop .inv .0
+
+  is : w ≡ getD ws i 0
+  is = c .before .loop .inv .2
+
+  here : AtRow n ars ws i
+  here = row-left _ _ _ _ _ left (omega arith)
+
+  few : w < maxRelations
+  few = rw is (relation-few n ars ws _ (start .pre .0 .0) (here .relation))
+
+  differs : getD ws i 0 ≡ relation → ⊥
+  differs e = c .loop-test .taken (is ∙ e)
+
+  -- the length of this row
+  abbrev size : ℕ
+  size = 1 + arityOf ars (getD ws i 0)
+
+  kept : (step : ℕ) → step ≡ size →
+      RowsLeft n ars ws relation (i + step) 1 × (tuples relation (rowsFrom ars 0 (drop (i + step) ws)) ≡ tuples relation (rowsFrom ars 0 (drop i ws)))
+  kept step e = passed-over n ars ws relation i step left differs e
+
+cast-step : tie.Need-cast-step Inv-loop μ-loop
+cast-step c = omega (arith, few (c .before))
+
+mul-step : tie.Need-mul-step Inv-loop μ-loop
+mul-step c = omega (arith, few (c .before))
+
+element-copy-out-step : tie.Need-element-copy-out-step Inv-loop μ-loop
+element-copy-out-step c = few (c .before)
+
+cast-step-2 : tie.Need-cast-step-2 Inv-loop μ-loop
+cast-step-2 c = let b = c .before .before in omega (arith, here b .next .within, ap (arityOf (ars b)) (is b))
+
+add-step : tie.Need-add-step Inv-loop μ-loop
+add-step c = let b = c .before .before in omega (arith, here b .next .within, ap (arityOf (ars b)) (is b))
+
+-- the step that is taken is the length of this row, whether it was looked up here or before
+module _ (c : tie.Joined1 Inv-loop μ-loop) where
+  abbrev at : tie.In-loop Inv-loop μ-loop
+  at = c .before
+
+  abbrev other : ℕ
+  other = c .if1 .other
+
+  abbrev step : ℕ
+  step = c .if1 .step
+
+  known : (other ≡ w at) × (step ≡ 1 + arityOf (ars at) (w at))
+  known =
+      ⊎-elim
+      (λ a. (a .2, a .3))
+      (λ a.
+      let same : w at ≡ at .before .loop .other = a .0 .left in
+      (a .1 ∙ sym same, a .2 ∙ at .before .loop .inv .3 (λ f. at .loop-test .taken (same ∙ f)) ∙ ap (λ (r : ℕ). 1 + arityOf (ars at) r) (sym same)))
+      (c .if1 .came)
+
+  other-differs : other ≡ relation at → ⊥
+  other-differs e = at .loop-test .taken (sym (known .0) ∙ e)
+
+  stepped : step ≡ 1 + arityOf (ars at) other
+  stepped = known .1 ∙ ap (λ (r : ℕ). 1 + arityOf (ars at) r) (sym (known .0))
+
+  abbrev next : ℕ
+  next = i at + step
+
+  one : RowsLeft (n at) (ars at) (ws at) (relation at) next 1
+      × (tuples (relation at) (rowsFrom (ars at) 0 (drop next (ws at))) ≡ tuples (relation at) (rowsFrom (ars at) 0 (drop (i at) (ws at))))
+  one = kept at step (known .1 ∙ ap (λ (r : ℕ). 1 + arityOf (ars at) r) (is at))
+
+  further : next < length (ws at)
+  further = words-left _ _ _ _ _ (one .0) (omega arith)
+
+  -- the same once more, if the row after it is of the same relation
+  module _ (again : getD (ws at) next 0 ≡ other) where
+    two : RowsLeft (n at) (ars at) (ws at) (relation at) (next + step) 1
+        × (tuples (relation at) (rowsFrom (ars at) 0 (drop (next + step) (ws at))) ≡ tuples (relation at) (rowsFrom (ars at) 0 (drop next (ws at))))
+    two =
+        passed-over (n at) (ars at) (ws at) (relation at) next step (one .0) (λ e. other-differs (sym again ∙ e))
+        (stepped ∙ ap (λ (r : ℕ). 1 + arityOf (ars at) r) (sym again))
+
+    further-two : next + step < length (ws at)
+    further-two = words-left _ _ _ _ _ (two .0) (omega arith)
+
+add-i : tie.Need-add-i Inv-loop μ-loop
+add-i c = omega (arith, further (c .before))
+
+mul-w-2 : tie.Need-mul-w-2 Inv-loop μ-loop
+mul-w-2 c = omega (arith, further (c .before))
+
+shared-slice-read-w-2 : tie.Need-shared-slice-read-w-2 Inv-loop μ-loop
+shared-slice-read-w-2 c = further (c .before .before)
+
+add-i-2 : tie.Need-add-i-2 Inv-loop μ-loop
+add-i-2 c = omega (arith, further-two (c .before .before .before) (c .if2 .taken))
+
+mul-w-3 : tie.Need-mul-w-3 Inv-loop μ-loop
+mul-w-3 c = omega (arith, further-two (c .before .before .before) (c .if2 .taken))
+
+shared-slice-read-w-3 : tie.Need-shared-slice-read-w-3 Inv-loop μ-loop
+shared-slice-read-w-3 c = further-two (c .before .before .before .before) (c .before .if2 .taken)
+
+loop-less : tie.Need-loop-less Inv-loop μ-loop
+loop-less c = let j = c .before .before .before .before in omega (arith, further-two j (c .before .if2 .taken), known j .1)
+
+loop-again : tie.Need-loop-again Inv-loop μ-loop
+loop-again c =
+    let j = c .before .before .before .before in
+    let t = two j (c .before .if2 .taken) in
+    (t .0, t .1 ∙ one j .1 ∙ at j .before .loop .inv .1, refl, λ ne. stepped j)
+
+loop-less-2 : tie.Need-loop-less-2 Inv-loop μ-loop
+loop-less-2 c = let j = c .before .before .before in omega (arith, further j, known j .1)
+
+loop-again-2 : tie.Need-loop-again-2 Inv-loop μ-loop
+loop-again-2 c = let j = c .before .before .before in (one j .0, one j .1 ∙ at j .before .loop .inv .1, refl, λ ne. stepped j)
+
+returns : tie.Need-returns Inv-loop μ-loop
+returns c = let inv = c .before .loop .inv in (sym (inv .2) ∙ c .loop-test .left, (inv .1, inv .0))
+
+pub next-row-spec : {M : Type 1} → statement M
+next-row-spec =
+    tie.close
+    (tie.spec
+    Inv-loop
+    μ-loop
+    mul-w
+    shared-slice-read-w
+    loop-holds
+    cast-step
+    mul-step
+    element-copy-out-step
+    cast-step-2
+    add-step
+    add-i
+    mul-w-2
+    shared-slice-read-w-2
+    add-i-2
+    mul-w-3
+    shared-slice-read-w-3
+    loop-less
+    loop-again
+    loop-less-2
+    loop-again-2
+    returns)

@@ -1,0 +1,86 @@
+// Finds the rows of a relation one after another, in the order in which they stand among an instance's words.
+ghost use mathlib.Core.Path.{_≡_};
+ghost use Prim.Native.Nat.{_<_};
+ghost use lib.ListN.{getD, take, drop};
+ghost use Rattle.calculus.specs.Closed.{tuples};
+ghost use Rattle.instance.specs.Rows.{rowsFrom};
+ghost use Rattle.instance.specs.InstanceWellFormed.{InstanceWellFormed};
+ghost use Rattle.instance.specs.Header.{arityOf};
+ghost use Rattle.lookup.specs.Passing.{RowsLeft, toldApart, passing};
+
+// The place of a row, and how many rows of its relation are left from there on.
+pub struct Near {
+    pub place: usize,
+    pub more: u32,
+}
+
+// The place of the relation's next row. While rows of another relation follow one another, their length is not looked up again: that look-up would have
+// to end before the next word can be read. Such rows are passed over two at a time.
+fn next_row(words: &[u32], arities: &[u32; 8], relations: u32, relation: u32, place: usize) -> usize
+    requires { ⌜ InstanceWellFormed relations (now arities) (now words) × (relation < relations) ⌝ }
+    requires { ⌜ RowsLeft relations (now arities) (now words) relation place 1 ⌝ }
+    ensures here { λ r. ⌜ getD (now (words .entry)) r 0 ≡ relation ⌝ }
+    ensures rows { λ r. ⌜ tuples relation (rowsFrom (now (arities .entry)) 0 (drop r (now (words .entry)))) ≡ tuples relation (rowsFrom (now (arities .entry)) 0 (drop place (now (words .entry)))) ⌝ }
+    ensures left { λ r. ⌜ RowsLeft relations (now (arities .entry)) (now (words .entry)) relation r 1 ⌝ }
+{
+    let mut other = relation;
+    let mut step = 0;
+    let mut i = place;
+    let mut w = words[i];
+    while w != relation {
+        if w != other {
+            other = w;
+            step = 1 + arities[w as usize] as usize;
+        }
+        i += step;
+        w = words[i];
+        if w == other {
+            i += step;
+            w = words[i];
+        }
+    }
+    i
+}
+
+// The next of the relation's `most` rows whose cell in the column is the asked one, or is not below `limit`. The rows before it are passed over in a
+// loop that does nothing else. If all are, none is left, and the place has no meaning.
+pub fn next_near(
+    words: &[u32],
+    arities: &[u32; 8],
+    relations: u32,
+    relation: u32,
+    column: usize,
+    asked: u32,
+    limit: u32,
+    place: usize,
+    most: u32,
+) -> Near
+    requires { ⌜ InstanceWellFormed relations (now arities) (now words) × (relation < relations) × (column < arityOf (now arities) relation) ⌝ }
+    requires { ⌜ RowsLeft relations (now arities) (now words) relation place most ⌝ }
+    ensures rows { λ r. ⌜ take (r .more) (tuples relation (rowsFrom (now (arities .entry)) 0 (drop (r .place) (now (words .entry))))) ≡ passing (toldApart column asked limit) (take most (tuples relation (rowsFrom (now (arities .entry)) 0 (drop place (now (words .entry)))))) ⌝ }
+    ensures left { λ r. ⌜ RowsLeft relations (now (arities .entry)) (now (words .entry)) relation (r .place) (r .more) ⌝ }
+    ensures here { λ r. ⌜ (0 < r .more → getD (now (words .entry)) (r .place) 0 ≡ relation) ⌝ }
+{
+    let step = 1 + arities[relation as usize] as usize;
+    let mut more = most;
+    let mut i = place;
+    while 0 < more {
+        i = next_row(words, arities, relations, relation, i);
+        let cell = words[i + 1 + column];
+        if cell == asked {
+            return Near {
+                place: i,
+                more: more,
+            };
+        }
+        if limit <= cell {
+            return Near {
+                place: i,
+                more: more,
+            };
+        }
+        more -= 1;
+        i += step;
+    }
+    Near { place: i, more: 0 }
+}
