@@ -1,6 +1,6 @@
 # The program and the library are built by rt, the C side by the rules here and in the .mk file of each folder.
 # What is built goes below target/.
-.PHONY: run test fmt lib c-test example verdicts bench bench-page builds
+.PHONY: run test fmt lib c-test example verdicts bench bench-page builds builds-since bench-sqlite bench-sqlite-page sqlite
 # objects on the way to a program are kept
 .SECONDARY:
 
@@ -69,4 +69,4 @@ target/c-aligned/%.o: %.c
 # the objects of whole folders, compiled in one of these ways: $(call objects,c,tests/page tests/support)
 objects = $(patsubst %.c,target/$(1)/%.o,$(wildcard $(2:%=%/*.c)))
 
-include examples/examples.mk tests/tests.mk bench/bench.mk
+include examples/examples.mk tests/tests.mk bench/bench.mk bench/sqlite/sqlite.mk

@@ -1,7 +1,7 @@
 /* Times of the library's calls, as ratios to C, and the stack that they need: the tables of docs/BENCHMARKS.md. */
 #include "baseline/loops.h"
 #include "measure/stack.h"
-#include "work/work.h"
+#include "work/full.h"
 
 #include <stdio.h>
 #include <stdlib.h>
@@ -30,12 +30,17 @@ static void query_row(const char *name, answering *loop, uint32_t expected)
     puts("");
 }
 
-static void query_table(void)
+static void query_heading(const char *title)
 {
-    puts("## Questions\n");
+    printf("## %s\n\n", title);
     puts("| question | library, ns | C, values by scan, ns | ratio | C, values by hash table, ns | ratio | reference, "
          "ns | ratio |");
     puts("|---|---|---|---|---|---|---|---|");
+}
+
+static void query_table(void)
+{
+    query_heading("Questions");
     make_plot(&now, PLOTASK_COLUMNS, FULL_ROWS, FEW_VALUES);
     ask_nothing(&now);
     query_row("no row asked; 16 different values", nothing_by_hand, PLOTASK_TRUE);
@@ -58,6 +63,17 @@ static void query_table(void)
     make_plot(&now, 1, 64, 64);
     ask_pairs(&now);
     query_row("two nested quantifiers over 64 rows of one cell; 64 different values", pairs_by_hand, PLOTASK_TRUE);
+}
+
+static void full_table(void)
+{
+    puts("");
+    query_heading("One row, over 4,096 words in use");
+    for (int i = 0; i < FULL_PLOTS; i++) {
+        prepare_full(&full_plots[i]);
+        must_answer(ask, &full_plots[i], 1);
+        query_row(full_plots[i].name, row_by_hand, full_plots[i].truth);
+    }
 }
 
 static void call_row(const char *name, work *library, work *hand, work *reference)
@@ -244,6 +260,7 @@ static void stack_table(void)
 int main(void)
 {
     query_table();
+    full_table();
     call_table();
     fill_table();
     growth_table();

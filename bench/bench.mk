@@ -1,24 +1,33 @@
 # Times and stack of the library's calls. A file directly in bench/ is a program; the folders hold what programs share.
 MEASURED := $(call objects,c-aligned,bench/baseline bench/measure bench/work tests/reference)
 ALIGNED := target/c-aligned/bin
+TABLES := $(ALIGNED)/bench $(ALIGNED)/row_test
 
 # times as ratios to C, and the stack: the tables of docs/BENCHMARKS.md
-bench: $(ALIGNED)/bench
-	@echo "Machine: $$(lscpu | sed -n 's/^Model name: *//p'). C compiler: $$($(CC) --version | head -1), \`$(CFLAGS) $(ALIGN)\`."
-	@echo
-	@$<
+bench: $(TABLES)
+	@$(machine)
+	@for table in $^; do $$table || exit 1; done
 
-# renews the tables of docs/BENCHMARKS.md: all that follows its mark
-bench-page: $(ALIGNED)/bench
-	sed '/^<!-- make bench -->$$/{G;q}' docs/BENCHMARKS.md > $(ALIGNED)/page.md
-	$(MAKE) -s --no-print-directory bench >> $(ALIGNED)/page.md
-	cp $(ALIGNED)/page.md docs/BENCHMARKS.md
+# renews those tables in docs/BENCHMARKS.md
+bench-page: $(TABLES)
+	$(call renewed,bench)
 
-$(ALIGNED)/bench: target/c-aligned/bench/bench.o $(MEASURED) $(LIBRARY)
+define machine
+echo "Machine: $$(lscpu | sed -n 's/^Model name: *//p'). C compiler: $$($(CC) --version | head -1), \`$(CFLAGS) $(ALIGN)\`."; echo
+endef
+
+# puts what a rule prints between its mark and the end mark of docs/BENCHMARKS.md: $(call renewed,rule)
+define renewed
+$(MAKE) -s --no-print-directory $(1) > $(ALIGNED)/$(1).md
+awk -v rule=$(1) -v tables=$(ALIGNED)/$(1).md -f bench/renew.awk docs/BENCHMARKS.md > $(ALIGNED)/page.md
+cp $(ALIGNED)/page.md docs/BENCHMARKS.md
+endef
+
+$(TABLES): $(ALIGNED)/%: target/c-aligned/bench/%.o $(MEASURED) $(LIBRARY)
 	@mkdir -p $(@D)
 	$(CC) $^ -o $@
 
-# this build's calls against those of an earlier one, beside the control, which is this build against itself:
+# this build's calls against those of an earlier one, beside two controls: each build against a copy of itself
 # make builds OTHER=path/libplotask.a
 builds: target/c-aligned/bench/builds.o $(MEASURED) $(LIBRARY)
 	$(if $(OTHER),,$(error the earlier build is missing: make builds OTHER=path/libplotask.a))
@@ -26,8 +35,20 @@ builds: target/c-aligned/bench/builds.o $(MEASURED) $(LIBRARY)
 	@$(call renamed,this,,$(LIBRARY))
 	@$(call renamed,control,control_,$(LIBRARY))
 	@$(call renamed,other,other_,$(OTHER))
-	$(CC) $(filter %.o,$^) $(ALIGNED)/this.a $(ALIGNED)/control.a $(ALIGNED)/other.a -o $(ALIGNED)/builds
+	@$(call renamed,other_control,other_control_,$(OTHER))
+	$(CC) $(filter %.o,$^) $(COPIES:%=$(ALIGNED)/%.a) -o $(ALIGNED)/builds
 	@$(ALIGNED)/builds
+COPIES := this control other other_control
+
+# the same against the library of a commit, which is built in a working tree of its own, kept for the next time:
+# make builds-since COMMIT=57c0b91
+SINCE = target/since/$(shell git rev-parse --verify --quiet '$(COMMIT)^{commit}')
+builds-since:
+	$(if $(notdir $(SINCE)),,$(error no such commit: make builds-since COMMIT=57c0b91))
+	@test -e $(SINCE)/.git || git worktree add --force --detach $(SINCE) $(notdir $(SINCE))
+	@git -C $(SINCE) checkout --quiet --detach $(notdir $(SINCE))
+	$(MAKE) --no-print-directory -C $(SINCE) lib
+	$(MAKE) --no-print-directory builds OTHER=$(SINCE)/target/lib/libplotask.a
 
 # copies an archive, with a prefix before every symbol that it defines, and with every function at the start of a page, so
 # that the same code has the same time in each copy: $(call renamed,copy,prefix,archive)

@@ -1,9 +1,10 @@
 /*
- * The calls of this build of the library against those of another build, in one run. Beside it stands the control:
- * this build against a copy of itself, whose symbols have the prefix control_. A ratio against the other build, whose
- * symbols have the prefix other_, means something only if it is clearly farther from 1 than the control's.
+ * The calls of this build of the library against those of another build, in one run. Beside it stand two controls: each
+ * build against a copy of itself. A ratio against the other build means something only if it is clearly farther from 1
+ * than the controls'. The symbols of the other build have the prefix other_, those of the copies control_ and
+ * other_control_.
  */
-#include "work/work.h"
+#include "work/full.h"
 
 #include <stdio.h>
 
@@ -23,12 +24,16 @@
 
 CALLS(control_);
 CALLS(other_);
+CALLS(other_control_);
 
 /* Such a build lacks these two: they are then null. */
 #pragma weak other_plotask_substitute_logged
 #pragma weak other_plotask_undo
+#pragma weak other_control_plotask_substitute_logged
+#pragma weak other_control_plotask_undo
 
-static const struct build this = BUILD(), control = BUILD(control_), other = BUILD(other_);
+static const struct build this = BUILD(), control = BUILD(control_);
+static const struct build other = BUILD(other_), other_control = BUILD(other_control_);
 
 /* The call that is timed. */
 static work *timed;
@@ -52,6 +57,11 @@ static void by_control(void)
 static void by_other(void)
 {
     by(&other);
+}
+
+static void by_other_control(void)
+{
+    by(&other_control);
 }
 
 /*
@@ -104,8 +114,6 @@ static const struct {
      null_every_row, ask_first_columns, ask},
     {"no row asked; 4,096 words in rows of one cell, 16 different values", 1, PLOTASK_WORDS / 2, FEW_VALUES, NULL,
      ask_nothing, ask},
-    {"one row, no match; 4,096 words in rows of one cell, 16 different values", 1, PLOTASK_WORDS / 2, FEW_VALUES, NULL,
-     ask_absent_row, ask},
     {"one row, no match, refused with 46 for a budget of 100; 4,096 words in rows of one cell, 16 different values", 1,
      PLOTASK_WORDS / 2, FEW_VALUES, NULL, ask_absent_row, ask_refused},
     {"two nested quantifiers over 64 rows of one cell; 64 different values", 1, 64, 64, NULL, ask_pairs, ask},
@@ -125,47 +133,66 @@ static const struct {
     {"insert after 584 rows", insert, FULL_ROWS - 1},
 };
 
-enum { QUERIES = sizeof queries / sizeof *queries, ROWS = QUERIES + sizeof calls / sizeof *calls };
+enum { BUILDS = 4 };
+static work *const by_build[BUILDS] = {by_this, by_control, by_other, by_other_control};
 
-/* Makes the plot of a row of the table, and chooses its call. Returns the row's name. */
-static const char *prepare(size_t row)
+/* Times the chosen call of all builds, in turn, and prints a row of the table. */
+static void table_row(const char *asked, const char *name)
 {
-    build = &this;
-    if (row >= QUERIES) {
-        prepare_calls(calls[row - QUERIES].rows);
-        timed = calls[row - QUERIES].call;
-        return calls[row - QUERIES].name;
-    }
-    make_plot(&now, queries[row].columns, queries[row].rows, queries[row].values);
-    if (queries[row].change)
-        queries[row].change(&now);
-    queries[row].query(&now);
-    timed = queries[row].call;
-    return queries[row].name;
+    double ns[BUILDS];
+
+    for (int i = 0; i < BUILDS; i++)
+        must_do(by_build[i]);
+    times_of(by_build, BUILDS, ns);
+    printf("| %s%s | %.0f | %.0f | %.3g | %.3g | %.3g |\n", asked, name, ns[0], ns[2], ns[0] / ns[2], ns[0] / ns[1],
+           ns[2] / ns[3]);
 }
 
-/* Times the prepared call of this build and of another one, and returns the time of this one divided by the other's. */
-static double ratio_to(work *another, double ns[2])
+static void query_rows(void)
 {
-    work *const works[] = {by_this, another};
+    for (size_t i = 0; i < sizeof queries / sizeof *queries; i++) {
+        make_plot(&now, queries[i].columns, queries[i].rows, queries[i].values);
+        if (queries[i].change)
+            queries[i].change(&now);
+        queries[i].query(&now);
+        timed = queries[i].call;
+        table_row("", queries[i].name);
+    }
+}
 
-    must_do(by_this);
-    must_do(another);
-    times_of(works, 2, ns);
-    return ns[0] / ns[1];
+/* The row of each full plot, asked once, or ROW_TESTS times for one test of the plot and one listing of its values. */
+static void full_rows(const char *asked, void (*prepare)(const struct full_plot *full))
+{
+    timed = ask;
+    for (int i = 0; i < FULL_PLOTS; i++) {
+        prepare(&full_plots[i]);
+        for (int k = 0; k < BUILDS; k++) {
+            must_do(by_build[k]);
+            must(truth == full_plots[i].truth, "a build's truth is wrong");
+        }
+        table_row(asked, full_plots[i].name);
+    }
+}
+
+static void call_rows(void)
+{
+    for (size_t i = 0; i < sizeof calls / sizeof *calls; i++) {
+        build = &this;
+        prepare_calls(calls[i].rows);
+        timed = calls[i].call;
+        if (timed != logged_and_undone || (other.substitute_logged != NULL && other.undo != NULL))
+            table_row("", calls[i].name);
+    }
 }
 
 int main(void)
 {
-    puts("| call | this build, ns | the other, ns | ratio | ratio of the control |");
-    puts("|---|---|---|---|---|");
-    for (size_t row = 0; row < ROWS; row++) {
-        const char *name = prepare(row);
-        if (timed == logged_and_undone && (other.substitute_logged == NULL || other.undo == NULL))
-            continue;
-        double ns[2], against_itself = ratio_to(by_control, ns), ratio = ratio_to(by_other, ns);
-
-        printf("| %s | %.0f | %.0f | %.3g | %.3g |\n", name, ns[0], ns[1], ratio, against_itself);
-    }
+    puts("| call | this build, ns | the other, ns | ratio | ratio of this build to its copy | of the other to its copy "
+         "|");
+    puts("|---|---|---|---|---|---|");
+    query_rows();
+    full_rows("one row, ", prepare_full);
+    full_rows("50 rows asked, ", prepare_row_tests);
+    call_rows();
     return 0;
 }

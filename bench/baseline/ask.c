@@ -3,6 +3,8 @@
 
 #include <string.h>
 
+#define INLINED static inline __attribute__((always_inline))
+
 enum { SLOTS = 8192, STRIDE = 8 };
 
 /* Whether a cell is among the first n of a list. A stride has no early exit, so that its cells are compared at once. */
@@ -58,21 +60,29 @@ size_t list_by_table(const struct plotask_header *header, const uint32_t *plot, 
     return count;
 }
 
-/* Whether two rows unify. `from` and `to` hold the nulls replaced so far and what replaced them, in that order. */
+static int are_constants(uint32_t x, uint32_t y)
+{
+    return x < PLOTASK_CONSTANTS && y < PLOTASK_CONSTANTS;
+}
+
+/*
+ * Whether two rows unify, of which the first cells differ and are not both constants. The null replaced there is kept
+ * apart from the further ones, since there is mostly no other; `from` and `to` hold these in their order.
+ */
 static int unifies(const uint32_t *a, const uint32_t *b, uint32_t columns)
 {
-    uint32_t from[PLOTASK_COLUMNS], to[PLOTASK_COLUMNS];
-    uint32_t count = 0;
+    uint32_t from[PLOTASK_COLUMNS], to[PLOTASK_COLUMNS], count = 0;
+    uint32_t first_from = *a < PLOTASK_CONSTANTS ? *b : *a, first_to = *a < PLOTASK_CONSTANTS ? *a : *b;
 
-    for (uint32_t i = 0; i < columns; i++) {
-        uint32_t x = a[i], y = b[i];
+    for (uint32_t i = 1; i < columns; i++) {
+        uint32_t x = a[i] == first_from ? first_to : a[i], y = b[i] == first_from ? first_to : b[i];
         for (uint32_t k = 0; k < count; k++) {
             x = x == from[k] ? to[k] : x;
             y = y == from[k] ? to[k] : y;
         }
         if (x == y)
             continue;
-        if (x < PLOTASK_CONSTANTS && y < PLOTASK_CONSTANTS)
+        if (are_constants(x, y))
             return 0;
         from[count] = x < PLOTASK_CONSTANTS ? y : x;
         to[count++] = x < PLOTASK_CONSTANTS ? x : y;
@@ -80,29 +90,74 @@ static int unifies(const uint32_t *a, const uint32_t *b, uint32_t columns)
     return 1;
 }
 
-uint32_t row_stands(const struct plotask_header *header, const uint32_t *plot, uint32_t relation, const uint32_t *row,
-                    uint64_t *cost)
+/* Where a run of rows of one relation ends. A step looked up for each row would make its address wait for two loads. */
+INLINED const uint32_t *end_of_run(const struct plotask_header *header, const uint32_t *plot, const uint32_t *end)
+{
+    uint32_t relation = *plot;
+    size_t step = 1 + header->arities[relation];
+
+    do
+        plot += step;
+    while (plot < end && *plot == relation);
+    return plot;
+}
+
+/*
+ * row_stands for a number of columns that is a constant where it is called. A row is passed over if its first cell is
+ * not the asked one and below `limit`: all constants if the asked cell is one, and every cell as soon as a row unifies,
+ * since then only an identical row matters.
+ */
+INLINED uint32_t stands_in(const struct plotask_header *header, const uint32_t *plot, uint32_t relation,
+                           const uint32_t *row, uint32_t columns, uint64_t *cost)
 {
     const uint32_t *end = plot + header->used;
-    uint32_t columns = header->arities[relation];
+    uint32_t first = row[0], limit = first < PLOTASK_CONSTANTS ? PLOTASK_CONSTANTS : 0;
     uint32_t truth = PLOTASK_FALSE, rows = 0;
 
-    for (; plot < end; plot += 1 + header->arities[*plot]) {
-        if (*plot != relation)
+    while (plot < end) {
+        if (*plot != relation) {
+            plot = end_of_run(header, plot, end);
             continue;
-        rows++;
-        uint32_t i = 0;
-        while (i < columns && plot[1 + i] == row[i])
-            i++;
-        if (i == columns) {
-            truth = PLOTASK_TRUE;
-            break;
         }
-        if (row[i] < PLOTASK_CONSTANTS && plot[1 + i] < PLOTASK_CONSTANTS)
-            continue;
-        if (truth == PLOTASK_FALSE && unifies(plot + 1 + i, row + i, columns - i))
-            truth = PLOTASK_UNKNOWN;
+        do {
+            rows++;
+            if (plot[1] == first || plot[1] >= limit) {
+                uint32_t i = plot[1] == first;
+                if (i > 0)
+                    while (i < columns && plot[1 + i] == row[i])
+                        i++;
+                if (i == columns) {
+                    *cost += 1 + rows;
+                    return PLOTASK_TRUE;
+                }
+                if (truth == PLOTASK_FALSE && !are_constants(plot[1 + i], row[i]) &&
+                    unifies(plot + 1 + i, row + i, columns - i)) {
+                    truth = PLOTASK_UNKNOWN;
+                    limit = UINT32_MAX;
+                }
+            }
+            plot += 1 + columns;
+        } while (plot < end && *plot == relation);
     }
     *cost += 1 + rows;
     return truth;
+}
+
+uint32_t row_stands(const struct plotask_header *header, const uint32_t *plot, uint32_t relation, const uint32_t *row,
+                    uint64_t *cost)
+{
+    switch (header->arities[relation]) {
+    case 1:
+        return stands_in(header, plot, relation, row, 1, cost);
+    case 2:
+        return stands_in(header, plot, relation, row, 2, cost);
+    case 3:
+        return stands_in(header, plot, relation, row, 3, cost);
+    case 4:
+        return stands_in(header, plot, relation, row, 4, cost);
+    case 5:
+        return stands_in(header, plot, relation, row, 5, cost);
+    default:
+        return stands_in(header, plot, relation, row, PLOTASK_COLUMNS, cost);
+    }
 }

@@ -62,3 +62,14 @@ uint32_t pairs_by_hand(const uint32_t *values, size_t count, uint64_t *cost)
         }
     return result;
 }
+
+/* row_stands is compiled by itself, so that no test can be left out here for being the same as the last. */
+void row_tests_by_hand(void)
+{
+    uint64_t cost = 0;
+
+    refusal = PLOTASK_DONE;
+    for (int i = 0; i < ROW_TESTS; i++)
+        truth = row_stands(&now.header, now.plot, 0, now.candidate, &cost);
+    count = (uint32_t)cost;
+}

@@ -6,4 +6,7 @@
 
 answering nothing_by_hand, row_by_hand, absent_by_hand, pairs_by_hand;
 
+/* ROW_TESTS tests of the candidate and nothing else: the plot is not tested, and its values are not listed. */
+work row_tests_by_hand;
+
 #endif

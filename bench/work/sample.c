@@ -2,8 +2,7 @@
 
 #include <string.h>
 
-/* Enters a row without its cells, and returns where those are to be written. */
-static uint32_t *add_row(struct sample *sample, uint32_t relation)
+uint32_t *add_row(struct sample *sample, uint32_t relation)
 {
     uint32_t *row = sample->plot + sample->header.used;
 
@@ -72,6 +71,22 @@ void ask_row(struct sample *sample, uint32_t first)
     add_row_node(sample, 0, 1);
 }
 
+/* Nodes of one kind, each with a row on its left and the next on its right, and a row at the end. */
+static void add_chain_of_rows(struct sample *sample, uint32_t kind, uint32_t levels, uint32_t variable, uint32_t step)
+{
+    for (uint32_t level = 0; level < levels; level++) {
+        add_node(sample, kind, 2 * level + 1, 2 * level + 2);
+        add_row_node(sample, variable, step);
+    }
+    add_row_node(sample, variable, step);
+}
+
+void ask_row_often(struct sample *sample, uint32_t kind)
+{
+    sample->query_words = 0;
+    add_chain_of_rows(sample, kind, ROW_TESTS - 1, 0, 1);
+}
+
 void ask_first_row(struct sample *sample)
 {
     sample->candidate_cells = sample->header.arities[0];
@@ -116,11 +131,16 @@ void ask_last_row(struct sample *sample)
     add_node(sample, PLOTASK_STANDS, 1, PLOTASK_VARIABLE(0));
 }
 
-/* A chain's quantifiers bind variable 0; the terms of its row are variable 1, which is the candidate's. */
+/*
+ * The terms of a chain's row are the candidate's variables: a constant and then nulls that the plot lacks, so that each
+ * column binds one.
+ */
 static void start_chain(struct sample *sample)
 {
-    sample->candidate_cells = 2;
-    sample->candidate[0] = sample->candidate[1] = PLOTASK_CONSTANTS - 1;
+    sample->candidate_cells = PLOTASK_COLUMNS;
+    sample->candidate[0] = PLOTASK_CONSTANTS - 1;
+    for (uint32_t column = 1; column < PLOTASK_COLUMNS; column++)
+        sample->candidate[column] = PLOTASK_MARK(1 + column);
     sample->query_words = 0;
 }
 
@@ -131,17 +151,13 @@ void ask_chain(struct sample *sample, uint32_t kind, uint32_t nodes)
         if (kind == PLOTASK_NOT)
             add_node(sample, kind, node + 1, 0);
         else
-            add_node(sample, kind, 0, node + 1);
+            add_node(sample, kind, PLOTASK_CANDIDATE, node + 1);
     }
-    add_row_node(sample, 1, 0);
+    add_row_node(sample, 0, 1);
 }
 
 void ask_and_chain(struct sample *sample, uint32_t levels)
 {
     start_chain(sample);
-    for (uint32_t level = 0; level < levels; level++) {
-        add_node(sample, PLOTASK_AND, 2 * level + 1, 2 * level + 2);
-        add_row_node(sample, 1, 0);
-    }
-    add_row_node(sample, 1, 0);
+    add_chain_of_rows(sample, PLOTASK_AND, levels, 0, 1);
 }

@@ -4,8 +4,8 @@
 
 #include "plotask.h"
 
-/* The most rows of six columns, and a small number of different values. */
-enum { FULL_ROWS = 585, FEW_VALUES = 16 };
+/* The most rows of six columns, a small number of different values, and the most rows that a query can ask. */
+enum { FULL_ROWS = 585, FEW_VALUES = 16, ROW_TESTS = PLOTASK_NODES / 2 };
 
 struct sample {
     struct plotask_header header;
@@ -15,6 +15,9 @@ struct sample {
     uint32_t candidate[PLOTASK_CANDIDATE];
     size_t candidate_cells;
 };
+
+/* Enters a row without its cells, and returns where those are to be written. */
+uint32_t *add_row(struct sample *sample, uint32_t relation);
 
 /* A plot of one relation. Each cell gets its index among the cells, modulo `values`. */
 void make_plot(struct sample *sample, uint32_t columns, uint32_t rows, uint32_t values);
@@ -34,6 +37,9 @@ void ask_nothing(struct sample *sample);
 /* the candidate, which is first, first + 1 and so on, stands in relation 0 */
 void ask_row(struct sample *sample, uint32_t first);
 
+/* the candidate stands in relation 0, asked ROW_TESTS times and joined by the kind, "and" or "or" */
+void ask_row_often(struct sample *sample, uint32_t kind);
+
 /* every v6: every v7: the candidate, which is the plot's first row, stands in relation 0 */
 void ask_first_row(struct sample *sample);
 
@@ -49,7 +55,7 @@ void add_last_row(struct sample *sample);
 /* every v0: not (v0) stands in relation 1 */
 void ask_last_row(struct sample *sample);
 
-/* A chain of `nodes` nodes: one kind above "a row of one value, which the plot lacks, stands in relation 0". */
+/* A chain of `nodes` nodes: one kind above "a row that binds a null in each column stands in relation 0". */
 void ask_chain(struct sample *sample, uint32_t kind, uint32_t nodes);
 
 /* A chain of `levels` times "and", each with such a row on its left, and one at the end. */

@@ -23,17 +23,31 @@ static size_t fill_log_used;
 static uint32_t counts[PLOTASK_MARKS];
 static const uint32_t row[PLOTASK_COLUMNS] = {1, 2, 3, 4, 5, 6};
 
+static uint32_t ask_nodes(const uint32_t *nodes, size_t words, uint32_t budget)
+{
+    return build->ask(PLOTASK_HEADER(&now.header), now.plot, PLOTASK_WORDS, nodes, words, now.candidate,
+                      now.candidate_cells, list, PLOTASK_CELLS, budget, &truth, &count);
+}
+
 void ask(void)
 {
-    refusal = build->ask(PLOTASK_HEADER(&now.header), now.plot, PLOTASK_WORDS, now.query, now.query_words,
-                         now.candidate, now.candidate_cells, list, PLOTASK_CELLS, UINT32_MAX, &truth, &count);
+    refusal = ask_nodes(now.query, now.query_words, UINT32_MAX);
 }
 
 void ask_refused(void)
 {
-    refusal =
-        build->ask(PLOTASK_HEADER(&now.header), now.plot, PLOTASK_WORDS, now.query, now.query_words, now.candidate,
-                   now.candidate_cells, list, PLOTASK_CELLS, 100, &truth, &count) != PLOTASK_BUDGET_SPENT;
+    refusal = ask_nodes(now.query, now.query_words, 100) != PLOTASK_BUDGET_SPENT;
+}
+
+void ask_zero(void)
+{
+    static const uint32_t node[PLOTASK_NODE_WORDS] = {PLOTASK_EQUAL, 0, 0};
+    refusal = ask_nodes(node, PLOTASK_NODE_WORDS, UINT32_MAX);
+}
+
+void ask_last_node(void)
+{
+    refusal = ask_nodes(now.query + now.query_words - PLOTASK_NODE_WORDS, PLOTASK_NODE_WORDS, UINT32_MAX);
 }
 
 static void ask_by_hand(listing *list_values)
@@ -216,7 +230,7 @@ void insert_reference(void)
     now.header = prepared;
 }
 
-static void must(int holds, const char *what)
+void must(int holds, const char *what)
 {
     if (holds)
         return;

@@ -40,6 +40,9 @@ extern answering *by_hand;
 /* A query with a budget of 100, which it exceeds. */
 work ask_refused;
 
+/* `0 = 0`, and the last node of the query by itself, whatever else the query asks. */
+work ask_zero, ask_last_node;
+
 work ask, ask_scanning, ask_hashing, ask_reference;
 work decode, decode_by_hand, decode_reference;
 work encode, encode_by_hand, encode_reference;
@@ -59,6 +62,9 @@ void prepare_calls(uint32_t rows);
 
 /* A plot of this many rows, with null 1 in the last of every `step` cells, to replace and put back. */
 void prepare_fills(uint32_t columns, uint32_t rows, uint32_t step);
+
+/* Ends the program if something does not hold, and says what. */
+void must(int holds, const char *what);
 
 /* Runs work once; the program ends if it is refused. */
 void must_do(work *piece);
