@@ -104,8 +104,8 @@
  *
  * STACK, in bytes below the caller's own frame, as measured by `make bench` (docs/BENCHMARKS.md):
  *
- *   ask            3,040 for a question of 1 node (a row of six columns; 2,904 for two terms), and 240 more for each
- *                  level below it; 26,800 for 100 nodes in one chain
+ *   ask            3,240 for a question of 1 node (a row of six columns; 2,904 for two terms), and 224 more for each
+ *                  level below it; 25,416 for 100 nodes in one chain
  *   null counts      976
  *   insert           256
  *   encode           240
