@@ -20,7 +20,7 @@ void prepare_full(const struct full_plot *full);
 /* The same, with the row asked ROW_TESTS times, so joined that no test is settled by those before it. */
 void prepare_row_tests(const struct full_plot *full);
 
-/* Runs work that asks the row so many times. The program ends if it is refused, or its truth or cost is wrong. */
+/* Runs work that asks the row `tests` times. The program ends if it is refused or if its truth or cost is wrong. */
 void must_answer(work *piece, const struct full_plot *full, uint32_t tests);
 
 /* The time of one of ROW_TESTS row tests, from the time of their query and that of `0 = 0` on the same plot. */

@@ -33,15 +33,12 @@ truthAfter Unifies possible ts row = truthFrom true ts row
 truthAfter Apart possible ts row = truthFrom possible ts row
 
 module _ (possible : Bool) (row t : List ℕ) where
-  -- the match that is told: in full at first, and by identity alone once an earlier tuple unified
+  -- how a tuple compares: in full at first, and by identity alone once an earlier tuple has unified
   pub match-first : possible ≡ false → matching row t ≡ matchAfter possible row t
   match-first e = ap (λ (b : Bool). matchAfter b row t) (sym e)
 
-  pub match-same : possible ≡ true → identical row t ≡ true → Identical ≡ matchAfter possible row t
-  match-same e s = sym (ap (λ (b : Bool). matchAfter b row t) e ∙ ap (λ (b : Bool). cond b Identical Unifies) s)
-
-  pub match-other : possible ≡ true → identical row t ≡ false → Unifies ≡ matchAfter possible row t
-  match-other e s = sym (ap (λ (b : Bool). matchAfter b row t) e ∙ ap (λ (b : Bool). cond b Identical Unifies) s)
+  pub match-later : possible ≡ true → (same : Bool) → identical row t ≡ same → cond same Identical Unifies ≡ matchAfter possible row t
+  match-later e same s = sym (ap (λ (b : Bool). matchAfter b row t) e ∙ ap (λ (b : Bool). cond b Identical Unifies) s)
 
 pub truth-step :
     (possible : Bool) (t : List ℕ) (ts : List (List ℕ)) (row : List ℕ) →

@@ -1,5 +1,5 @@
 -- The rows of a relation that are left at a place, and those that a probe of one column passes over.
-use Prim.Native.Nat.{ℕ, _≤_}
+use Prim.Native.Nat.{ℕ, zero, suc, _+_, _≤_}
 use mathlib.Core.Path.{_≡_}
 use mathlib.Core.Bool.{Bool, true, not, _&&_, cond}
 use mathlib.Core.List.{List, [], _∷_}
@@ -7,13 +7,14 @@ use lib.ListN.{length, getD, drop}
 use lib.Dec.{eqb, ltb}
 use Rattle.calculus.specs.Cell.{constants, isConstant}
 use Rattle.calculus.specs.Closed.{tuples}
-use Rattle.instance.specs.Rows.{wordsWellFormed, rowsFrom}
+use Rattle.calculus.specs.Row.{Row}
+use Rattle.instance.specs.Rows.{wordsOfRow, wordsWellFormed, rowsFrom}
 
 -- above every cell
 abbrev pub anyCell : ℕ
 anyCell = 4294967295
 
--- the words from a place on are whole rows, and at least m of these are of the relation
+-- from a place on the words are whole rows, of which at least m are the relation's
 pub record RowsLeft (n : ℕ) (ars ws : List ℕ) (relation place m : ℕ) : Type 0 where
   pub within : place ≤ length ws
   pub well-formed : wordsWellFormed n ars 0 (drop place ws) ≡ true
@@ -32,3 +33,13 @@ limitOf possible cell = cond possible anyCell (cond (isConstant cell) constants 
 unfoldable pub passing : (List ℕ → Bool) → List (List ℕ) → List (List ℕ)
 passing test [] = []
 passing test (t ∷ ts) = cond (test t) (passing test ts) (t ∷ ts)
+
+-- how many words the rows have that are passed over: those before the first of the relation's next n rows that fails the test, or up to and including the last
+-- of the n if none fails
+unfoldable pub wordsPassed : (List ℕ → Bool) → ℕ → ℕ → List Row → ℕ
+wordsPassed test relation zero rs = 0
+wordsPassed test relation (suc n) [] = 0
+wordsPassed test relation (suc n) (r ∷ rs) =
+    cond (eqb (r .relation) relation)
+    (cond (test (r .cells)) (length (wordsOfRow r) + wordsPassed test relation n rs) 0)
+    (length (wordsOfRow r) + wordsPassed test relation (suc n) rs)

@@ -1,12 +1,14 @@
 // Finds the rows of a relation one after another, in the order in which they stand among an instance's words.
 ghost use mathlib.Core.Path.{_≡_};
-ghost use Prim.Native.Nat.{_<_};
+ghost use Prim.Native.Nat.{ℕ, suc, _+_, _<_};
+ghost use mathlib.Core.Bool.{Bool};
+ghost use mathlib.Core.List.{List};
 ghost use lib.ListN.{getD, take, drop};
 ghost use Rattle.calculus.specs.Closed.{tuples};
 ghost use Rattle.instance.specs.Rows.{rowsFrom};
 ghost use Rattle.instance.specs.InstanceWellFormed.{InstanceWellFormed};
 ghost use Rattle.instance.specs.Header.{arityOf};
-ghost use Rattle.lookup.specs.Passing.{RowsLeft, toldApart, passing};
+ghost use Rattle.lookup.specs.Passing.{RowsLeft, toldApart, passing, wordsPassed};
 
 // The place of a row, and how many rows of its relation are left from there on.
 pub struct Near {
@@ -22,6 +24,7 @@ fn next_row(words: &[u32], arities: &[u32; 8], relations: u32, relation: u32, pl
     ensures here { λ r. ⌜ getD (now (words .entry)) r 0 ≡ relation ⌝ }
     ensures rows { λ r. ⌜ tuples relation (rowsFrom (now (arities .entry)) 0 (drop r (now (words .entry)))) ≡ tuples relation (rowsFrom (now (arities .entry)) 0 (drop place (now (words .entry)))) ⌝ }
     ensures left { λ r. ⌜ RowsLeft relations (now (arities .entry)) (now (words .entry)) relation r 1 ⌝ }
+    ensures place { λ r. ⌜ ((test : List ℕ → Bool) (n : ℕ) → r + wordsPassed test relation (suc n) (rowsFrom (now (arities .entry)) 0 (drop r (now (words .entry)))) ≡ place + wordsPassed test relation (suc n) (rowsFrom (now (arities .entry)) 0 (drop place (now (words .entry))))) ⌝ }
 {
     let mut other = relation;
     let mut step = 0;
@@ -43,7 +46,7 @@ fn next_row(words: &[u32], arities: &[u32; 8], relations: u32, relation: u32, pl
 }
 
 // The next of the relation's `most` rows whose cell in the column is the asked one, or is not below `limit`. The rows before it are passed over in a
-// loop that does nothing else. If all are, none is left, and the place has no meaning.
+// loop that does nothing else. If all are, none is left.
 pub fn next_near(
     words: &[u32],
     arities: &[u32; 8],
@@ -60,6 +63,7 @@ pub fn next_near(
     ensures rows { λ r. ⌜ take (r .more) (tuples relation (rowsFrom (now (arities .entry)) 0 (drop (r .place) (now (words .entry))))) ≡ passing (toldApart column asked limit) (take most (tuples relation (rowsFrom (now (arities .entry)) 0 (drop place (now (words .entry)))))) ⌝ }
     ensures left { λ r. ⌜ RowsLeft relations (now (arities .entry)) (now (words .entry)) relation (r .place) (r .more) ⌝ }
     ensures here { λ r. ⌜ (0 < r .more → getD (now (words .entry)) (r .place) 0 ≡ relation) ⌝ }
+    ensures place { λ r. ⌜ r .place ≡ place + wordsPassed (toldApart column asked limit) relation most (rowsFrom (now (arities .entry)) 0 (drop place (now (words .entry)))) ⌝ }
 {
     let step = 1 + arities[relation as usize] as usize;
     let mut more = most;

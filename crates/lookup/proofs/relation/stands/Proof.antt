@@ -208,7 +208,7 @@ module _ (c : tie.After-next-near Inv-loop μ-loop) where
     behind = take (more - 1) (tuples relation (rowsFrom ars 0 (drop next ws)))
 
     is : getD ws place 0 ≡ relation
-    is = c .next-near .ensures .1 .1 some
+    is = c .next-near .ensures .1 .1 .0 some
 
     within : next ≤ length ws
     within = omega (arith, same-within _ _ _ _ _ left some is)

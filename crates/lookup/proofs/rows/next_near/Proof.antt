@@ -9,10 +9,10 @@ use Rattle.calculus.specs.Closed.{tuples}
 use Rattle.instance.specs.Header.{arityOf, maxRelations, maxColumns}
 use Rattle.instance.specs.Rows.{rowsFrom}
 use Rattle.instance.proofs.Walk.{relation-few, arity-few}
-use Rattle.lookup.specs.Passing.{RowsLeft, toldApart, passing}
+use Rattle.lookup.specs.Passing.{RowsLeft, toldApart, passing, wordsPassed}
 use Rattle.lookup.specs.Place.{cellsAt}
 use Rattle.lookup.proofs.Columns.{cells-at}
-use Rattle.lookup.proofs.Left.{fewer-left, more-left, same-step, same-within, same-left}
+use Rattle.lookup.proofs.Left.{fewer-left, more-left, same-step, same-stops, same-goes-on, same-within, same-left}
 use Rattle.lookup.proofs.Passing.{passing-stops, passing-goes-on, told-same, told-high, told-low}
 use Rattle.lookup.proofs.rows.next_near.Statement.{statement}
 use Rattle.lookup.proofs.rows.next_near.Tie as tie
@@ -22,6 +22,8 @@ Inv-loop words arities relations relation column asked limit place most step mor
     RowsLeft relations arities words relation i more
     × (passing (toldApart column asked limit) (take more (tuples relation (rowsFrom arities 0 (drop i words))))
     ≡ passing (toldApart column asked limit) (take most (tuples relation (rowsFrom arities 0 (drop place words)))))
+    × (i + wordsPassed (toldApart column asked limit) relation more (rowsFrom arities 0 (drop i words))
+    ≡ place + wordsPassed (toldApart column asked limit) relation most (rowsFrom arities 0 (drop place words)))
 
 abbrev μ-loop : tie.MeasureT-loop
 μ-loop words arities relations relation column asked limit place most step more₀ i₀ more i = more
@@ -49,7 +51,7 @@ add-step : tie.Need-add-step Inv-loop μ-loop
 add-step c = omega (arith, narrow (c .before .before))
 
 loop-holds : tie.Need-loop-holds Inv-loop μ-loop
-loop-holds c = (c .before .before .pre .1, refl)
+loop-holds c = (c .before .before .pre .1, refl, refl)
 
 next-row-requires : tie.Need-next-row-requires Inv-loop μ-loop
 next-row-requires c κs =
@@ -102,7 +104,7 @@ module _ (c : tie.After-next-row Inv-loop μ-loop) where
   is = c .next-row .ensures .0
 
   left : RowsLeft n ars ws relation place more
-  left = more-left _ _ _ _ _ (c .next-row .ensures .1 .1) more (omega (arith, ap length (c .next-row .ensures .1 .0), c .before .before .loop .inv .0 .some))
+  left = more-left _ _ _ _ _ (c .next-row .ensures .1 .1 .0) more (omega (arith, ap length (c .next-row .ensures .1 .0), c .before .before .loop .inv .0 .some))
 
   -- the rows left here
   here : take more (tuples relation (rowsFrom ars 0 (drop place ws))) ≡ this ∷ take (more - 1) behind
@@ -120,8 +122,26 @@ module _ (c : tie.After-next-row Inv-loop μ-loop) where
   cell : getD this (start .args .column) 0 ≡ getD ws (place + 1 + start .args .column) 0
   cell = cells-at ws place arity (start .args .column) (column-low start)
 
-  stops : apart this ≡ false → (take more (tuples relation (rowsFrom ars 0 (drop place ws))) ≡ all) × (RowsLeft n ars ws relation place more × (0 < more → getD ws place 0 ≡ relation))
-  stops e = (here ∙ sym (passing-stops apart this _ e) ∙ kept, (left, λ _. is))
+  -- where passing over leads from here
+  abbrev passed : ℕ → ℕ → ℕ
+  passed n k = wordsPassed apart relation n (rowsFrom ars 0 (drop k ws))
+
+  abbrev goal : ℕ
+  goal = start .args .place + passed (start .args .most) (start .args .place)
+
+  leads : place + passed (suc (more - 1)) place ≡ goal
+  leads =
+      let one : more ≡ suc (more - 1) = omega (arith, some) in
+      let on = c .next-row .ensures .1 .1 .1 apart (more - 1) in
+      on ∙ ap (λ (k : ℕ). c .before .before .loop .i + passed k (c .before .before .loop .i)) (sym one) ∙ c .before .before .loop .inv .2
+
+  stops :
+      apart this ≡ false →
+      (take more (tuples relation (rowsFrom ars 0 (drop place ws))) ≡ all)
+      × (RowsLeft n ars ws relation place more × ((0 < more → getD ws place 0 ≡ relation) × (place ≡ goal)))
+  stops e =
+      let none = same-stops _ _ _ _ _ left some is apart (more - 1) e in
+      (here ∙ sym (passing-stops apart this _ e) ∙ kept, (left, (λ _. is, omega (arith, none, leads))))
 
 add-cell : tie.Need-add-cell Inv-loop μ-loop
 add-cell c = omega (arith, within c, column-low (start c))
@@ -153,17 +173,25 @@ loop-less c = omega (arith, some (c .before .before .before))
 loop-again : tie.Need-loop-again Inv-loop μ-loop
 loop-again c =
     let b = c .before .before .before in
-    let low = told-low (start b .args .column) (start b .args .asked) (start b .args .limit) (this b) (λ e. c .before .if1 .left (sym (cell b) ∙ e)) (omega (arith, cell b, c .if2 .left)) in
-    (same-left _ _ _ _ _ (left b) (some b) (is b) (more b - 1) (omega (arith, some b)), sym (passing-goes-on (apart b) (this b) _ low) ∙ kept b)
+    let low = told-low (start b .args .column) (start b .args .asked) (start b .args .limit) (this b) (λ e. c .before .if1 .left (sym (cell b) ∙ e)) (omega (arith, cell b, c .if2 .left)) in (
+      same-left _ _ _ _ _ (left b) (some b) (is b) (more b - 1) (omega (arith, some b)),
+      sym (passing-goes-on (apart b) (this b) _ low) ∙ kept b,
+      sym (same-goes-on _ _ _ _ _ (left b) (some b) (is b) (apart b) (more b - 1) low) ∙ leads b,
+    )
 
 returns-3 : tie.Need-returns-3 Inv-loop μ-loop
-unfolding passing
+unfolding passing wordsPassed
 returns-3 c =
     let a = c .before .before .before .before .args in
     let none : c .before .loop .more ≡ 0 = omega (arith, c .loop-test .left) in
-    let rest = tuples (a .relation) (rowsFrom (a .arities .now) 0 (drop (c .before .loop .i) (a .words .now))) in (
-      sym (ap (λ (k : ℕ). passing (toldApart (a .column) (a .asked) (a .limit)) (take k rest)) none) ∙ c .before .loop .inv .1,
-      (fewer-left _ _ _ _ _ (c .before .loop .inv .0) 0 (omega arith), λ less. absurd (omega (arith, less))),
+    let apart = toldApart (a .column) (a .asked) (a .limit) in
+    let rows = rowsFrom (a .arities .now) 0 (drop (c .before .loop .i) (a .words .now)) in
+    let zero : wordsPassed apart (a .relation) (c .before .loop .more) rows ≡ 0 = ap (λ (k : ℕ). wordsPassed apart (a .relation) k rows) none in (
+      sym (ap (λ (k : ℕ). passing apart (take k (tuples (a .relation) rows))) none) ∙ c .before .loop .inv .1,
+      (
+        fewer-left _ _ _ _ _ (c .before .loop .inv .0) 0 (omega arith),
+        (λ less. absurd (omega (arith, less)), omega (arith, zero, c .before .loop .inv .2)),
+      ),
     )
 
 pub next-near-spec : {M : Type 1} → statement M

@@ -1,7 +1,8 @@
 -- `lookup::rows::next_row` meets its contract: the rows left at index i are those left at the start. Assumes nothing.
-use Prim.Native.Nat.{ℕ, _<_, _-_, _+_}
+use Prim.Native.Nat.{ℕ, suc, _<_, _-_, _+_}
 use mathlib.Core.Path.{_≡_, refl, sym, ap, _∙_}
 use mathlib.Core.Logic.{⊎-elim}
+use mathlib.Core.Bool.{Bool}
 use mathlib.Core.List.{List}
 use native.Mathlib.Omega.{arith}
 use lib.ListN.{length, getD, drop}
@@ -9,10 +10,18 @@ use Rattle.calculus.specs.Closed.{tuples}
 use Rattle.instance.specs.Header.{arityOf, maxRelations}
 use Rattle.instance.specs.Rows.{rowsFrom}
 use Rattle.instance.proofs.Walk.{AtRow, relation-few}
-use Rattle.lookup.specs.Passing.{RowsLeft}
-use Rattle.lookup.proofs.Left.{words-left, row-left, other-same, other-left}
+use Rattle.lookup.specs.Passing.{RowsLeft, wordsPassed}
+use Rattle.lookup.proofs.Left.{words-left, row-left, other-same, other-left, other-words}
 use Rattle.lookup.proofs.rows.next_row.Statement.{statement}
 use Rattle.lookup.proofs.rows.next_row.Tie as tie
+
+-- what stays true from index k to index j: the rows left, and where passing over leads
+abbrev Onward : ℕ → List ℕ → List ℕ → ℕ → ℕ → ℕ → Type 0
+Onward n ars ws relation k j =
+    RowsLeft n ars ws relation j 1
+    × (tuples relation (rowsFrom ars 0 (drop j ws)) ≡ tuples relation (rowsFrom ars 0 (drop k ws)))
+    × ((test : List ℕ → Bool) (m : ℕ) → j + wordsPassed test relation (suc m) (rowsFrom ars 0 (drop j ws))
+    ≡ k + wordsPassed test relation (suc m) (rowsFrom ars 0 (drop k ws)))
 
 abbrev Inv-loop : tie.InvT-loop
 Inv-loop words arities relations relation place other₀ step₀ i₀ w₀ other step i w =
@@ -20,6 +29,8 @@ Inv-loop words arities relations relation place other₀ step₀ i₀ w₀ other
     × (tuples relation (rowsFrom arities 0 (drop i words)) ≡ tuples relation (rowsFrom arities 0 (drop place words)))
     × (w ≡ getD words i 0)
     × ((other ≡ relation → ⊥) → step ≡ 1 + arityOf arities other)
+    × ((test : List ℕ → Bool) (n : ℕ) → i + wordsPassed test relation (suc n) (rowsFrom arities 0 (drop i words))
+    ≡ place + wordsPassed test relation (suc n) (rowsFrom arities 0 (drop place words)))
 
 abbrev μ-loop : tie.MeasureT-loop
 μ-loop words arities relations relation place other₀ step₀ i₀ w₀ other step i w = length words - i
@@ -27,8 +38,9 @@ abbrev μ-loop : tie.MeasureT-loop
 -- past a row of another relation
 passed-over :
     (n : ℕ) (ars ws : List ℕ) (relation k step : ℕ) → RowsLeft n ars ws relation k 1 → (getD ws k 0 ≡ relation → ⊥) → step ≡ 1 + arityOf ars (getD ws k 0) →
-    RowsLeft n ars ws relation (k + step) 1 × (tuples relation (rowsFrom ars 0 (drop (k + step) ws)) ≡ tuples relation (rowsFrom ars 0 (drop k ws)))
-passed-over n ars ws relation k step left ne e = rw e (other-left _ _ _ _ _ left (omega arith) ne, other-same _ _ _ _ _ left (omega arith) ne)
+    Onward n ars ws relation k (k + step)
+passed-over n ars ws relation k step left ne e =
+    rw e (other-left _ _ _ _ _ left (omega arith) ne, other-same _ _ _ _ _ left (omega arith) ne, other-words _ _ _ _ _ left (omega arith) ne)
 
 mul-w : tie.Need-mul-w Inv-loop μ-loop
 mul-w c = omega (arith, words-left _ _ _ _ _ (c .pre .1) (omega arith))
@@ -37,7 +49,7 @@ shared-slice-read-w : tie.Need-shared-slice-read-w Inv-loop μ-loop
 shared-slice-read-w c = words-left _ _ _ _ _ (c .before .pre .1) (omega arith)
 
 loop-holds : tie.Need-loop-holds Inv-loop μ-loop
-loop-holds c = (c .before .pre .1, refl, refl, λ ne. absurd (ne refl))
+loop-holds c = (c .before .pre .1, refl, refl, λ ne. absurd (ne refl), λ test n. refl)
 
 -- the row at index i, which is of another relation
 module _ (c : tie.In-loop Inv-loop μ-loop) where
@@ -81,8 +93,7 @@ module _ (c : tie.In-loop Inv-loop μ-loop) where
   abbrev size : ℕ
   size = 1 + arityOf ars (getD ws i 0)
 
-  kept : (step : ℕ) → step ≡ size →
-      RowsLeft n ars ws relation (i + step) 1 × (tuples relation (rowsFrom ars 0 (drop (i + step) ws)) ≡ tuples relation (rowsFrom ars 0 (drop i ws)))
+  kept : (step : ℕ) → step ≡ size → Onward n ars ws relation i (i + step)
   kept step e = passed-over n ars ws relation i step left differs e
 
 cast-step : tie.Need-cast-step Inv-loop μ-loop
@@ -129,8 +140,7 @@ module _ (c : tie.Joined1 Inv-loop μ-loop) where
   abbrev next : ℕ
   next = i at + step
 
-  one : RowsLeft (n at) (ars at) (ws at) (relation at) next 1
-      × (tuples (relation at) (rowsFrom (ars at) 0 (drop next (ws at))) ≡ tuples (relation at) (rowsFrom (ars at) 0 (drop (i at) (ws at))))
+  one : Onward (n at) (ars at) (ws at) (relation at) (i at) next
   one = kept at step (known .1 ∙ ap (λ (r : ℕ). 1 + arityOf (ars at) r) (is at))
 
   further : next < length (ws at)
@@ -138,8 +148,7 @@ module _ (c : tie.Joined1 Inv-loop μ-loop) where
 
   -- the same once more, if the row after it is of the same relation
   module _ (again : getD (ws at) next 0 ≡ other) where
-    two : RowsLeft (n at) (ars at) (ws at) (relation at) (next + step) 1
-        × (tuples (relation at) (rowsFrom (ars at) 0 (drop (next + step) (ws at))) ≡ tuples (relation at) (rowsFrom (ars at) 0 (drop next (ws at))))
+    two : Onward (n at) (ars at) (ws at) (relation at) next (next + step)
     two =
         passed-over (n at) (ars at) (ws at) (relation at) next step (one .0) (λ e. other-differs (sym again ∙ e))
         (stepped ∙ ap (λ (r : ℕ). 1 + arityOf (ars at) r) (sym again))
@@ -172,16 +181,16 @@ loop-again : tie.Need-loop-again Inv-loop μ-loop
 loop-again c =
     let j = c .before .before .before .before in
     let t = two j (c .before .if2 .taken) in
-    (t .0, t .1 ∙ one j .1 ∙ at j .before .loop .inv .1, refl, λ ne. stepped j)
+    (t .0, t .1 ∙ one j .1 ∙ at j .before .loop .inv .1, refl, λ ne. stepped j, λ test n. t .2 test n ∙ one j .2 test n ∙ at j .before .loop .inv .4 test n)
 
 loop-less-2 : tie.Need-loop-less-2 Inv-loop μ-loop
 loop-less-2 c = let j = c .before .before .before in omega (arith, further j, known j .1)
 
 loop-again-2 : tie.Need-loop-again-2 Inv-loop μ-loop
-loop-again-2 c = let j = c .before .before .before in (one j .0, one j .1 ∙ at j .before .loop .inv .1, refl, λ ne. stepped j)
+loop-again-2 c = let j = c .before .before .before in (one j .0, one j .1 ∙ at j .before .loop .inv .1, refl, λ ne. stepped j, λ test n. one j .2 test n ∙ at j .before .loop .inv .4 test n)
 
 returns : tie.Need-returns Inv-loop μ-loop
-returns c = let inv = c .before .loop .inv in (sym (inv .2) ∙ c .loop-test .left, (inv .1, inv .0))
+returns c = let inv = c .before .loop .inv in (sym (inv .2) ∙ c .loop-test .left, (inv .1, (inv .0, inv .4)))
 
 pub next-row-spec : {M : Type 1} → statement M
 next-row-spec =
