@@ -4,8 +4,8 @@ use mathlib.Core.Path.{_≡_, refl, sym, ap, _∙_}
 use mathlib.Core.Bool.{true, false}
 use mathlib.Core.List.{List, [], _∷_}
 use native.Mathlib.Omega.{arith}
-use lib.ListN.{length, drop, take, length-append}
-use lib.Seq.{take-at}
+use lib.ListN.{length, getD, drop, take, length-append}
+use lib.Seq.{take-at, getD-take}
 use borrow.Author.Tests.{lt-leb}
 use Rattle.calculus.specs.declared.answer.Answer.{Answer}
 use Rattle.calculus.specs.declared.answer.Answer.the-variants as answer
@@ -29,11 +29,14 @@ use Rattle.query.specs.Check.{Checked, passed, checkQuery, checkNumber}
 use Rattle.calculus.specs.Reading.{refused, read}
 use Rattle.query.proofs.Passed.{few-cells, count-within, node-well-formed}
 use Rattle.instance.specs.RowCounts.{rowCounts}
-use Rattle.instance.proofs.RowCounts.{row-count-at, row-counts-size}
+use Rattle.instance.proofs.RowCounts.{row-count-at}
+use Rattle.known.specs.Known.{knownWords, flagAt}
+use Rattle.known.proofs.Walking.{unpassed-all}
+use Rattle.calculus.proofs.Distinct.{distinct-le}
 use Rattle.answer.specs.declared.asked.Asked.the-variants.{Refused}
 use Rattle.evaluate.specs.declared.evaluated.Evaluated.{Evaluated}
 use Rattle.evaluate.specs.Within.{within}
-use Rattle.evaluate.specs.Ready.{Ready, world}
+use Rattle.evaluate.specs.Ready.{Ready, Ranged, world}
 use Rattle.answer.specs.Ask.{ifPassed, evaluatedAs, answeredBy, askable, ask, askedBuffer}
 use Rattle.answer.proofs.RerunLaws.{Asks, askable-done}
 use Rattle.calculus.specs.Overwrite.{overwrite}
@@ -114,28 +117,37 @@ module _ (h : Header) (ws qs cs buffer : List ℕ) (budget : ℕ) where
 -- a sound instance and a question that passed are ready to be evaluated
 module _ (h : Header) (ws qs cs : List ℕ) (e : sound h ws ≡ true) (eight : length (h .arities) ≡ maxRelations) (right : rightLength qs ≡ true) (s : Scopes) (p : checkQuery (h .relations) (h .arities) qs cs ≡ passed s) where
   pub made-ready :
-      (counts values : List ℕ) → counts ≡ rowCounts (rowsFrom (h .arities) 0 (take (h .used) ws)) →
-      values ≡ domain (rowsFrom (h .arities) 0 (take (h .used) ws)) →
-      (Ready (h .relations) (h .arities) (take (h .used) ws) qs counts × (values ≡ world (h .arities) (take (h .used) ws) .range)) ×
-      ((0 < nodeCount qs) × (length cs ≤ variables))
-  made-ready counts values is-counted is-listed =
+      (table : List ℕ) → length table ≡ knownWords → take maxRelations table ≡ rowCounts (rowsFrom (h .arities) 0 (take (h .used) ws)) →
+      Ready (h .arities) (take (h .used) ws) qs table × ((0 < nodeCount qs) × (length cs ≤ variables))
+  made-ready table size is-counted =
       let rs = rowsFrom (h .arities) 0 (take (h .used) ws) in
       let g = sound-gives h ws e in
       let within = count-within qs right in (
-        (
-          record {
-            well-formed = g .well-formed;
-            eight = eight;
-            whole = within .2;
-            nodes-few = within .1;
-            nodes = node-well-formed (h .relations) (h .arities) qs cs right s p;
-            counted = λ r l. rw is-counted (row-count-at rs r (omega (arith, l, g .headed .few)));
-            eight-counts = rw is-counted (row-counts-size rs);
-          },
-          is-listed,
-        ),
+        record {
+          given = record { relations = h .relations; well-formed = g .well-formed };
+          eight = eight;
+          whole = within .2;
+          nodes-few = within .1;
+          nodes = node-well-formed (h .relations) (h .arities) qs cs right s p;
+          counted = λ r l.
+              let low : r < maxRelations = omega (arith, l, g .headed .few) in
+              sym (getD-take maxRelations table r 0 low) ∙ ap (λ (z : List ℕ). getD z r 0) is-counted ∙ row-count-at rs r low;
+          size = size;
+        },
         (within .0, omega (arith, few-cells (h .relations) (h .arities) qs cs right s p)),
       )
+
+-- a list of the values, with no flag
+pub listed-ranged :
+    (h : Header) (ws qs table values : List ℕ) → sound h ws ≡ true → ((p : ℕ) → flagAt table p ≡ false) →
+    values ≡ domain (rowsFrom (h .arities) 0 (take (h .used) ws)) → Ranged (h .arities) (take (h .used) ws) qs table values
+unfolding rows
+listed-ranged h ws qs table values e none are =
+    let few = distinct-le (cellsOf (rows h ws)) in
+    record {
+      short = omega (arith, ap length are, few, cells-count h ws e, sound-gives h ws e .few);
+      walked = λ i j k is. unpassed-all table none 0 values ∙ are;
+    }
 
 -- the answer if nothing is refused before the evaluation
 module _ (h : Header) (ws qs cs buffer : List ℕ) (budget : ℕ) (a : Asks h ws qs cs buffer) where

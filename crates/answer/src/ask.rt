@@ -7,7 +7,7 @@ ghost use Rattle.calculus.specs.Formula.{assignment, variables};
 ghost use Rattle.query.specs.Words.{nodeCount};
 ghost use Rattle.query.specs.Tree.{formulaOf};
 ghost use Rattle.evaluate.specs.Within.{within};
-ghost use Rattle.evaluate.specs.Ready.{Ready, world};
+ghost use Rattle.evaluate.specs.Ready.{Ready, Ranged, world};
 ghost use Rattle.calculus.specs.Model.{outcomeOf as askedOf};
 ghost use Rattle.instance.specs.Run.{modelOf};
 ghost use Rattle.answer.specs.Ask.{ask as askOf, askedBuffer};
@@ -23,7 +23,7 @@ use evaluate::nodes::evaluate;
 use instance::header::Header;
 use instance::scan::Scanned;
 use instance::scan::scan;
-use lookup::counts::row_counts;
+use known::counts::row_counts;
 use query::check::check;
 use query::words::right_length;
 
@@ -43,31 +43,20 @@ fn assigned(candidate: &[u32]) -> [u32; 16]
 
 // Evaluates the top node.
 fn evaluate_top(
-    relations: u32,
     arities: &[u32; 8],
     words: &[u32],
     query: &[u32],
-    counts: &[u32; 8],
+    known: &[u32; 136],
     values: &[u32],
     candidate: &[u32],
     budget: u32,
 ) -> Evaluated
-    requires { ⌜ Ready relations (now arities) (now words) (now query) (now counts) × (now values ≡ world (now arities) (now words) .range) ⌝ }
+    requires { ⌜ Ready (now arities) (now words) (now query) (now known) × Ranged (now arities) (now words) (now query) (now known) (now values) ⌝ }
     requires { ⌜ (0 < nodeCount (now query)) × (length (now candidate) ≤ variables) ⌝ }
     ensures { λ r. ⌜ r ≡ within budget (eval (world (now (arities .entry)) (now (words .entry))) (formulaOf (now (arities .entry)) (now (query .entry))) (assignment (now (candidate .entry)))) ⌝ }
 {
     let mut env = assigned(candidate);
-    evaluate(
-        query,
-        0,
-        &mut env,
-        budget,
-        values,
-        relations,
-        arities,
-        words,
-        counts,
-    )
+    evaluate(query, 0, &mut env, budget, values, arities, words, known)
 }
 
 pub fn ask(
@@ -98,14 +87,14 @@ pub fn ask(
     if buffer.len() < used - count as usize {
         return Asked::Refused(BUFFER_TOO_SHORT);
     }
-    let n = list_values(&instance[..used], &arities, relations, buffer);
-    let counts = row_counts(&instance[..used], &arities, relations);
+    let n = list_values(&instance[..used], &arities, buffer);
+    let mut known = [0u32; 136];
+    row_counts(&instance[..used], &arities, &mut known);
     match evaluate_top(
-        relations,
         &arities,
         &instance[..used],
         query,
-        &counts,
+        &known,
         &buffer[..n],
         candidate,
         budget,

@@ -5,7 +5,7 @@ ghost use lib.ListN.{length};
 ghost use Rattle.calculus.specs.Row.{cellsOf};
 ghost use Rattle.calculus.specs.Domain.{domain};
 ghost use Rattle.instance.specs.Rows.{rowsFrom};
-ghost use Rattle.instance.specs.InstanceWellFormed.{InstanceWellFormed};
+ghost use Rattle.instance.specs.InstanceWellFormed.{InstanceOf};
 ghost use Rattle.calculus.specs.Overwrite.{overwrite};
 use chain::add_cells;
 use chain::unlink;
@@ -13,8 +13,8 @@ use chain::unlink;
 mod chain;
 
 // Lists the values at the start of a buffer, row by row, and returns their number; the rest of the buffer stays.
-pub fn list_values(words: &[u32], arities: &[u32; 8], relations: u32, buffer: &mut [u32]) -> usize
-    requires { ⌜ InstanceWellFormed relations (now arities) (now words) ⌝ }
+pub fn list_values(words: &[u32], arities: &[u32; 8], buffer: &mut [u32]) -> usize
+    requires { ⌜ InstanceOf (now arities) (now words) ⌝ }
     requires { ⌜ length (cellsOf (rowsFrom (now arities) 0 (now words))) ≤ length (now buffer) ⌝ }
     ensures number { λ r. ⌜ r ≡ length (domain (rowsFrom (now (arities .entry)) 0 (now (words .entry)))) ⌝ }
     ensures values { λ r. ⌜ now (buffer .exit) ≡ overwrite (domain (rowsFrom (now (arities .entry)) 0 (now (words .entry)))) (now (buffer .entry)) ⌝ }

@@ -2,13 +2,12 @@
 use Prim.Native.Nat.{ℕ, zero, suc, _+_, _-_, _≤_, _<_}
 use mathlib.Core.Path.{_≡_, refl, sym, ap, _∙_, subst}
 use mathlib.Core.Bool.{true, false}
-use mathlib.Core.List.{List, []}
+use mathlib.Core.List.{List, [], _∷_}
 use native.Mathlib.Nat.{zero-add}
-use native.Mathlib.Numerals.{add-one}
 use native.Mathlib.Omega.{arith}
-use lib.ListN.{length, getD, set, drop, List·getD-eq-default}
+use lib.ListN.{length, getD, set, List·getD-eq-default}
 use lib.Dec.{eqb}
-use lib.Seq.{drop-cons, drop-length, set-set, set-getD}
+use lib.Seq.{set-set, set-getD}
 use Rattle.calculus.specs.declared.truth.Truth.{Truth}
 use Rattle.calculus.specs.Kleene.{Junction, join, unit, negate}
 use Rattle.calculus.specs.Formula.{Formula, value, values}
@@ -18,7 +17,9 @@ use Rattle.instance.specs.Header.{arityOf, maxRelations, maxColumns}
 use Rattle.calculus.proofs.Kleene.{join-comm}
 use Rattle.instance.proofs.Rows.{headed}
 use Rattle.query.specs.Check.{isTerm}
+use Rattle.instance.specs.InstanceWellFormed.{InstanceOf}
 use Rattle.instance.specs.Rows.{rowsFrom}
+use Rattle.known.specs.Known.{countIn}
 use Rattle.query.specs.Words.{Kind, kinds, rowStands, equals, noKind, negates, joins, ranges, kindOf, wordAt, nodeCount}
 use Rattle.query.specs.Tree.{formulaBy, formulaAt, termOf, termsAt}
 use Rattle.query.specs.Passed.{NodeBy}
@@ -55,25 +56,26 @@ none-above w h = List·getD-eq-default kinds noKind h
 
 -- what a well-formed node says of its children, by its kind
 pub well-formed-by :
-    (n : ℕ) (ars ws qs counts : List ℕ) (i : ℕ) (kind : Kind) →
-    Ready n ars ws qs counts → i < nodeCount qs → kindOf (wordAt qs i 0) ≡ kind → NodeBy n ars qs i kind
-well-formed-by n ars ws qs counts i kind r known is = subst (NodeBy n ars qs i) is (r .nodes i known)
+    (ars ws qs table : List ℕ) (i : ℕ) (kind : Kind) (r : Ready ars ws qs table) → i < nodeCount qs → kindOf (wordAt qs i 0) ≡ kind →
+    NodeBy (r .given .relations) ars qs i kind
+well-formed-by ars ws qs table i kind r known is = subst (NodeBy (r .given .relations) ars qs i) is (r .nodes i known)
 
 -- what an atom's node says: its relation, the number of rows of that relation, and its arity
-pub record AtomWellFormed (n : ℕ) (ars ws qs counts : List ℕ) (i : ℕ) : Type 0 where
-  pub relation : wordAt qs i 1 < n
+pub record AtomWellFormed (ars ws qs table : List ℕ) (i : ℕ) : Type 0 where
+  pub given : InstanceOf ars ws
+  pub relation : wordAt qs i 1 < given .relations
   pub eight : wordAt qs i 1 < maxRelations
-  pub counted : getD counts (wordAt qs i 1) 0 ≡ length (tuples (wordAt qs i 1) (rowsFrom ars 0 ws))
+  pub counted : countIn table (wordAt qs i 1) ≡ length (tuples (wordAt qs i 1) (rowsFrom ars 0 ws))
   pub narrow : arityOf ars (wordAt qs i 1) ≤ maxColumns
   pub terms : (j : ℕ) → j < arityOf ars (wordAt qs i 1) → isTerm (wordAt qs i (2 + j)) ≡ true
 
 pub atom-well-formed :
-    (n : ℕ) (ars ws qs counts : List ℕ) (i : ℕ) →
-    Ready n ars ws qs counts → i < nodeCount qs → kindOf (wordAt qs i 0) ≡ rowStands → AtomWellFormed n ars ws qs counts i
-atom-well-formed n ars ws qs counts i r known is =
-    let by = well-formed-by n ars ws qs counts i rowStands r known is in
-    let head = headed n ars (r .well-formed .header) in
+    (ars ws qs table : List ℕ) (i : ℕ) → Ready ars ws qs table → i < nodeCount qs → kindOf (wordAt qs i 0) ≡ rowStands → AtomWellFormed ars ws qs table i
+atom-well-formed ars ws qs table i r known is =
+    let by = well-formed-by ars ws qs table i rowStands r known is in
+    let head = headed (r .given .relations) ars (r .given .well-formed .header) in
     record {
+      given = r .given;
       relation = by .0;
       eight = omega (arith, by .0, head .few);
       counted = r .counted (wordAt qs i 1) (by .0);
@@ -87,14 +89,13 @@ atom-well-formed n ars ws qs counts i r known is =
 abbrev pub one : Structure → List ℕ → List ℕ → ℕ → List ℕ → ℕ → ℕ → Outcome
 one S ars qs i e k c = outcomeAt S ars qs k (wordAt qs i 2) (set e (wordAt qs i 1) c)
 
--- t is the verdict so far and n the cost of the first x values; the other values are left
-pub record Walking (S : Structure) (ars qs : List ℕ) (i : ℕ) (j : Junction) (e values : List ℕ) (b : ℕ) (t : Truth) (n x : ℕ) : Type 0 where
+-- t is the verdict so far and n its cost; the values `rest` are left
+pub record Walking (S : Structure) (ars qs : List ℕ) (i : ℕ) (j : Junction) (e : List ℕ) (b : ℕ) (t : Truth) (n : ℕ) (rest : List ℕ) : Type 0 where
   pub low : n ≤ b
-  pub within-values : x ≤ length values
   pub said : join j t (S .start j) ≡ t
-  pub rest :
+  pub left :
       (k : ℕ) → nodeCount qs ≤ i + suc k →
-      within b (over (S .start j) j (one S ars qs i e k) values) ≡ within b (sofar j t n (over (S .start j) j (one S ars qs i e k) (drop x values)))
+      within b (over (S .start j) j (one S ars qs i e k) (S .range)) ≡ within b (sofar j t n (over (S .start j) j (one S ars qs i e k) rest))
 
 -- an assignment that differs from e only in variable v, which has the value old in e
 pub set-again : (e env : List ℕ) (v old c : ℕ) → set env v old ≡ e → set env v c ≡ set e v c
@@ -212,52 +213,49 @@ module _ (S : Structure) (ars qs : List ℕ) (i : ℕ) (known : i < nodeCount qs
 
   -- ---- a walk over values
 
-  module _ (j : Junction) (is : kindOf (wordAt qs i 0) ≡ ranges j) (above : i < wordAt qs i 2) (e values : List ℕ) (listed : values ≡ S .range) (b : ℕ) where
-    ranged : (k : ℕ) → outcomeAt S ars qs (suc k) i e ≡ over (S .start j) j (one S ars qs i e k) values
+  module _ (j : Junction) (is : kindOf (wordAt qs i 0) ≡ ranges j) (above : i < wordAt qs i 2) (e : List ℕ) (b : ℕ) where
+    ranged : (k : ℕ) → outcomeAt S ars qs (suc k) i e ≡ over (S .start j) j (one S ars qs i e k) (S .range)
     unfolding eval
-    ranged k = outcome-by (ranges j) is k e ∙ ap (over (S .start j) j (one S ars qs i e k)) (sym listed)
+    ranged k = outcome-by (ranges j) is k e
 
-    pub walk-starts : Walking S ars qs i j e values b (S .start j) 0 0
-    walk-starts = record {
+    pub walk-starts : (rest : List ℕ) → rest ≡ S .range → Walking S ars qs i j e b (S .start j) 0 rest
+    walk-starts rest all = record {
       low = omega arith;
-      within-values = omega arith;
       said = join-same j (S .start j);
-      rest = λ k h. ap (within b) (sym (over-start (S .start j) j (one S ars qs i e k) values));
+      left = λ k h. ap (within b) (sym (over-start (S .start j) j (one S ars qs i e k) (S .range)) ∙ ap (λ (l : List ℕ). sofar j (S .start j) 0 (over (S .start j) j (one S ars qs i e k) l)) (sym all));
     }
 
-    walk-right : (r : Evaluated) → ((k : ℕ) → nodeCount qs ≤ i + suc k → within b (over (S .start j) j (one S ars qs i e k) values) ≡ r) → RightIn S ars qs i e b r
+    walk-right : (r : Evaluated) → ((k : ℕ) → nodeCount qs ≤ i + suc k → within b (over (S .start j) j (one S ars qs i e k) (S .range)) ≡ r) → RightIn S ars qs i e b r
     walk-right r f = right-of e b r (λ k h. sym (ap (within b) (ranged k) ∙ f k h))
 
-    pub walk-ends : (t : Truth) (n x : ℕ) → Walking S ars qs i j e values b t n x → length values ≤ x → RightIn S ars qs i e b (Verdict t n)
-    walk-ends t n x w done = walk-right (Verdict t n) (λ k h.
-        let all : x ≡ length values = omega (arith, w .within-values) in
-        let none : drop x values ≡ [] = ap (λ (y : ℕ). drop y values) all ∙ drop-length values in
-        w .rest k h ∙ ap (λ (l : List ℕ). within b (sofar j t n (over (S .start j) j (one S ars qs i e k) l))) none ∙ end j b t (S .start j) n (w .said) (w .low))
+    module _ (t : Truth) (n : ℕ) (rest : List ℕ) (w : Walking S ars qs i j e b t n rest) where
+      -- what is passed over says nothing
+      pub walk-passes : (more : List ℕ) → rest ≡ more → Walking S ars qs i j e b t n more
+      walk-passes more same = subst (Walking S ars qs i j e b t n) same w
 
-    module _ (t : Truth) (n x : ℕ) (w : Walking S ars qs i j e values b t n x) (more : x < length values) where
-      next-value : (k : ℕ) → nodeCount qs ≤ i + suc k →
-          within b (over (S .start j) j (one S ars qs i e k) values) ≡ within b (sofar j t n (joined j (one S ars qs i e k (getD values x 0)) (over (S .start j) j (one S ars qs i e k) (drop (suc x) values))))
-      next-value k h = w .rest k h ∙ ap (λ (l : List ℕ). within b (sofar j t n (over (S .start j) j (one S ars qs i e k) l))) (drop-cons values x 0 more)
+      pub walk-ends : rest ≡ [] → RightIn S ars qs i e b (Verdict t n)
+      walk-ends none = walk-right (Verdict t n) (λ k h.
+          w .left k h ∙ ap (λ (l : List ℕ). within b (sofar j t n (over (S .start j) j (one S ars qs i e k) l))) none ∙ end j b t (S .start j) n (w .said) (w .low))
 
-      abbrev pub here : ℕ → List ℕ
-      here c = set e (wordAt qs i 1) c
+      module _ (c : ℕ) (more : List ℕ) (next : rest ≡ c ∷ more) where
+        next-value : (k : ℕ) → nodeCount qs ≤ i + suc k →
+            within b (over (S .start j) j (one S ars qs i e k) (S .range)) ≡ within b (sofar j t n (joined j (one S ars qs i e k c) (over (S .start j) j (one S ars qs i e k) more)))
+        next-value k h = w .left k h ∙ ap (λ (l : List ℕ). within b (sofar j t n (over (S .start j) j (one S ars qs i e k) l))) next
 
-      pub walk-spent : RightIn S ars qs (wordAt qs i 2) (here (getD values x 0)) (b - n) Spent → RightIn S ars qs i e b Spent
-      walk-spent r = walk-right Spent (λ k h.
-          next-value k h ∙ next-spent j b t n (w .low) (one S ars qs i e k (getD values x 0)) (over (S .start j) j (one S ars qs i e k) (drop (suc x) values)) (sym (r k (omega arith))))
+        pub walk-spent : RightIn S ars qs (wordAt qs i 2) (set e (wordAt qs i 1) c) (b - n) Spent → RightIn S ars qs i e b Spent
+        walk-spent r = walk-right Spent (λ k h.
+            next-value k h ∙ next-spent j b t n (w .low) (one S ars qs i e k c) (over (S .start j) j (one S ars qs i e k) more) (sym (r k (omega arith))))
 
-      module _ (a : Truth) (m : ℕ) (r : RightIn S ars qs (wordAt qs i 2) (here (getD values x 0)) (b - n) (Verdict a m)) where
-        pub walk-settled : settles j a ≡ true → RightIn S ars qs i e b (Verdict (join j t a) (n + m))
-        walk-settled s = walk-right (Verdict (join j t a) (n + m)) (λ k h.
-            next-value k h ∙ next-settled j b t n (w .low) (one S ars qs i e k (getD values x 0)) (over (S .start j) j (one S ars qs i e k) (drop (suc x) values)) a m (sym (r k (omega arith))) s)
+        module _ (a : Truth) (m : ℕ) (r : RightIn S ars qs (wordAt qs i 2) (set e (wordAt qs i 1) c) (b - n) (Verdict a m)) where
+          pub walk-settled : settles j a ≡ true → RightIn S ars qs i e b (Verdict (join j t a) (n + m))
+          walk-settled s = walk-right (Verdict (join j t a) (n + m)) (λ k h.
+              next-value k h ∙ next-settled j b t n (w .low) (one S ars qs i e k c) (over (S .start j) j (one S ars qs i e k) more) a m (sym (r k (omega arith))) s)
 
-        pub walk-more : settles j a ≡ false → Walking S ars qs i j e values b (join j t a) (n + m) (x + 1)
-        walk-more s = record {
-          low = next-low j b t n (w .low) (one S ars qs i e (nodeCount qs) (getD values x 0)) (over (S .start j) j (one S ars qs i e (nodeCount qs)) []) a m (sym (r (nodeCount qs) (omega arith)));
-          within-values = omega arith;
-          said = sym (join-assoc j t a (S .start j)) ∙ ap (join j t) (join-comm j a (S .start j)) ∙ join-assoc j t (S .start j) a ∙ ap (λ (u : Truth). join j u a) (w .said);
-          rest = λ k h.
-              next-value k h ∙
-              ap (within b) (next-more j b t n (w .low) (one S ars qs i e k (getD values x 0)) (over (S .start j) j (one S ars qs i e k) (drop (suc x) values)) a m (sym (r k (omega arith))) s) ∙
-              ap (λ (y : ℕ). within b (sofar j (join j t a) (n + m) (over (S .start j) j (one S ars qs i e k) (drop y values)))) (sym (add-one x));
-        }
+          pub walk-more : settles j a ≡ false → Walking S ars qs i j e b (join j t a) (n + m) more
+          walk-more s = record {
+            low = next-low j b t n (w .low) (one S ars qs i e (nodeCount qs) c) (over (S .start j) j (one S ars qs i e (nodeCount qs)) []) a m (sym (r (nodeCount qs) (omega arith)));
+            said = sym (join-assoc j t a (S .start j)) ∙ ap (join j t) (join-comm j a (S .start j)) ∙ join-assoc j t (S .start j) a ∙ ap (λ (u : Truth). join j u a) (w .said);
+            left = λ k h.
+                next-value k h ∙
+                ap (within b) (next-more j b t n (w .low) (one S ars qs i e k c) (over (S .start j) j (one S ars qs i e k) more) a m (sym (r k (omega arith))) s);
+          }

@@ -1,43 +1,50 @@
--- What evaluation is given: a sound instance's words, a question that passed its check, the number of rows of each relation, and the active domain.
+-- What evaluation is given: a sound instance's words, a question that passed its check, what is known of the instance (`table`), and a slice of values. The
+-- slice holds the active domain: its words that a walk does not pass over.
 use Prim.Native.Nat.{ℕ, _+_, _*_, _<_, _≤_}
 use mathlib.Core.Path.{_≡_}
 use mathlib.Core.Bool.{Bool, true, false}
 use mathlib.Core.List.{List}
-use lib.ListN.{length, getD}
+use lib.ListN.{length}
 use Rattle.calculus.specs.Kleene.{Junction, conj, disj}
 use Rattle.calculus.specs.Formula.{variables}
 use Rattle.calculus.specs.Eval.{Outcome, Structure, eval}
 use Rattle.calculus.specs.Closed.{closed, tuples}
-use Rattle.instance.specs.Header.{maxRelations, maxColumns}
+use Rattle.instance.specs.Header.{maxRelations, maxColumns, maxWords}
 use Rattle.instance.specs.Rows.{rowsFrom}
-use Rattle.query.specs.Words.{nodeCount, nodeWords, maxNodes, wordAt}
+use Rattle.known.specs.Known.{knownWords, countIn, unpassed}
+use Rattle.query.specs.Words.{nodeCount, nodeWords, maxNodes, wordAt, kindOf, ranges}
 use Rattle.query.specs.Tree.{formulaAt}
 use Rattle.query.specs.Check.{isTerm}
 use Rattle.query.specs.Passed.{NodeWellFormed}
 use Rattle.evaluate.specs.declared.evaluated.Evaluated.{Evaluated}
 use Rattle.evaluate.specs.Within.{within}
-use Rattle.instance.specs.InstanceWellFormed.{InstanceWellFormed}
+use Rattle.instance.specs.InstanceWellFormed.{InstanceOf}
 
 -- the structure of the rows in the words
 abbrev pub world : List ℕ → List ℕ → Structure
 world ars ws = closed (rowsFrom ars 0 ws)
 
-pub record Ready (n : ℕ) (ars ws qs counts : List ℕ) : Type 0 where
-  pub well-formed : InstanceWellFormed n ars ws
+pub record Ready (ars ws qs table : List ℕ) : Type 0 where
+  pub given : InstanceOf ars ws
   pub eight : length ars ≡ maxRelations
   pub whole : nodeCount qs * nodeWords ≡ length qs
   pub nodes-few : nodeCount qs ≤ maxNodes
-  pub nodes : (i : ℕ) → i < nodeCount qs → NodeWellFormed n ars qs i
-  pub counted : (r : ℕ) → r < n → getD counts r 0 ≡ length (tuples r (rowsFrom ars 0 ws))
-  pub eight-counts : length counts ≡ maxRelations
+  pub nodes : (i : ℕ) → i < nodeCount qs → NodeWellFormed (given .relations) ars qs i
+  pub counted : (r : ℕ) → r < given .relations → countIn table r ≡ length (tuples r (rowsFrom ars 0 ws))
+  pub size : length table ≡ knownWords
+
+-- what a walk does not pass over is the active domain; this is asked only if a node ranges over values
+pub record Ranged (ars ws qs table values : List ℕ) : Type 0 where
+  pub short : length values ≤ maxWords
+  pub walked : (i : ℕ) (j : Junction) → i < nodeCount qs → kindOf (wordAt qs i 0) ≡ ranges j → unpassed table 0 values ≡ world ars ws .range
 
 -- the outcome of node i in a structure, with k nodes left, under an assignment
 abbrev pub outcomeAt : Structure → List ℕ → List ℕ → ℕ → ℕ → List ℕ → Outcome
 outcomeAt S ars qs k i e = eval S (formulaAt ars qs k i) e
 
-pub record Evaluable (n : ℕ) (ars ws qs counts values : List ℕ) (i : ℕ) (e : List ℕ) : Type 0 where
-  pub ready : Ready n ars ws qs counts
-  pub listed : values ≡ world ars ws .range
+pub record Evaluable (ars ws qs table values : List ℕ) (i : ℕ) (e : List ℕ) : Type 0 where
+  pub ready : Ready ars ws qs table
+  pub ranged : Ranged ars ws qs table values
   pub known : i < nodeCount qs
   pub sixteen : length e ≡ variables
 

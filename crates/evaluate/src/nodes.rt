@@ -3,9 +3,10 @@ ghost use mathlib.Core.Path.{_≡_};
 ghost use Rattle.calculus.specs.Eval.{settles as settlesOf, Structure};
 ghost use Rattle.calculus.specs.Kleene.{join as joinOf, unit as unitOf};
 ghost use Prim.Native.Nat.{_<_, ℕ};
-ghost use lib.ListN.{length, set, getD};
+ghost use lib.ListN.{length, set};
 ghost use Rattle.instance.specs.Header.{maxRelations};
 ghost use Rattle.calculus.specs.Formula.{variables};
+ghost use Rattle.known.specs.Known.{knownWords, countIn};
 ghost use Rattle.query.specs.Words.{nodeCount, nodeWords, wordAt, kindOf, rowStands, equals, negates, joins, ranges};
 ghost use Rattle.evaluate.specs.Ready.{Evaluable, Right, junctionOf, Ready, RightIn};
 ghost use Rattle.calculus.specs.Closed.{equality as equalityOf};
@@ -20,6 +21,8 @@ use calculus::truth::Truth;
 use calculus::truth::and;
 use calculus::truth::not;
 use calculus::truth::or;
+use known::flags::gap;
+use known::flags::passed;
 use lookup::relation::stands;
 use query::words::NODE_WORDS;
 
@@ -32,11 +35,11 @@ fn word(query: &[u32], node: usize, j: usize) -> usize
 }
 
 // The number of rows of a relation.
-fn rows_of(counts: &[u32; 8], relation: usize) -> u32
-    requires { ⌜ relation < maxRelations ⌝ }
-    ensures { λ r. ⌜ r ≡ getD (now (counts .entry)) relation 0 ⌝ }
+fn rows_of(known: &[u32; 136], relation: usize) -> u32
+    requires { ⌜ (length (now known) ≡ knownWords) × (relation < maxRelations) ⌝ }
+    ensures { λ r. ⌜ r ≡ countIn (now (known .entry)) relation ⌝ }
 {
-    counts[relation]
+    known[relation]
 }
 
 // Gives a variable the value `cell`.
@@ -53,12 +56,11 @@ fn atom(
     node: usize,
     env: &[u32; 16],
     budget: u32,
-    relations: u32,
     arities: &[u32; 8],
     words: &[u32],
-    counts: &[u32; 8],
+    known: &[u32; 136],
 ) -> Evaluated
-    requires { ⌜ Ready relations (now arities) (now words) (now query) (now counts) × (node < nodeCount (now query)) × (length (now env) ≡ variables) ⌝ }
+    requires { ⌜ Ready (now arities) (now words) (now query) (now known) × (node < nodeCount (now query)) × (length (now env) ≡ variables) ⌝ }
     requires { ⌜ kindOf (wordAt (now query) node 0) ≡ rowStands ⌝ }
     ensures right { λ r. ⌜ Right (now (arities .entry)) (now (words .entry)) (now (query .entry)) node (now (env .entry)) budget r ⌝ }
 {
@@ -67,11 +69,11 @@ fn atom(
     }
     let covered = budget - 1;
     let relation = word(query, node, 1);
-    let rows = rows_of(counts, relation);
+    let rows = rows_of(known, relation);
     let arity = arities[relation] as usize;
     let row = asked_row(query, node, arity, env);
     if covered < rows {
-        let front = stands(words, arities, relations, relation as u32, covered, &row);
+        let front = stands(words, arities, relation as u32, covered, &row);
         let truth = front.truth;
         let cost = 1 + front.rows;
         // The budget covers no other row, so only an identical one gives a verdict.
@@ -80,7 +82,7 @@ fn atom(
         }
         return Evaluated::Spent;
     }
-    let all = stands(words, arities, relations, relation as u32, rows, &row);
+    let all = stands(words, arities, relation as u32, rows, &row);
     let truth = all.truth;
     let cost = 1 + all.rows;
     Evaluated::Verdict(truth, cost)
@@ -131,12 +133,11 @@ fn negated(
     env: &mut [u32; 16],
     budget: u32,
     values: &[u32],
-    relations: u32,
     arities: &[u32; 8],
     words: &[u32],
-    counts: &[u32; 8],
+    known: &[u32; 136],
 ) -> Evaluated
-    requires { ⌜ Evaluable relations (now arities) (now words) (now query) (now counts) (now values) node (now env) ⌝ }
+    requires { ⌜ Evaluable (now arities) (now words) (now query) (now known) (now values) node (now env) ⌝ }
     requires { ⌜ kindOf (wordAt (now query) node 0) ≡ negates ⌝ }
     ensures kept { λ r. ⌜ now (env .exit) ≡ now (env .entry) ⌝ }
     ensures right { λ r. ⌜ Right (now (arities .entry)) (now (words .entry)) (now (query .entry)) node (now (env .entry)) budget r ⌝ }
@@ -148,10 +149,9 @@ fn negated(
         env,
         budget,
         values,
-        relations,
         arities,
         words,
-        counts,
+        known,
     ) else {
         return Evaluated::Spent;
     };
@@ -165,12 +165,11 @@ fn both(
     env: &mut [u32; 16],
     budget: u32,
     values: &[u32],
-    relations: u32,
     arities: &[u32; 8],
     words: &[u32],
-    counts: &[u32; 8],
+    known: &[u32; 136],
 ) -> Evaluated
-    requires { ⌜ Evaluable relations (now arities) (now words) (now query) (now counts) (now values) node (now env) ⌝ }
+    requires { ⌜ Evaluable (now arities) (now words) (now query) (now known) (now values) node (now env) ⌝ }
     requires { ⌜ kindOf (wordAt (now query) node 0) ≡ joins (junctionOf every) ⌝ }
     ensures kept { λ r. ⌜ now (env .exit) ≡ now (env .entry) ⌝ }
     ensures right { λ r. ⌜ Right (now (arities .entry)) (now (words .entry)) (now (query .entry)) node (now (env .entry)) budget r ⌝ }
@@ -183,10 +182,9 @@ fn both(
         env,
         budget,
         values,
-        relations,
         arities,
         words,
-        counts,
+        known,
     ) else {
         return Evaluated::Spent;
     };
@@ -199,14 +197,15 @@ fn both(
         env,
         budget - paid,
         values,
-        relations,
         arities,
         words,
-        counts,
+        known,
     ) else {
         return Evaluated::Spent;
     };
-    Evaluated::Verdict(join(every, a, b), paid + more)
+    let truth = join(every, a, b);
+    let cost = paid + more;
+    Evaluated::Verdict(truth, cost)
 }
 
 fn walk(
@@ -216,12 +215,11 @@ fn walk(
     env: &mut [u32; 16],
     budget: u32,
     values: &[u32],
-    relations: u32,
     arities: &[u32; 8],
     words: &[u32],
-    counts: &[u32; 8],
+    known: &[u32; 136],
 ) -> Evaluated
-    requires { ⌜ Evaluable relations (now arities) (now words) (now query) (now counts) (now values) node (now env) ⌝ }
+    requires { ⌜ Evaluable (now arities) (now words) (now query) (now known) (now values) node (now env) ⌝ }
     requires { ⌜ kindOf (wordAt (now query) node 0) ≡ ranges (junctionOf every) ⌝ }
     ensures kept { λ r. ⌜ now (env .exit) ≡ now (env .entry) ⌝ }
     ensures right { λ r. ⌜ Right (now (arities .entry)) (now (words .entry)) (now (query .entry)) node (now (env .entry)) budget r ⌝ }
@@ -233,28 +231,31 @@ fn walk(
     let mut cost: u32 = 0;
     let mut i = 0;
     while i < values.len() {
-        assign(env, variable, values[i]);
-        let Evaluated::Verdict(one, paid) = evaluate(
-            query,
-            child,
-            env,
-            budget - cost,
-            values,
-            relations,
-            arities,
-            words,
-            counts,
-        ) else {
-            assign(env, variable, old);
-            return Evaluated::Spent;
-        };
-        cost += paid;
-        truth = join(every, truth, one);
-        if settles(every, one) {
-            assign(env, variable, old);
-            return Evaluated::Verdict(truth, cost);
+        if passed(known, i) {
+            i += gap(known, i);
+        } else {
+            assign(env, variable, values[i]);
+            let Evaluated::Verdict(one, paid) = evaluate(
+                query,
+                child,
+                env,
+                budget - cost,
+                values,
+                arities,
+                words,
+                known,
+            ) else {
+                assign(env, variable, old);
+                return Evaluated::Spent;
+            };
+            cost += paid;
+            truth = join(every, truth, one);
+            if settles(every, one) {
+                assign(env, variable, old);
+                return Evaluated::Verdict(truth, cost);
+            }
+            i += 1;
         }
-        i += 1;
     }
     assign(env, variable, old);
     Evaluated::Verdict(truth, cost)
@@ -266,30 +267,19 @@ pub fn evaluate(
     env: &mut [u32; 16],
     budget: u32,
     values: &[u32],
-    relations: u32,
     arities: &[u32; 8],
     words: &[u32],
-    counts: &[u32; 8],
+    known: &[u32; 136],
 ) -> Evaluated
-    requires { ⌜ Evaluable relations (now arities) (now words) (now query) (now counts) (now values) node (now env) ⌝ }
+    requires { ⌜ Evaluable (now arities) (now words) (now query) (now known) (now values) node (now env) ⌝ }
     ensures kept { λ r. ⌜ now (env .exit) ≡ now (env .entry) ⌝ }
     ensures right { λ r. ⌜ Right (now (arities .entry)) (now (words .entry)) (now (query .entry)) node (now (env .entry)) budget r ⌝ }
 {
     let kind = word(query, node, 0);
     match kind {
-        1 => atom(query, node, env, budget, relations, arities, words, counts),
+        1 => atom(query, node, env, budget, arities, words, known),
         2 => equality(query, node, env, budget),
-        3 => negated(
-            query,
-            node,
-            env,
-            budget,
-            values,
-            relations,
-            arities,
-            words,
-            counts,
-        ),
+        3 => negated(query, node, env, budget, values, arities, words, known),
         4 | 5 => both(
             query,
             node,
@@ -297,10 +287,9 @@ pub fn evaluate(
             env,
             budget,
             values,
-            relations,
             arities,
             words,
-            counts,
+            known,
         ),
         6 | 7 => walk(
             query,
@@ -309,10 +298,9 @@ pub fn evaluate(
             env,
             budget,
             values,
-            relations,
             arities,
             words,
-            counts,
+            known,
         ),
         // Never reached: the contract requires that every node has a kind from 1 to 7.
         _ => Evaluated::Spent,

@@ -13,7 +13,7 @@ use Rattle.calculus.proofs.Lists.{drop-step}
 use Rattle.calculus.proofs.Tuples.{tuples-le}
 use Rattle.instance.specs.Header.{arityOf, maxRelations, maxColumns}
 use Rattle.instance.specs.Rows.{areCells, wordsWellFormed, rowsFrom}
-use Rattle.instance.specs.InstanceWellFormed.{InstanceWellFormed}
+use Rattle.instance.specs.InstanceWellFormed.{InstanceWellFormed, InstanceOf}
 use Rattle.instance.proofs.Rows.{headed, at-row, at-cell, cells-first, cells-within}
 
 module _ (n : ℕ) (ars : List ℕ) where
@@ -32,6 +32,13 @@ pub record Walk (n : ℕ) (ars ws : List ℕ) (i : ℕ) : Type 0 where
 
 pub walk-starts : (n : ℕ) (ars ws : List ℕ) → wordsWellFormed n ars 0 ws ≡ true → Walk n ars ws 0
 walk-starts n ars ws e = record { within = omega arith; well-formed = e }
+
+-- the same in an instance that holds its number of relations
+abbrev pub WalkIn : List ℕ → List ℕ → ℕ → Type 0
+WalkIn ars ws i = (g : InstanceOf ars ws) × Walk (g .relations) ars ws i
+
+pub walk-in : (ars ws : List ℕ) → InstanceOf ars ws → WalkIn ars ws 0
+walk-in ars ws g = (g, walk-starts (g .relations) ars ws (g .well-formed .words))
 
 -- the row at index i, and the walk after it
 pub record AtRow (n : ℕ) (ars ws : List ℕ) (i : ℕ) : Type 0 where

@@ -12,3 +12,8 @@ pub record InstanceWellFormed (n : ℕ) (ars ws : List ℕ) : Type 0 where
   pub header : headerWellFormed n ars ≡ true
   pub few : length ws ≤ maxWords
   pub words : wordsWellFormed n ars 0 ws ≡ true
+
+-- a well-formed instance with these arities and words in use; how many relations it has is part of the record
+pub record InstanceOf (ars ws : List ℕ) : Type 0 where
+  pub relations : ℕ
+  pub well-formed : InstanceWellFormed relations ars ws

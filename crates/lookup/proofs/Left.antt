@@ -14,7 +14,7 @@ use Rattle.instance.proofs.Walk.{Walk, AtRow, row-here, tuples-few}
 use Rattle.lookup.specs.Passing.{RowsLeft, wordsPassed}
 use Rattle.lookup.specs.Place.{cellsAt}
 
-module _ (n : ℕ) (ars ws : List ℕ) (relation i : ℕ) where
+module _ (ars ws : List ℕ) (relation i : ℕ) where
   -- the tuples that are left at index k
   abbrev leftAt : ℕ → List (List ℕ)
   leftAt k = tuples relation (rowsFrom ars 0 (drop k ws))
@@ -23,24 +23,24 @@ module _ (n : ℕ) (ars ws : List ℕ) (relation i : ℕ) where
   abbrev passedAt : (List ℕ → Bool) → ℕ → ℕ → ℕ
   passedAt test n k = wordsPassed test relation n (rowsFrom ars 0 (drop k ws))
 
-  module _ {m : ℕ} (left : RowsLeft n ars ws relation i m) where
-    abbrev walk : Walk n ars ws i
+  module _ {m : ℕ} (left : RowsLeft ars ws relation i m) where
+    abbrev walk : Walk (left .given .relations) ars ws i
     walk = record { within = left .within; well-formed = left .well-formed }
 
     -- words are left if a row is
     pub words-left : 0 < m → i < length ws
     words-left some = omega (arith, some, left .some, tuples-few relation ars (drop i ws), length-drop i ws)
 
-    pub row-left : 0 < m → AtRow n ars ws i
-    row-left some = row-here n ars ws i (words-left some) walk
+    pub row-left : 0 < m → AtRow (left .given .relations) ars ws i
+    row-left some = row-here (left .given .relations) ars ws i (words-left some) walk
 
     -- fewer are left, too
-    pub fewer-left : (k : ℕ) → k ≤ m → RowsLeft n ars ws relation i k
-    fewer-left k l = record { within = left .within; well-formed = left .well-formed; some = omega (arith, l, left .some) }
+    pub fewer-left : (k : ℕ) → k ≤ m → RowsLeft ars ws relation i k
+    fewer-left k l = record { given = left .given; known = left .known; within = left .within; well-formed = left .well-formed; some = omega (arith, l, left .some) }
 
     -- and as many as there are tuples
-    pub more-left : (k : ℕ) → k ≤ length (leftAt i) → RowsLeft n ars ws relation i k
-    more-left k l = record { within = left .within; well-formed = left .well-formed; some = l }
+    pub more-left : (k : ℕ) → k ≤ length (leftAt i) → RowsLeft ars ws relation i k
+    more-left k l = record { given = left .given; known = left .known; within = left .within; well-formed = left .well-formed; some = l }
 
     -- past a row of another relation
     module _ (some : 0 < m) (ne : getD ws i 0 ≡ relation → ⊥) where
@@ -59,10 +59,10 @@ module _ (n : ℕ) (ars ws : List ℕ) (relation i : ℕ) where
           in
           omega (arith, e, here .size)
 
-      pub other-left : RowsLeft n ars ws relation past m
+      pub other-left : RowsLeft ars ws relation past m
       other-left =
           let next = row-left some .next in
-          record { within = next .within; well-formed = next .well-formed; some = omega (arith, left .some, ap length other-same) }
+          record { given = left .given; known = left .known; within = next .within; well-formed = next .well-formed; some = omega (arith, left .some, ap length other-same) }
 
     -- past a row of this relation
     module _ (some : 0 < m) (is : getD ws i 0 ≡ relation) where
@@ -100,7 +100,7 @@ module _ (n : ℕ) (ars ws : List ℕ) (relation i : ℕ) where
       pub same-within : next ≤ length ws
       same-within = omega (arith, row-left some .next .within, ap (arityOf ars) is)
 
-      pub same-left : (k : ℕ) → k + 1 ≤ m → RowsLeft n ars ws relation next k
+      pub same-left : (k : ℕ) → k + 1 ≤ m → RowsLeft ars ws relation next k
       same-left k l =
-          let walk-on : Walk n ars ws next = subst (λ (r : ℕ). Walk n ars ws (i + (1 + arityOf ars r))) is (row-left some .next) in
-          record { within = walk-on .within; well-formed = walk-on .well-formed; some = omega (arith, l, left .some, ap length same-step) }
+          let walk-on : Walk (left .given .relations) ars ws next = subst (λ (r : ℕ). Walk (left .given .relations) ars ws (i + (1 + arityOf ars r))) is (row-left some .next) in
+          record { given = left .given; known = left .known; within = walk-on .within; well-formed = walk-on .well-formed; some = omega (arith, l, left .some, ap length same-step) }

@@ -1,5 +1,5 @@
 -- The rows of a relation that are left at a place, and those that a probe of one column passes over.
-use Prim.Native.Nat.{ℕ, zero, suc, _+_, _≤_}
+use Prim.Native.Nat.{ℕ, zero, suc, _+_, _≤_, _<_}
 use mathlib.Core.Path.{_≡_}
 use mathlib.Core.Bool.{Bool, true, not, _&&_, cond}
 use mathlib.Core.List.{List, [], _∷_}
@@ -8,16 +8,19 @@ use lib.Dec.{eqb, ltb}
 use Rattle.calculus.specs.Cell.{constants, isConstant}
 use Rattle.calculus.specs.Closed.{tuples}
 use Rattle.calculus.specs.Row.{Row}
+use Rattle.instance.specs.InstanceWellFormed.{InstanceOf}
 use Rattle.instance.specs.Rows.{wordsOfRow, wordsWellFormed, rowsFrom}
 
 -- above every cell
 abbrev pub anyCell : ℕ
 anyCell = 4294967295
 
--- from a place on the words are whole rows, of which at least m are the relation's
-pub record RowsLeft (n : ℕ) (ars ws : List ℕ) (relation place m : ℕ) : Type 0 where
+-- from a place of an instance's words on, they are whole rows, of which at least m are those of one of its relations
+pub record RowsLeft (ars ws : List ℕ) (relation place m : ℕ) : Type 0 where
+  pub given : InstanceOf ars ws
+  pub known : relation < given .relations
   pub within : place ≤ length ws
-  pub well-formed : wordsWellFormed n ars 0 (drop place ws) ≡ true
+  pub well-formed : wordsWellFormed (given .relations) ars 0 (drop place ws) ≡ true
   pub some : m ≤ length (tuples relation (rowsFrom ars 0 (drop place ws)))
 
 -- the cell in a column differs from the asked one, and is below the limit

@@ -1,14 +1,14 @@
 // What an atom says of a row: whether it is in a relation, and how many of the relation's rows are examined for that.
 ghost use mathlib.Core.Path.{_≡_};
-ghost use Prim.Native.Nat.{_+_, _<_, _≤_};
+ghost use Prim.Native.Nat.{_+_, _≤_};
 ghost use lib.ListN.{length, take};
 ghost use Rattle.calculus.specs.Closed.{tuples};
 ghost use Rattle.calculus.specs.KindOne.{MeansStands, MeansExamined};
 ghost use Rattle.instance.specs.Header.{arityOf, maxColumns};
 ghost use Rattle.instance.specs.Rows.{rowsFrom};
-ghost use Rattle.instance.specs.InstanceWellFormed.{InstanceWellFormed};
 ghost use Rattle.lookup.specs.Examined.{examinedOf};
 ghost use Rattle.lookup.specs.Matching.{matchAfter};
+ghost use Rattle.lookup.specs.Passing.{RowsLeft};
 ghost use Rattle.lookup.specs.Place.{cellsAt};
 use super::probe::next_probe;
 use super::probe::probe_at;
@@ -43,14 +43,11 @@ fn compare_after(words: &[u32], place: usize, row: &[u32], possible: bool) -> Ma
 pub fn stands(
     words: &[u32],
     arities: &[u32; 8],
-    relations: u32,
     relation: u32,
     most: u32,
     row: &[u32; 6],
 ) -> Examined
-    requires { ⌜ InstanceWellFormed relations (now arities) (now words) ⌝ }
-    requires { ⌜ (relation < relations) × (length (now row) ≡ maxColumns) ⌝ }
-    requires { ⌜ most ≤ length (tuples relation (rowsFrom (now arities) 0 (now words))) ⌝ }
+    requires { ⌜ RowsLeft (now arities) (now words) relation 0 most × (length (now row) ≡ maxColumns) ⌝ }
     ensures answer { λ r. ⌜ r ≡ examinedOf (take most (tuples relation (rowsFrom (now (arities .entry)) 0 (now (words .entry))))) (take (arityOf (now (arities .entry)) relation) (now (row .entry))) ⌝ }
     ensures verdict { λ r. ⌜ MeansStands (take most (tuples relation (rowsFrom (now (arities .entry)) 0 (now (words .entry))))) (take (arityOf (now (arities .entry)) relation) (now (row .entry))) (r .truth) ⌝ }
     ensures charge { λ r. ⌜ MeansExamined (take most (tuples relation (rowsFrom (now (arities .entry)) 0 (now (words .entry))))) (take (arityOf (now (arities .entry)) relation) (now (row .entry))) (r .rows) ⌝ }
@@ -67,17 +64,7 @@ pub fn stands(
         let column = probe.column;
         let cell = asked[column];
         let low = probe.low;
-        let near = next_near(
-            words,
-            arities,
-            relations,
-            relation,
-            column,
-            cell,
-            low,
-            i,
-            more,
-        );
+        let near = next_near(words, arities, relation, column, cell, low, i, more);
         more = near.more;
         if 0 < more {
             let earlier = possible;

@@ -6,7 +6,6 @@ ghost use mathlib.Core.List.{List};
 ghost use lib.ListN.{getD, take, drop};
 ghost use Rattle.calculus.specs.Closed.{tuples};
 ghost use Rattle.instance.specs.Rows.{rowsFrom};
-ghost use Rattle.instance.specs.InstanceWellFormed.{InstanceWellFormed};
 ghost use Rattle.instance.specs.Header.{arityOf};
 ghost use Rattle.lookup.specs.Passing.{RowsLeft, toldApart, passing, wordsPassed};
 
@@ -18,12 +17,11 @@ pub struct Near {
 
 // The place of the relation's next row. While rows of another relation follow one another, their length is not looked up again: that look-up would have
 // to end before the next word can be read. Such rows are passed over two at a time.
-fn next_row(words: &[u32], arities: &[u32; 8], relations: u32, relation: u32, place: usize) -> usize
-    requires { ⌜ InstanceWellFormed relations (now arities) (now words) × (relation < relations) ⌝ }
-    requires { ⌜ RowsLeft relations (now arities) (now words) relation place 1 ⌝ }
+fn next_row(words: &[u32], arities: &[u32; 8], relation: u32, place: usize) -> usize
+    requires { ⌜ RowsLeft (now arities) (now words) relation place 1 ⌝ }
     ensures here { λ r. ⌜ getD (now (words .entry)) r 0 ≡ relation ⌝ }
     ensures rows { λ r. ⌜ tuples relation (rowsFrom (now (arities .entry)) 0 (drop r (now (words .entry)))) ≡ tuples relation (rowsFrom (now (arities .entry)) 0 (drop place (now (words .entry)))) ⌝ }
-    ensures left { λ r. ⌜ RowsLeft relations (now (arities .entry)) (now (words .entry)) relation r 1 ⌝ }
+    ensures left { λ r. ⌜ RowsLeft (now (arities .entry)) (now (words .entry)) relation r 1 ⌝ }
     ensures place { λ r. ⌜ ((test : List ℕ → Bool) (n : ℕ) → r + wordsPassed test relation (suc n) (rowsFrom (now (arities .entry)) 0 (drop r (now (words .entry)))) ≡ place + wordsPassed test relation (suc n) (rowsFrom (now (arities .entry)) 0 (drop place (now (words .entry))))) ⌝ }
 {
     let mut other = relation;
@@ -50,7 +48,6 @@ fn next_row(words: &[u32], arities: &[u32; 8], relations: u32, relation: u32, pl
 pub fn next_near(
     words: &[u32],
     arities: &[u32; 8],
-    relations: u32,
     relation: u32,
     column: usize,
     asked: u32,
@@ -58,10 +55,9 @@ pub fn next_near(
     place: usize,
     most: u32,
 ) -> Near
-    requires { ⌜ InstanceWellFormed relations (now arities) (now words) × (relation < relations) × (column < arityOf (now arities) relation) ⌝ }
-    requires { ⌜ RowsLeft relations (now arities) (now words) relation place most ⌝ }
+    requires { ⌜ RowsLeft (now arities) (now words) relation place most × (column < arityOf (now arities) relation) ⌝ }
     ensures rows { λ r. ⌜ take (r .more) (tuples relation (rowsFrom (now (arities .entry)) 0 (drop (r .place) (now (words .entry))))) ≡ passing (toldApart column asked limit) (take most (tuples relation (rowsFrom (now (arities .entry)) 0 (drop place (now (words .entry)))))) ⌝ }
-    ensures left { λ r. ⌜ RowsLeft relations (now (arities .entry)) (now (words .entry)) relation (r .place) (r .more) ⌝ }
+    ensures left { λ r. ⌜ RowsLeft (now (arities .entry)) (now (words .entry)) relation (r .place) (r .more) ⌝ }
     ensures here { λ r. ⌜ (0 < r .more → getD (now (words .entry)) (r .place) 0 ≡ relation) ⌝ }
     ensures place { λ r. ⌜ r .place ≡ place + wordsPassed (toldApart column asked limit) relation most (rowsFrom (now (arities .entry)) 0 (drop place (now (words .entry)))) ⌝ }
 {
@@ -69,7 +65,7 @@ pub fn next_near(
     let mut more = most;
     let mut i = place;
     while 0 < more {
-        i = next_row(words, arities, relations, relation, i);
+        i = next_row(words, arities, relation, i);
         let cell = words[i + 1 + column];
         if cell == asked {
             return Near {

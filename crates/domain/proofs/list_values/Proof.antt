@@ -8,8 +8,9 @@ use lib.ListN.{length, take, drop, getD, length-map}
 use lib.Seq.{length-take-le, length-front}
 use Rattle.calculus.specs.Row.{Row, cellsOf}
 use Rattle.instance.specs.Header.{arityOf, maxRelations}
+use Rattle.instance.specs.InstanceWellFormed.{InstanceOf}
 use Rattle.instance.specs.Rows.{rowsFrom}
-use Rattle.instance.proofs.Walk.{Walk, walk-starts, AtRow, row-here, rows-end, relation-few, row-lent}
+use Rattle.instance.proofs.Walk.{WalkIn, walk-in, AtRow, row-here, rows-end, relation-few, row-lent}
 use Rattle.domain.specs.Chains.{wordValue, Chained}
 use Rattle.domain.proofs.Chains.{chained-starts}
 use Rattle.domain.proofs.Listing.{Listing, listing-starts, listing-row, listing-room, listing-fits, listing-number, listing-ends}
@@ -17,23 +18,23 @@ use Rattle.domain.proofs.list_values.Statement.{statement}
 use Rattle.domain.proofs.list_values.Tie as tie
 
 abbrev Inv-loop : tie.InvT-loop
-Inv-loop words arities relations buffer₀ heads₀ n₀ i₀ buffer heads n i =
-    Walk relations arities words i × (n ≤ i) × Chained heads buffer n
+Inv-loop words arities buffer₀ heads₀ n₀ i₀ buffer heads n i =
+    WalkIn arities words i × (n ≤ i) × Chained heads buffer n
     × Listing (cellsOf (rowsFrom arities 0 words)) buffer₀ buffer n (rowsFrom arities 0 (drop i words))
 
 abbrev μ-loop : tie.MeasureT-loop
-μ-loop words arities relations buffer₀ heads₀ n₀ i₀ buffer heads n i = length words - i
+μ-loop words arities buffer₀ heads₀ n₀ i₀ buffer heads n i = length words - i
 
 loop-holds : tie.Need-loop-holds Inv-loop μ-loop
-loop-holds c = (walk-starts _ _ _ (c .before .before .pre .0 .words), omega arith, chained-starts _, listing-starts _ _ (c .before .before .pre .1))
+loop-holds c = (walk-in _ _ (c .before .before .pre .0), omega arith, chained-starts _, listing-starts _ _ (c .before .before .pre .1))
 
 -- the row at index i
 module _ (c : tie.In-loop Inv-loop μ-loop) where
   abbrev start : tie.Start Inv-loop μ-loop
   start = c .before .before .before .before
 
-  abbrev n : ℕ
-  n = start .args .relations
+  abbrev given : InstanceOf (start .args .arities .now) (start .args .words .now)
+  given = c .before .loop .inv .0 .0
 
   abbrev ars : List ℕ
   ars = start .args .arities .now
@@ -50,11 +51,11 @@ module _ (c : tie.In-loop Inv-loop μ-loop) where
   abbrev row : Row
   row = record { relation = getD ws i 0; cells = take a (drop (i + 1) ws) }
 
-  here : AtRow n ars ws i
-  here = row-here n ars ws i (omega arith) (c .before .loop .inv .0)
+  here : AtRow (given .relations) ars ws i
+  here = row-here (given .relations) ars ws i (omega arith) (c .before .loop .inv .0 .1)
 
   few : getD ws i 0 < maxRelations
-  few = relation-few n ars ws (getD ws i 0) (start .pre .0) (here .relation)
+  few = relation-few (given .relations) ars ws (getD ws i 0) (given .well-formed) (here .relation)
 
   sum : i + 1 + a ≡ i + (1 + a)
   sum = omega arith
@@ -104,7 +105,7 @@ add-cells-requires c κs =
     let h = here b in
     rw (row-lent (ws b) (i b) (a b)) (
       listing-room (to-come b),
-      omega (arith, h .size, h .next .within, start b .pre .0 .few),
+      omega (arith, h .size, h .next .within, start b .pre .0 .well-formed .few),
       h .cells,
       b .before .loop .inv .2,
     )
@@ -116,7 +117,7 @@ loop-again : tie.Need-loop-again Inv-loop μ-loop
 loop-again c =
     let b = c .before .before .before .before .before .before .before .before in
     let added = rw (row-lent (ws b) (i b) (a b)) at (c .before .before .add-cells .ensures .1) in
-    rw (sum b) (here b .next, omega (arith, added .most, here b .size), c .before .before .add-cells .ensures .0, listing-row (to-come b) added)
+    rw (sum b) ((given b, here b .next), omega (arith, added .most, here b .size), c .before .before .add-cells .ensures .0, listing-row (to-come b) added)
 
 all-listed :
     (c : tie.After-loop Inv-loop μ-loop) →
@@ -125,7 +126,7 @@ all-listed :
     (c .before .before .before .before .args .buffer .now) (c .before .loop .buffer) (c .before .loop .n) []
 all-listed c =
     let ws = c .before .before .before .before .args .words .now in
-    let e : c .before .loop .i ≡ length ws = omega (arith, c .before .loop .inv .0 .within) in
+    let e : c .before .loop .i ≡ length ws = omega (arith, c .before .loop .inv .0 .1 .within) in
     rw (rows-end (c .before .before .before .before .args .arities .now) ws _ e) at (c .before .loop .inv .3)
 
 slice-relend-prefix-unlink : tie.Need-slice-relend-prefix-unlink Inv-loop μ-loop

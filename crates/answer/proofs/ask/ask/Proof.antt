@@ -1,26 +1,31 @@
 -- `answer::ask::ask` meets its contract: the scan and the check give the first refusals; if there is none, the values are listed, the rows
 -- counted and the top node evaluated. Assumes nothing.
 use Prim.Native.Nat.{ℕ, _+_, _≤_}
-use mathlib.Core.Path.{_≡_, sym, _∙_}
+use mathlib.Core.Path.{_≡_, refl, sym, ap, _∙_}
 use mathlib.Core.Bool.{true}
-use mathlib.Core.List.{List}
+use mathlib.Core.List.{List, _++_}
 use native.Mathlib.Omega.{arith}
 use borrow.Author.Needs.{needs}
-use lib.ListN.{length, take}
-use lib.Seq.{length-take-le}
-use Rattle.calculus.specs.Row.{cellsOf}
+use lib.ListN.{length, take, replicate, length-append}
+use lib.Seq.{length-take-le, take-at}
+use Rattle.calculus.specs.Row.{Row, cellsOf}
 use Rattle.calculus.specs.Domain.{domain}
 use Rattle.instance.specs.declared.header.Header.{Header}
 use Rattle.instance.specs.declared.scan.Scanned.the-variants.{Rows}
 use Rattle.instance.specs.Header.{maxRelations}
+use Rattle.instance.specs.InstanceWellFormed.{InstanceOf}
 use Rattle.instance.specs.Rows.{rowsFrom}
 use Rattle.instance.specs.Sound.{sound, rows, scanned}
 use Rattle.instance.proofs.Sound.{scanned-sound, scanned-unsound, scanned-rows, Sound, sound-gives}
+use Rattle.instance.specs.RowCounts.{rowCounts}
+use Rattle.instance.proofs.RowCounts.{row-counts-size}
+use Rattle.known.specs.Known.{knownWords, flagAt}
+use Rattle.known.proofs.Walking.{no-flags}
 use Rattle.query.specs.Scope.{Scopes}
 use Rattle.query.specs.Check.{checkQuery, passed}
 use Rattle.query.proofs.Passed.{passed-number}
 use Rattle.answer.proofs.RerunLaws.{Asks}
-use Rattle.answer.proofs.AskLaws.{unsound-asked, check-asked, buffer-asked, answered, cells-count, made-ready, listed-part, length-asked}
+use Rattle.answer.proofs.AskLaws.{unsound-asked, check-asked, buffer-asked, answered, cells-count, made-ready, listed-ranged, listed-part, length-asked}
 use Rattle.answer.proofs.Told.{ask-told}
 use Rattle.answer.proofs.ask.ask.Statement.{statement}
 use Rattle.answer.proofs.ask.ask.Tie as tie
@@ -67,6 +72,9 @@ module _ (c : tie.After-struct-known) where
 
   abbrev given : Sound h ws
   given = sound-gives h ws is-sound
+
+  lent : InstanceOf (h .arities) (take (h .used) ws)
+  lent = record { relations = h .relations; well-formed = given .well-formed }
 
   cells : h .used ≡ count + length (cellsOf (rows h ws))
   cells = rw (scanned-rows h ws count is-scanned) at (cells-count h ws is-sound)
@@ -117,7 +125,7 @@ module _ (c : tie.After-buffer) where
   tested = c .before .before .before .before .before
 
   abbrev left : List ℕ
-  left = c .before .list-values .last .1 .1 .1 .0
+  left = c .before .list-values .last .1 .1 .0
 
   abbrev values : List ℕ
   values = domain (rowsFrom (h (first tested) .arities) 0 (take (h (first tested) .used) (ws (first tested))))
@@ -125,9 +133,13 @@ module _ (c : tie.After-buffer) where
   are-listed : (c .before .list-values .result ≤ length left) × (take (c .before .list-values .result) left ≡ values)
   are-listed = listed-part values (buffer (first tested)) left (c .before .list-values .result) (c .before .list-values .ensures .0) (c .before .list-values .ensures .1)
 
+-- the counts, followed by no flags
+counts-size : (rs : List Row) → length (rowCounts rs ++ replicate 128 0) ≡ knownWords
+counts-size rs = length-append (rowCounts rs) (replicate 128 0) ∙ ap (λ (n : ℕ). n + 128) (row-counts-size rs)
+
 -- after the rows were counted
 abbrev listed : tie.After-row-counts → tie.After-buffer
-listed c = c .before .before .before .before
+listed c = c .before .before .before .before .before
 
 scan-requires : tie.Need-scan-requires
 scan-requires c κs = search needs
@@ -179,13 +191,13 @@ slice-aggregate-list-values c = sym (given (first (c .before)) .in-use)
 
 list-values-requires : tie.Need-list-values-requires
 unfolding rows
-list-values-requires c κs = let t = c .before .before .before in (given (first t) .well-formed, asks t .room)
+list-values-requires c κs = let t = c .before .before .before in (lent (first t), asks t .room)
 
 slice-aggregate-row-counts : tie.Need-slice-aggregate-row-counts
 slice-aggregate-row-counts c = sym (given (first (tested (c .before .before))) .in-use)
 
 row-counts-requires : tie.Need-row-counts-requires
-row-counts-requires c κs = given (first (tested (c .before .before .before))) .well-formed
+row-counts-requires c κs = (lent (first (tested (c .before .before .before .before))), (refl, refl))
 
 slice-aggregate-evaluate-top : tie.Need-slice-aggregate-evaluate-top
 slice-aggregate-evaluate-top c = sym (given (first (tested (listed (c .before .before)))) .in-use)
@@ -203,7 +215,14 @@ evaluate-top-requires c κs =
     let t = tested l in
     let b = first t in
     let q = checked (t .before) in
-    made-ready (h b) (ws b) (qs b) (cs b) (is-sound b) (eight b) (right (length-known (t .before))) (q .0) (q .1) _ _ (counted .row-counts .ensures) (are-listed l .1)
+    let rs = rowsFrom (h b .arities) 0 (take (h b .used) (ws b)) in
+    let is = counted .row-counts .ensures in
+    let made =
+    made-ready (h b) (ws b) (qs b) (cs b) (is-sound b) (eight b) (right (length-known (t .before))) (q .0) (q .1) _
+    (ap length is ∙ counts-size rs) (ap (take maxRelations) is ∙ take-at (rowCounts rs) (replicate 128 0) maxRelations (row-counts-size rs))
+    in
+    let ranged = listed-ranged (h b) (ws b) (qs b) _ _ (is-sound b) (λ p. ap (λ (z : List ℕ). flagAt z p) is ∙ no-flags (rowCounts rs) (row-counts-size rs) 128 p) (are-listed l .1) in
+    ((made .0, ranged), made .1)
 
 enum-known-truth : tie.Need-enum-known-truth
 enum-known-truth c = search needs

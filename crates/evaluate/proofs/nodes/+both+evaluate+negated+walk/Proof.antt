@@ -3,16 +3,18 @@ use Prim.Native.Nat.{ℕ, _+_, _-_, _*_, _<_}
 use mathlib.Core.Path.{_≡_, refl, sym, ap, _∙_}
 use native.Mathlib.Omega.{arith}
 use borrow.Author.Needs.{needs}
-use mathlib.Core.List.{List}
-use lib.ListN.{length, getD, set, length-set}
+use mathlib.Core.List.{List, _∷_}
+use lib.ListN.{length, getD, set, drop, length-set}
 use lib.Seq.{set-getD}
 use Rattle.calculus.specs.Formula.{variables}
+use Rattle.known.specs.Known.{unpassed}
+use Rattle.known.proofs.Walking.{unpassed-end, unpassed-here, unpassed-gap, gap-some}
 use Rattle.query.specs.Passed.{NodeBy}
 use Rattle.query.specs.Words.{noKind, negates, joins, ranges, kindOf, wordAt, nodeCount, equals}
 use Rattle.evaluate.specs.declared.evaluated.Evaluated.{Evaluated}
 use Rattle.evaluate.specs.declared.evaluated.Evaluated.the-variants.{Spent}
 use Rattle.evaluate.specs.Ready.{world, Right, junctionOf}
-use Rattle.evaluate.proofs.Children.{joins-by, ranges-by, none-above, well-formed-by, negated-spent, negated-verdict, both-left-spent, both-settled, both-low, both-right-spent, both-verdict, right-low, Walking, set-again, set-back, walk-starts, walk-ends, walk-spent, walk-settled, walk-more}
+use Rattle.evaluate.proofs.Children.{joins-by, ranges-by, none-above, well-formed-by, negated-spent, negated-verdict, both-left-spent, both-settled, both-low, both-right-spent, both-verdict, right-low, Walking, set-again, set-back, walk-starts, walk-ends, walk-spent, walk-settled, walk-more, walk-passes}
 use borrow.Fn.Kinds.{In}
 use borrow.Fn.PlainCycle.{Measures, is, falls, and}
 use Rattle.evaluate.proofs.nodes.both.Reads as both
@@ -27,6 +29,8 @@ use Rattle.evaluate.proofs.nodes.+both+evaluate+negated+walk.Lts-negate
 use Rattle.evaluate.proofs.nodes.walk.Reads as walk
 use Rattle.evaluate.proofs.nodes.walk.Kinds as walk-kinds
 use Rattle.evaluate.proofs.nodes.+both+evaluate+negated+walk.Lts-walk as walk-lts
+use Rattle.known.proofs.flags.gap.Reads as gap-reads
+use Rattle.known.proofs.flags.passed.Reads as passed-reads
 use Rattle.evaluate.proofs.nodes.assign.Reads as assign-reads
 use Rattle.evaluate.proofs.nodes.atom.Reads as atom-reads
 use Rattle.evaluate.proofs.nodes.equality.Reads as equality-reads
@@ -86,7 +90,7 @@ abbrev negated-claims : ℕ → negated-lts.Claims
 negated-claims t = (word-reads.Asked, word-reads.Learnt, evaluate-below t, evaluate.Post, not-reads.Asked, not-reads.Learnt)
 
 abbrev walk-claims : ℕ → walk-lts.Claims
-walk-claims t = (word-reads.Asked, word-reads.Learnt, unit-reads.Asked, unit-reads.Learnt, assign-reads.Asked, assign-reads.Learnt, evaluate-below t, evaluate.Post, join-reads.Asked, join-reads.Learnt, settles-reads.Asked, settles-reads.Learnt)
+walk-claims t = (word-reads.Asked, word-reads.Learnt, unit-reads.Asked, unit-reads.Learnt, passed-reads.Asked, passed-reads.Learnt, gap-reads.Asked, gap-reads.Learnt, assign-reads.Asked, assign-reads.Learnt, evaluate-below t, evaluate.Post, join-reads.Asked, join-reads.Learnt, settles-reads.Asked, settles-reads.Learnt)
 
 both-word-requires : (t : ℕ) → both-lts.Need-word-requires (both-claims t) (both-at t) both.Post
 both-word-requires t c κs = (c .before .before .before .pre .1 .0 .known, omega arith)
@@ -96,8 +100,8 @@ both-word-requires-2 t c κs = (c .before .before .before .before .pre .1 .0 .kn
 
 -- what is known of the two children of a node that joins them
 module _ (t : ℕ) (s : both-lts.Start (both-claims t) (both-at t) both.Post) where
-  both-down : NodeBy (s .args .relations) (s .args .arities .now) (s .args .query .now) (s .args .node) (joins (junctionOf (s .args .every)))
-  both-down = well-formed-by _ _ _ _ _ _ (joins (junctionOf (s .args .every))) (s .pre .1 .0 .ready) (s .pre .1 .0 .known) (s .pre .1 .1)
+  both-down : NodeBy (s .pre .1 .0 .ready .given .relations) (s .args .arities .now) (s .args .query .now) (s .args .node) (joins (junctionOf (s .args .every)))
+  both-down = well-formed-by _ _ _ _ _ (joins (junctionOf (s .args .every))) (s .pre .1 .0 .ready) (s .pre .1 .0 .known) (s .pre .1 .1)
 
 -- the left child's answer, as the answer for the node that word 1 names
 module _ (t : ℕ) (e : both-lts.After-evaluate (both-claims t) (both-at t) both.Post) where
@@ -126,7 +130,7 @@ both-evaluate-requires t c κs =
     let s = c .before .before .before .before .before .before in
     let left = both-down t s .0 in
     rw (c .before .before .word .ensures)
-    (omega (arith, left .0, left .1, s .pre .0), record { ready = s .pre .1 .0 .ready; listed = s .pre .1 .0 .listed; known = left .1; sixteen = s .pre .1 .0 .sixteen })
+    (omega (arith, left .0, left .1, s .pre .0), record { ready = s .pre .1 .0 .ready; ranged = s .pre .1 .0 .ranged; known = left .1; sixteen = s .pre .1 .0 .sixteen })
 
 both-enum-known-a : (t : ℕ) → both-lts.Need-enum-known-a (both-claims t) (both-at t) both.Post
 both-enum-known-a t c = search needs
@@ -168,7 +172,7 @@ both-evaluate-requires-2 t c κs =
     let s = both-start t e in
     let right = both-down t s .1 in
     rw (e .before .before .word2 .ensures)
-    (omega (arith, right .0, right .1, s .pre .0), record { ready = s .pre .1 .0 .ready; listed = s .pre .1 .0 .listed; known = right .1; sixteen = ap length (e .evaluate .ensures .0) ∙ s .pre .1 .0 .sixteen })
+    (omega (arith, right .0, right .1, s .pre .0), record { ready = s .pre .1 .0 .ready; ranged = s .pre .1 .0 .ranged; known = right .1; sixteen = ap length (e .evaluate .ensures .0) ∙ s .pre .1 .0 .sixteen })
 
 both-enum-known-b : (t : ℕ) → both-lts.Need-enum-known-b (both-claims t) (both-at t) both.Post
 both-enum-known-b t c = search needs
@@ -192,8 +196,8 @@ both-returns-3 t c =
 both-join-requires : (t : ℕ) → both-lts.Need-join-requires (both-claims t) (both-at t) both.Post
 both-join-requires t c κs = search needs
 
-both-add-t22 : (t : ℕ) → both-lts.Need-add-t22 (both-claims t) (both-at t) both.Post
-both-add-t22 t c =
+both-add-cost : (t : ℕ) → both-lts.Need-add-cost (both-claims t) (both-at t) both.Post
+both-add-cost t c =
     let r = c .before .before .before .before in
     let e = left-done t r in
     let s = both-start t e in
@@ -233,7 +237,7 @@ unfolding kindOf
 evaluate-equality-requires t c κs =
     let ev = c .before .before .before .before .before .before .pre .1 in
     let is = ap kindOf (sym (c .before .before .word .ensures) ∙ c .before .match .keys2) in
-    ((ev .known, ev .sixteen), (well-formed-by _ _ _ _ _ _ equals (ev .ready) (ev .known) is, is))
+    ((ev .known, ev .sixteen), (well-formed-by _ _ _ _ _ equals (ev .ready) (ev .known) is, is))
 
 evaluate-negated-requires : (t : ℕ) → evaluate-lts.Need-negated-requires (evaluate-claims t) (evaluate-at t) evaluate.Post
 unfolding kindOf
@@ -274,13 +278,13 @@ evaluate-returns-6 t c =
     let word = c .before .before in
     let ev = word .before .before .before .before .pre .1 in
     let none : word .word .result ≡ 0 = omega (arith, c .if1 .taken) in
-    absurd (well-formed-by _ _ _ _ _ _ noKind (ev .ready) (ev .known) (ap kindOf (sym (word .word .ensures) ∙ none)))
+    absurd (well-formed-by _ _ _ _ _ noKind (ev .ready) (ev .known) (ap kindOf (sym (word .word .ensures) ∙ none)))
 
 evaluate-returns-7 : (t : ℕ) → evaluate-lts.Need-returns-7 (evaluate-claims t) (evaluate-at t) evaluate.Post
 evaluate-returns-7 t c =
     let word = c .before .before .before .before in
     let ev = word .before .before .before .before .pre .1 in
-    absurd (well-formed-by _ _ _ _ _ _ noKind (ev .ready) (ev .known) (ap kindOf (sym (word .word .ensures)) ∙ none-above (word .word .result) (c .if3 .left)))
+    absurd (well-formed-by _ _ _ _ _ noKind (ev .ready) (ev .known) (ap kindOf (sym (word .word .ensures)) ∙ none-above (word .word .result) (c .if3 .left)))
 
 negated-word-requires : (t : ℕ) → negated-lts.Need-word-requires (negated-claims t) (negated-at t) negated.Post
 negated-word-requires t c κs = (c .before .before .before .pre .1 .0 .known, omega arith)
@@ -289,9 +293,9 @@ negated-evaluate-requires : (t : ℕ) → negated-lts.Need-evaluate-requires (ne
 negated-evaluate-requires t c κs =
     let start = c .before .before .before .before .before in
     let ev = start .pre .1 .0 in
-    let down = well-formed-by _ _ _ _ _ _ negates (ev .ready) (ev .known) (start .pre .1 .1) in
+    let down = well-formed-by _ _ _ _ _ negates (ev .ready) (ev .known) (start .pre .1 .1) in
     rw (c .before .word .ensures)
-    (omega (arith, down .0, down .1, start .pre .0), record { ready = ev .ready; listed = ev .listed; known = down .1; sixteen = ev .sixteen })
+    (omega (arith, down .0, down .1, start .pre .0), record { ready = ev .ready; ranged = ev .ranged; known = down .1; sixteen = ev .sixteen })
 
 negated-enum-known-truth : (t : ℕ) → negated-lts.Need-enum-known-truth (negated-claims t) (negated-at t) negated.Post
 negated-enum-known-truth t c = search needs
@@ -303,7 +307,7 @@ negated-returns : (t : ℕ) → negated-lts.Need-returns (negated-claims t) (neg
 negated-returns t c =
     let start = c .before .before .before .before .before .before .before .before in
     let ev = start .pre .1 .0 in
-    let down = well-formed-by _ _ _ _ _ _ negates (ev .ready) (ev .known) (start .pre .1 .1) in
+    let down = well-formed-by _ _ _ _ _ negates (ev .ready) (ev .known) (start .pre .1 .1) in
     let child = c .before .before .evaluate .ensures in
     (child .0, negated-spent _ _ _ _ (ev .known) (start .pre .1 .1) (down .0) _ _ (rw (c .before .before .before .before .word .ensures, c .enum-told .given .1) at (child .1)))
 
@@ -315,27 +319,27 @@ negated-returns-2 t c =
     let asked = c .before .before .before .before in
     let start = asked .before .before .before .before .before .before in
     let ev = start .pre .1 .0 in
-    let down = well-formed-by _ _ _ _ _ _ negates (ev .ready) (ev .known) (start .pre .1 .1) in
+    let down = well-formed-by _ _ _ _ _ negates (ev .ready) (ev .known) (start .pre .1 .1) in
     let child = asked .evaluate .ensures in
     (child .0, rw (c .not .ensures .0) (negated-verdict _ _ _ _ (ev .known) (start .pre .1 .1) (down .0) _ _ _ _ (rw (c .before .before .before .before .before .before .word .ensures, c .before .before .truth .given .1) at (child .1))))
 
 abbrev walk-Inv-loop : walk-lts.InvT-loop
-walk-Inv-loop query node every env₀ budget values relations arities words counts variable child old truth₀ cost₀ i₀ env truth cost i =
-    Walking (world arities words) arities query node (junctionOf every) env₀ values budget truth cost i × (set env variable old ≡ env₀)
+walk-Inv-loop query node every env₀ budget values arities words known variable child old truth₀ cost₀ i₀ env truth cost i =
+    Walking (world arities words) arities query node (junctionOf every) env₀ budget truth cost (unpassed known i (drop i values)) × (set env variable old ≡ env₀)
 
 abbrev walk-μ-loop : walk-lts.MeasureT-loop
-walk-μ-loop query node every env₀ budget values relations arities words counts variable child old truth₀ cost₀ i₀ env truth cost i =
+walk-μ-loop query node every env₀ budget values arities words known variable child old truth₀ cost₀ i₀ env truth cost i =
     length values - i
 
 -- what is known of the child of a node that ranges over values
 module _ (t : ℕ) (s : walk-lts.Start (walk-claims t) (walk-at t) walk.Post walk-Inv-loop walk-μ-loop) where
-  walk-down : NodeBy (s .args .relations) (s .args .arities .now) (s .args .query .now) (s .args .node) (ranges (junctionOf (s .args .every)))
-  walk-down = well-formed-by _ _ _ _ _ _ (ranges (junctionOf (s .args .every))) (s .pre .1 .0 .ready) (s .pre .1 .0 .known) (s .pre .1 .1)
+  walk-down : NodeBy (s .pre .1 .0 .ready .given .relations) (s .args .arities .now) (s .args .query .now) (s .args .node) (ranges (junctionOf (s .args .every)))
+  walk-down = well-formed-by _ _ _ _ _ (ranges (junctionOf (s .args .every))) (s .pre .1 .0 .ready) (s .pre .1 .0 .known) (s .pre .1 .1)
 
 -- once the child was evaluated for a value
 module _ (t : ℕ) (e : walk-lts.After-evaluate (walk-claims t) (walk-at t) walk.Post walk-Inv-loop walk-μ-loop) where
   abbrev walk-loop : walk-lts.At-loop (walk-claims t) (walk-at t) walk.Post walk-Inv-loop walk-μ-loop
-  walk-loop = e .before .before .before .before .before .before
+  walk-loop = e .before .before .before .before .before .before .before .before
 
   abbrev walk-start : walk-lts.Start (walk-claims t) (walk-at t) walk.Post walk-Inv-loop walk-μ-loop
   walk-start = walk-loop .before .before .before .before .before .before .before .before
@@ -359,6 +363,15 @@ module _ (t : ℕ) (e : walk-lts.After-evaluate (walk-claims t) (walk-at t) walk
       e .before .before .assign .ensures ∙ set-again _ (walk-loop .loop .env) _ _ _ (walk-loop .loop .inv .1) ∙
       ap (λ (v : ℕ). set env₀ v value) (walk-loop .before .before .before .before .word .ensures)
 
+  -- the value is the next one that the walk does not pass over
+  next :
+      unpassed (walk-start .args .known .now) (walk-loop .loop .i) (drop (walk-loop .loop .i) (walk-start .args .values .now)) ≡
+      value ∷ unpassed (walk-start .args .known .now) (walk-loop .loop .i + 1) (drop (walk-loop .loop .i + 1) (walk-start .args .values .now))
+  next =
+      let asked = e .before .before .before .before .before .before in
+      unpassed-here (walk-start .args .known .now) (walk-start .args .values .now) (walk-loop .loop .i) (asked .before .loop-test .taken)
+      (sym (asked .passed .ensures) ∙ e .before .before .before .before .before .if1 .left)
+
   -- putting the old cell back restores the assignment
   back : set (e .evaluate .last .1 .1 .0) variable (getD env₀ variable 0) ≡ env₀
   back =
@@ -368,7 +381,7 @@ module _ (t : ℕ) (e : walk-lts.After-evaluate (walk-claims t) (walk-at t) walk
   -- the child's answer, as the answer for the node that word 2 names, within what is left of the budget
   child-told : (r : Evaluated) → e .evaluate .result ≡ r
       → Right (walk-start .args .arities .now) (walk-start .args .words .now) qs (wordAt qs (walk-start .args .node) 2) (set env₀ (wordAt qs (walk-start .args .node) 1) value) (walk-start .args .budget - walk-loop .loop .cost) r
-  child-told r is = rw (e .before .before .before .before .before .before .before .before .before .word2 .ensures, is, here) at (e .evaluate .ensures .1)
+  child-told r is = rw (e .before .before .before .before .before .before .before .before .before .before .before .word2 .ensures, is, here) at (e .evaluate .ensures .1)
 
   -- the assignment still has 16 values, and the variable is one of them
   assignable : (variable < variables) × (length (e .evaluate .last .1 .1 .0) ≡ variables)
@@ -395,13 +408,13 @@ walk-unit-requires t c κs = search needs
 walk-loop-holds : (t : ℕ) → walk-lts.Need-loop-holds (walk-claims t) (walk-at t) walk.Post walk-Inv-loop walk-μ-loop
 walk-loop-holds t c =
     let s = c .before .before .before .before .before .before .before in
-    (rw (c .unit .ensures) (walk-starts _ _ _ _ (s .pre .1 .0 .known) _ (s .pre .1 .1) (walk-down t s .1 .0) _ _ (s .pre .1 .0 .listed) _), set-getD _ _ 0)
+    (rw (c .unit .ensures) (walk-starts _ _ _ _ (s .pre .1 .0 .known) _ (s .pre .1 .1) (walk-down t s .1 .0) _ _ _ (s .pre .1 .0 .ranged .walked _ _ (s .pre .1 .0 .known) (s .pre .1 .1))), set-getD _ _ 0)
 
 walk-mul-assign : (t : ℕ) → walk-lts.Need-mul-assign (walk-claims t) (walk-at t) walk.Post walk-Inv-loop walk-μ-loop
 walk-mul-assign t c = omega arith
 
 walk-shared-slice-read-assign : (t : ℕ) → walk-lts.Need-shared-slice-read-assign (walk-claims t) (walk-at t) walk.Post walk-Inv-loop walk-μ-loop
-walk-shared-slice-read-assign t c = c .before .before .loop-test .taken
+walk-shared-slice-read-assign t c = c .before .before .before .before .loop-test .taken
 
 -- the assignment keeps its length
 kept-long : (t : ℕ) (l : walk-lts.At-loop (walk-claims t) (walk-at t) walk.Post walk-Inv-loop walk-μ-loop) → length (l .loop .env) ≡ variables
@@ -410,19 +423,19 @@ kept-long t l =
 
 walk-assign-requires : (t : ℕ) → walk-lts.Need-assign-requires (walk-claims t) (walk-at t) walk.Post walk-Inv-loop walk-μ-loop
 walk-assign-requires t c κs =
-    let l = c .before .before .before in
+    let l = c .before .before .before .before .before in
     (omega (arith, l .before .before .before .before .word .ensures, walk-down t (l .before .before .before .before .before .before .before .before) .0), kept-long t l)
 
 walk-sub-evaluate : (t : ℕ) → walk-lts.Need-sub-evaluate (walk-claims t) (walk-at t) walk.Post walk-Inv-loop walk-μ-loop
-walk-sub-evaluate t c = c .before .before .before .before .before .loop .inv .0 .low
+walk-sub-evaluate t c = c .before .before .before .before .before .before .before .loop .inv .0 .low
 
 walk-evaluate-requires : (t : ℕ) → walk-lts.Need-evaluate-requires (walk-claims t) (walk-at t) walk.Post walk-Inv-loop walk-μ-loop
 walk-evaluate-requires t c κs =
-    let l = c .before .before .before .before .before in
+    let l = c .before .before .before .before .before .before .before in
     let s = l .before .before .before .before .before .before .before .before in
     let child = walk-down t s .1 in
     rw (l .before .before .before .word2 .ensures)
-    (omega (arith, child .0, child .1, s .pre .0), record { ready = s .pre .1 .0 .ready; listed = s .pre .1 .0 .listed; known = child .1; sixteen = ap length (c .before .assign .ensures) ∙ length-set (l .loop .env) _ _ ∙ kept-long t l })
+    (omega (arith, child .0, child .1, s .pre .0), record { ready = s .pre .1 .0 .ready; ranged = s .pre .1 .0 .ranged; known = child .1; sixteen = ap length (c .before .assign .ensures) ∙ length-set (l .loop .env) _ _ ∙ kept-long t l })
 
 walk-enum-known-one : (t : ℕ) → walk-lts.Need-enum-known-one (walk-claims t) (walk-at t) walk.Post walk-Inv-loop walk-μ-loop
 walk-enum-known-one t c = search needs
@@ -438,8 +451,8 @@ walk-returns t c =
     let e = c .before .before .before .before in
     let s = walk-start t e in (
       c .assign2 .ensures ∙ back t e,
-      walk-spent _ _ _ _ (s .pre .1 .0 .known) _ (s .pre .1 .1) (walk-down t s .1 .0) _ _ (s .pre .1 .0 .listed) _ _ _ _
-          (walk-loop t e .loop .inv .0) (e .before .before .before .before .before .loop-test .taken)
+      walk-spent _ _ _ _ (s .pre .1 .0 .known) _ (s .pre .1 .1) (walk-down t s .1 .0) _ _ _ _ _
+          (walk-loop t e .loop .inv .0) _ _ (next t e)
           (child-told t e Spent (c .before .before .enum-told .given .1)),
     )
 
@@ -464,29 +477,58 @@ walk-returns-2 t c =
     let s = walk-start t e in (
       c .assign3 .ensures ∙ back t e,
       rw (c .before .before .before .before .join .ensures)
-          (walk-settled _ _ _ _ (s .pre .1 .0 .known) _ (s .pre .1 .1) (walk-down t s .1 .0) _ _ (s .pre .1 .0 .listed) _ _ _ _
-          (walk-loop t e .loop .inv .0) (e .before .before .before .before .before .loop-test .taken) _ _
+          (walk-settled _ _ _ _ (s .pre .1 .0 .known) _ (s .pre .1 .1) (walk-down t s .1 .0) _ _ _ _ _
+          (walk-loop t e .loop .inv .0) _ _ (next t e) _ _
           (child-told t e _ (c .before .before .before .before .before .before .one .given .1))
-          (sym (c .before .before .before .settles .ensures) ∙ c .before .before .if1 .taken)),
+          (sym (c .before .before .before .settles .ensures) ∙ c .before .before .if2 .taken)),
     )
+
+walk-passed-requires : (t : ℕ) → walk-lts.Need-passed-requires (walk-claims t) (walk-at t) walk.Post walk-Inv-loop walk-μ-loop
+walk-passed-requires t c κs =
+    let ev = c .before .before .before .before .before .before .before .before .before .pre .1 .0 in
+    (ev .ready .size, omega (arith, c .loop-test .taken, ev .ranged .short))
+
+walk-gap-requires : (t : ℕ) → walk-lts.Need-gap-requires (walk-claims t) (walk-at t) walk.Post walk-Inv-loop walk-μ-loop
+walk-gap-requires t c κs =
+    let ev = c .before .before .before .before .before .before .before .before .before .before .before .pre .1 .0 in
+    (ev .ready .size, omega (arith, c .before .before .loop-test .taken, ev .ranged .short))
 
 walk-add-i : (t : ℕ) → walk-lts.Need-add-i (walk-claims t) (walk-at t) walk.Post walk-Inv-loop walk-μ-loop
 walk-add-i t c =
-    let e = c .before .before .before .before .before .before in
-    omega (arith, e .before .before .before .before .before .loop-test .taken, walk-start t e .good)
+    let ev = c .before .before .before .before .before .before .before .before .before .before .before .before .pre .1 .0 in
+    omega (arith, c .gap .ensures .few, c .before .before .before .loop-test .taken, ev .ranged .short)
 
 walk-loop-less : (t : ℕ) → walk-lts.Need-loop-less (walk-claims t) (walk-at t) walk.Post walk-Inv-loop walk-μ-loop
-walk-loop-less t c = omega arith
+walk-loop-less t c =
+    let some = gap-some (c .gap .ensures) (sym (c .before .before .passed .ensures) ∙ c .before .if1 .taken) in
+    omega (arith, some, c .before .before .before .loop-test .taken)
 
 walk-loop-again : (t : ℕ) → walk-lts.Need-loop-again (walk-claims t) (walk-at t) walk.Post walk-Inv-loop walk-μ-loop
 walk-loop-again t c =
+    let l = c .before .before .before .before in
+    let s = l .before .before .before .before .before .before .before .before in (
+      walk-passes _ _ _ _ (s .pre .1 .0 .known) _ (s .pre .1 .1) (walk-down t s .1 .0) _ _ _ _ _ (l .loop .inv .0) _
+          (unpassed-gap _ _ _ _ (c .gap .ensures .all)),
+      l .loop .inv .1,
+    )
+
+walk-add-i-2 : (t : ℕ) → walk-lts.Need-add-i-2 (walk-claims t) (walk-at t) walk.Post walk-Inv-loop walk-μ-loop
+walk-add-i-2 t c =
+    let e = c .before .before .before .before .before .before in
+    omega (arith, e .before .before .before .before .before .before .before .loop-test .taken, walk-start t e .good)
+
+walk-loop-less-2 : (t : ℕ) → walk-lts.Need-loop-less-2 (walk-claims t) (walk-at t) walk.Post walk-Inv-loop walk-μ-loop
+walk-loop-less-2 t c = omega arith
+
+walk-loop-again-2 : (t : ℕ) → walk-lts.Need-loop-again-2 (walk-claims t) (walk-at t) walk.Post walk-Inv-loop walk-μ-loop
+walk-loop-again-2 t c =
     let e = c .before .before .before .before .before .before in
     let s = walk-start t e in (
       rw (c .before .before .join .ensures)
-          (walk-more _ _ _ _ (s .pre .1 .0 .known) _ (s .pre .1 .1) (walk-down t s .1 .0) _ _ (s .pre .1 .0 .listed) _ _ _ _
-          (walk-loop t e .loop .inv .0) (e .before .before .before .before .before .loop-test .taken) _ _
+          (walk-more _ _ _ _ (s .pre .1 .0 .known) _ (s .pre .1 .1) (walk-down t s .1 .0) _ _ _ _ _
+          (walk-loop t e .loop .inv .0) _ _ (next t e) _ _
           (child-told t e _ (c .before .before .before .before .one .given .1))
-          (sym (c .before .settles .ensures) ∙ c .if1 .left)),
+          (sym (c .before .settles .ensures) ∙ c .if2 .left)),
       back t e,
     )
 
@@ -500,7 +542,7 @@ walk-returns-3 t c =
     let l = c .before .before .before in
     let s = l .before .before .before .before .before .before .before .before in (
       c .assign4 .ensures ∙ l .loop .inv .1,
-      walk-ends _ _ _ _ (s .pre .1 .0 .known) _ (s .pre .1 .1) (walk-down t s .1 .0) _ _ (s .pre .1 .0 .listed) _ _ _ _ (l .loop .inv .0) (c .before .before .loop-test .left),
+      walk-ends _ _ _ _ (s .pre .1 .0 .known) _ (s .pre .1 .1) (walk-down t s .1 .0) _ _ _ _ _ (l .loop .inv .0) (unpassed-end _ _ _ (c .before .before .loop-test .left)),
     )
 
 pub +both+evaluate+negated+walk-spec : {M : Type 1} → statement M
@@ -521,7 +563,7 @@ pub +both+evaluate+negated+walk-spec : {M : Type 1} → statement M
     (both-enum-told-2 t)
     (both-returns-3 t)
     (both-join-requires t)
-    (both-add-t22 t)
+    (both-add-cost t)
     (both-returns-4 t))
     (λ t. evaluate-lts.spec (evaluate-claims t)
     (evaluate-at t)
@@ -560,6 +602,11 @@ pub +both+evaluate+negated+walk-spec : {M : Type 1} → statement M
     (walk-element-copy-out-old t)
     (walk-unit-requires t)
     (walk-loop-holds t)
+    (walk-passed-requires t)
+    (walk-gap-requires t)
+    (walk-add-i t)
+    (walk-loop-less t)
+    (walk-loop-again t)
     (walk-mul-assign t)
     (walk-shared-slice-read-assign t)
     (walk-assign-requires t)
@@ -574,8 +621,8 @@ pub +both+evaluate+negated+walk-spec : {M : Type 1} → statement M
     (walk-settles-requires t)
     (walk-assign-requires-3 t)
     (walk-returns-2 t)
-    (walk-add-i t)
-    (walk-loop-less t)
-    (walk-loop-again t)
+    (walk-add-i-2 t)
+    (walk-loop-less-2 t)
+    (walk-loop-again-2 t)
     (walk-assign-requires-4 t)
     (walk-returns-3 t)

@@ -4,7 +4,7 @@ use mathlib.Core.Bool.{true}
 use Prim.Native.Nat.{ℕ, _+_, _-_, _<_, _≤_}
 use mathlib.Core.List.{List}
 use native.Mathlib.Omega.{arith}
-use lib.ListN.{length, getD, take}
+use lib.ListN.{length, take}
 use lib.Seq.{length-take-le}
 use Rattle.calculus.specs.Closed.{stands, examined, tuples}
 use Rattle.calculus.specs.declared.truth.Truth.{Truth}
@@ -16,7 +16,6 @@ use Rattle.calculus.proofs.Bools.{false-not-true}
 use Rattle.calculus.proofs.UpTo.{examined-le}
 use Rattle.instance.specs.Header.{arityOf, maxColumns}
 use Rattle.instance.specs.Rows.{rowsFrom}
-use Rattle.instance.specs.InstanceWellFormed.{InstanceWellFormed}
 use Rattle.lookup.specs.declared.relation.Examined.{Examined}
 use Rattle.lookup.specs.Examined.{examinedOf}
 use Rattle.query.specs.Tree.{termsAt}
@@ -25,6 +24,8 @@ use Rattle.evaluate.specs.declared.evaluated.Evaluated.{Evaluated}
 use Rattle.evaluate.specs.Within.{within}
 use Rattle.evaluate.specs.Ready.{Right}
 use Rattle.evaluate.proofs.TermLaws.{row-six, row-front}
+use Rattle.known.specs.Known.{countIn}
+use Rattle.lookup.specs.Passing.{RowsLeft}
 use Rattle.evaluate.proofs.Budget.{spent, verdicts}
 use Rattle.evaluate.proofs.Covered.{atomOf, beyond-spent, found-verdict, all-verdict}
 use Rattle.evaluate.proofs.Children.{atom-well-formed, atom-right, AtomWellFormed}
@@ -40,8 +41,8 @@ module _ (s : tie.Start) where
   abbrev is : kindOf (wordAt (s .args .query .now) (s .args .node) 0) ≡ rowStands
   is = s .pre .1
 
-  node : AtomWellFormed (s .args .relations) (s .args .arities .now) (s .args .words .now) (s .args .query .now) (s .args .counts .now) (s .args .node)
-  node = atom-well-formed _ _ _ _ _ _ (s .pre .0 .0) known is
+  node : AtomWellFormed (s .args .arities .now) (s .args .words .now) (s .args .query .now) (s .args .known .now) (s .args .node)
+  node = atom-well-formed _ _ _ _ _ (s .pre .0 .0) known is
 
   -- the tuples of relation r, and the row that is asked of it
   abbrev ts : ℕ → List (List ℕ)
@@ -75,7 +76,7 @@ word-requires : tie.Need-word-requires
 word-requires c κs = search needs
 
 rows-of-requires : tie.Need-rows-of-requires
-rows-of-requires c κs = omega (arith, c .word .ensures, node (start c) .eight)
+rows-of-requires c κs = (start c .pre .0 .0 .size, omega (arith, c .word .ensures, node (start c) .eight))
 
 -- the node's relation and its rows
 module _ (c : tie.After-rows-of) where
@@ -89,7 +90,7 @@ module _ (c : tie.After-rows-of) where
   is-named = c .before .word .ensures
 
   all-rows : c .rows-of .result ≡ length (ts s of)
-  all-rows = c .rows-of .ensures ∙ ap (λ (r : ℕ). getD (s .args .counts .now) r 0) (omega (arith, is-named)) ∙ node s .counted
+  all-rows = c .rows-of .ensures ∙ ap (λ (r : ℕ). countIn (s .args .known .now) r) (omega (arith, is-named)) ∙ node s .counted
 
 mul-arity : tie.Need-mul-arity
 mul-arity c = omega (arith, is-named c, node (s c) .eight)
@@ -112,16 +113,17 @@ module _ (c : tie.After-asked-row) where
 
   lent :
       (most : ℕ) → most ≤ length (ts (s at) (of at)) →
-      InstanceWellFormed (s at .args .relations) (s at .args .arities .now) (s at .args .words .now)
-      × (((at .before .word .result < s at .args .relations) × (length (c .asked-row .result) ≡ maxColumns))
-      × (most ≤ length (ts (s at) (at .before .word .result))))
+      RowsLeft (s at .args .arities .now) (s at .args .words .now) (at .before .word .result) 0 most × (length (c .asked-row .result) ≡ maxColumns)
   lent most few =
       let a = node (s at) in (
-        s at .pre .0 .0 .well-formed,
-        (
-          (omega (arith, is-named at, a .relation), row-six _ _ _ _ _ (c .asked-row .ensures) (rw (is-named at) (a .narrow))),
-          subst (λ (r : ℕ). most ≤ length (ts (s at) r)) (sym (is-named at)) few,
-        ),
+        record {
+          given = a .given;
+          known = omega (arith, is-named at, a .relation);
+          within = omega arith;
+          well-formed = a .given .well-formed .words;
+          some = subst (λ (r : ℕ). most ≤ length (ts (s at) r)) (sym (is-named at)) few;
+        },
+        row-six _ _ _ _ _ (c .asked-row .ensures) (rw (is-named at) (a .narrow)),
       )
 
   right : {r : Evaluated} →

@@ -45,8 +45,8 @@ none-left : (k : ℕ) → k ≡ 0 → (ts us : List (List ℕ)) → take k ts �
 none-left k e ts us = ap (λ (k : ℕ). take k ts) e ∙ sym (ap (λ (k : ℕ). take k us) e)
 
 abbrev Inv-loop : tie.InvT-loop
-Inv-loop words arities relations relation most row arity asked probe₀ possible₀ more₀ i₀ probe possible more i =
-    RowsLeft relations arities words relation i more
+Inv-loop words arities relation most row arity asked probe₀ possible₀ more₀ i₀ probe possible more i =
+    RowsLeft arities words relation i more
     × Probes possible asked probe
     × (stands (take most (tuples relation (rowsFrom arities 0 words))) asked
     ≡ truthFrom possible (take more (tuples relation (rowsFrom arities 0 (drop i words)))) asked)
@@ -55,7 +55,7 @@ Inv-loop words arities relations relation most row arity asked probe₀ possible
     ≡ most + examined (take more (tuples relation (rowsFrom arities 0 (drop i words)))) asked)
 
 abbrev μ-loop : tie.MeasureT-loop
-μ-loop words arities relations relation most row arity asked probe₀ possible₀ more₀ i₀ probe possible more i = more
+μ-loop words arities relation most row arity asked probe₀ possible₀ more₀ i₀ probe possible more i = more
 
 module _ (c : tie.Start Inv-loop μ-loop) where
   -- the tuples to examine, and the row that is asked
@@ -69,13 +69,13 @@ module _ (c : tie.Start Inv-loop μ-loop) where
   asked = take arity (c .args .row .now)
 
   relation-low : c .args .relation < maxRelations
-  relation-low = relation-few (c .args .relations) (c .args .arities .now) (c .args .words .now) _ (c .pre .0) (c .pre .1 .0 .0)
+  relation-low = relation-few _ (c .args .arities .now) (c .args .words .now) _ (c .pre .0 .given .well-formed) (c .pre .0 .known)
 
   columns : (1 ≤ arity) × (arity ≤ maxColumns)
-  columns = headed _ _ (c .pre .0 .header) .columns _ (c .pre .1 .0 .0)
+  columns = headed _ _ (c .pre .0 .given .well-formed .header) .columns _ (c .pre .0 .known)
 
   size : length asked ≡ arity
-  size = length-take-le arity (c .args .row .now) (omega (arith, columns .1, c .pre .1 .0 .1))
+  size = length-take-le arity (c .args .row .now) (omega (arith, columns .1, c .pre .1))
 
 mul-arity : tie.Need-mul-arity Inv-loop μ-loop
 mul-arity c = omega (arith, relation-low (c .before))
@@ -95,7 +95,7 @@ probe-at-requires c κs = let b = c .before .before .before .before in omega (ar
 loop-holds : tie.Need-loop-holds Inv-loop μ-loop
 loop-holds c =
     let b = c .before .before .before .before .before in (
-      record { within = omega arith; well-formed = b .pre .0 .words; some = b .pre .1 .1 },
+      b .pre .0,
       probe-stands _ _ _ (c .probe-at .ensures) (omega (arith, size b, columns b .0)),
       truth-starts _ _,
       omega arith,
@@ -112,7 +112,7 @@ next-near-requires : tie.Need-next-near-requires Inv-loop μ-loop
 next-near-requires c κs =
     let l = c .before .before in
     let b = l .before .before .before .before .before .before in
-    ((b .pre .0, b .pre .1 .0 .0, omega (arith, l .loop .inv .1 .column, size b)), l .loop .inv .0)
+    (l .loop .inv .0, omega (arith, l .loop .inv .1 .column, size b))
 
 -- the next row that is not passed over, if there is one
 module _ (c : tie.After-next-near Inv-loop μ-loop) where
@@ -121,9 +121,6 @@ module _ (c : tie.After-next-near Inv-loop μ-loop) where
 
   abbrev start : tie.Start Inv-loop μ-loop
   start = at .before .before .before .before .before .before
-
-  abbrev n : ℕ
-  n = start .args .relations
 
   abbrev ars : List ℕ
   ars = start .args .arities .now
@@ -171,7 +168,7 @@ module _ (c : tie.After-next-near Inv-loop μ-loop) where
   skipped : rest ≡ passing test coming
   skipped = c .next-near .ensures .0 ∙ ap (λ (k : ℕ). passing (toldApart column (getD cells column 0) k) coming) (at .loop .inv .1 .low)
 
-  left : RowsLeft n ars ws relation place more
+  left : RowsLeft ars ws relation place more
   left = c .next-near .ensures .1 .0
 
   coming-size : length coming ≡ at .loop .more
@@ -211,16 +208,16 @@ module _ (c : tie.After-next-near Inv-loop μ-loop) where
     is = c .next-near .ensures .1 .1 .0 some
 
     within : next ≤ length ws
-    within = omega (arith, same-within _ _ _ _ _ left some is)
+    within = omega (arith, same-within _ _ _ _ left some is)
 
-    after : RowsLeft n ars ws relation next (more - 1)
-    after = subst (λ (k : ℕ). RowsLeft n ars ws relation k (more - 1)) sum (same-left _ _ _ _ _ left some is (more - 1) (omega (arith, some)))
+    after : RowsLeft ars ws relation next (more - 1)
+    after = subst (λ (k : ℕ). RowsLeft ars ws relation k (more - 1)) sum (same-left _ _ _ _ left some is (more - 1) (omega (arith, some)))
 
     here : rest ≡ this ∷ behind
     here =
         let one : more ≡ suc (more - 1) = omega (arith, some) in
         let step =
-        same-step _ _ _ _ _ left some is ∙ ap (λ (k : ℕ). cellsAt ws place (arity start) ∷ tuples relation (rowsFrom ars 0 (drop k ws))) sum
+        same-step _ _ _ _ left some is ∙ ap (λ (k : ℕ). cellsAt ws place (arity start) ∷ tuples relation (rowsFrom ars 0 (drop k ws))) sum
         in
         ap (take more) step ∙ ap (λ (k : ℕ). take k (cellsAt ws place (arity start) ∷ tuples relation (rowsFrom ars 0 (drop next ws)))) one ∙
         ap (λ (k : ℕ). cellsAt ws place k ∷ behind) (sym (size start))
@@ -283,10 +280,10 @@ module _ (c : tie.After-struct-known Inv-loop μ-loop) where
   some = came .before .before .if1 .taken
 
 add-i : tie.Need-add-i Inv-loop μ-loop
-add-i c = omega (arith, within (b c) (some c), start (b c) .pre .0 .few)
+add-i c = omega (arith, within (b c) (some c), start (b c) .pre .0 .given .well-formed .few)
 
 add-i-2 : tie.Need-add-i-2 Inv-loop μ-loop
-add-i-2 c = omega (arith, within (b c) (some c), start (b c) .pre .0 .few)
+add-i-2 c = omega (arith, within (b c) (some c), start (b c) .pre .0 .given .well-formed .few)
 
 loop-less : tie.Need-loop-less Inv-loop μ-loop
 loop-less c = omega (arith, fewer (b c), some c)
@@ -315,7 +312,7 @@ loop-again-2 c =
     let b = c .before in
     let none : more b ≡ 0 = omega (arith, c .if1 .left) in
     let left-none : rest b ≡ take (more b) (tuples (relation b) (rowsFrom (ars b) 0 (drop (at b .loop .i) (ws b)))) = none-left _ none _ _ in (
-      fewer-left _ _ _ _ _ (at b .loop .inv .0) _ (fewer b),
+      fewer-left _ _ _ _ (at b .loop .inv .0) _ (fewer b),
       at b .loop .inv .1,
       seen b ∙ ap (λ (ts : List (List ℕ)). truthFrom (possible b) ts (cells b)) left-none,
       omega (arith, fewer b, at b .loop .inv .3),

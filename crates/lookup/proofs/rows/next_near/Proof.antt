@@ -18,25 +18,25 @@ use Rattle.lookup.proofs.rows.next_near.Statement.{statement}
 use Rattle.lookup.proofs.rows.next_near.Tie as tie
 
 abbrev Inv-loop : tie.InvT-loop
-Inv-loop words arities relations relation column asked limit place most step more₀ i₀ more i =
-    RowsLeft relations arities words relation i more
+Inv-loop words arities relation column asked limit place most step more₀ i₀ more i =
+    RowsLeft arities words relation i more
     × (passing (toldApart column asked limit) (take more (tuples relation (rowsFrom arities 0 (drop i words))))
     ≡ passing (toldApart column asked limit) (take most (tuples relation (rowsFrom arities 0 (drop place words)))))
     × (i + wordsPassed (toldApart column asked limit) relation more (rowsFrom arities 0 (drop i words))
     ≡ place + wordsPassed (toldApart column asked limit) relation most (rowsFrom arities 0 (drop place words)))
 
 abbrev μ-loop : tie.MeasureT-loop
-μ-loop words arities relations relation column asked limit place most step more₀ i₀ more i = more
+μ-loop words arities relation column asked limit place most step more₀ i₀ more i = more
 
 module _ (c : tie.Start Inv-loop μ-loop) where
   relation-low : c .args .relation < maxRelations
-  relation-low = relation-few (c .args .relations) (c .args .arities .now) (c .args .words .now) _ (c .pre .0 .0) (c .pre .0 .1)
+  relation-low = relation-few _ (c .args .arities .now) (c .args .words .now) _ (c .pre .0 .given .well-formed) (c .pre .0 .known)
 
   narrow : arityOf (c .args .arities .now) (c .args .relation) ≤ maxColumns
-  narrow = arity-few (c .args .relations) (c .args .arities .now) (c .args .words .now) _ (c .pre .0 .0) (c .pre .0 .1)
+  narrow = arity-few _ (c .args .arities .now) (c .args .words .now) _ (c .pre .0 .given .well-formed) (c .pre .0 .known)
 
   column-low : c .args .column < arityOf (c .args .arities .now) (c .args .relation)
-  column-low = c .pre .0 .2
+  column-low = c .pre .1
 
 mul-step : tie.Need-mul-step Inv-loop μ-loop
 mul-step c = omega (arith, relation-low (c .before))
@@ -51,21 +51,16 @@ add-step : tie.Need-add-step Inv-loop μ-loop
 add-step c = omega (arith, narrow (c .before .before))
 
 loop-holds : tie.Need-loop-holds Inv-loop μ-loop
-loop-holds c = (c .before .before .pre .1, refl, refl)
+loop-holds c = (c .before .before .pre .0, refl, refl)
 
 next-row-requires : tie.Need-next-row-requires Inv-loop μ-loop
 next-row-requires c κs =
-    let b = c .before in
-    let p = b .before .before .before .pre .0 in
-    ((p .0, p .1), fewer-left _ _ _ _ _ (b .loop .inv .0) 1 (omega (arith, c .loop-test .taken)))
+    fewer-left _ _ _ _ (c .before .loop .inv .0) 1 (omega (arith, c .loop-test .taken))
 
 -- the relation's next row
 module _ (c : tie.After-next-row Inv-loop μ-loop) where
   abbrev start : tie.Start Inv-loop μ-loop
   start = c .before .before .before .before .before
-
-  abbrev n : ℕ
-  n = start .args .relations
 
   abbrev ars : List ℕ
   ars = start .args .arities .now
@@ -103,20 +98,20 @@ module _ (c : tie.After-next-row Inv-loop μ-loop) where
   is : getD ws place 0 ≡ relation
   is = c .next-row .ensures .0
 
-  left : RowsLeft n ars ws relation place more
-  left = more-left _ _ _ _ _ (c .next-row .ensures .1 .1 .0) more (omega (arith, ap length (c .next-row .ensures .1 .0), c .before .before .loop .inv .0 .some))
+  left : RowsLeft ars ws relation place more
+  left = more-left _ _ _ _ (c .next-row .ensures .1 .1 .0) more (omega (arith, ap length (c .next-row .ensures .1 .0), c .before .before .loop .inv .0 .some))
 
   -- the rows left here
   here : take more (tuples relation (rowsFrom ars 0 (drop place ws))) ≡ this ∷ take (more - 1) behind
   here =
       let one : more ≡ suc (more - 1) = omega (arith, some) in
-      ap (take more) (same-step _ _ _ _ _ left some is) ∙ ap (λ (k : ℕ). take k (this ∷ behind)) one
+      ap (take more) (same-step _ _ _ _ left some is) ∙ ap (λ (k : ℕ). take k (this ∷ behind)) one
 
   kept : passing apart (this ∷ take (more - 1) behind) ≡ all
   kept = sym (ap (passing apart) here) ∙ ap (λ (l : List (List ℕ)). passing apart (take more l)) (c .next-row .ensures .1 .0) ∙ c .before .before .loop .inv .1
 
   within : place + (1 + arity) ≤ length ws
-  within = same-within _ _ _ _ _ left some is
+  within = same-within _ _ _ _ left some is
 
   -- its cell in the column
   cell : getD this (start .args .column) 0 ≡ getD ws (place + 1 + start .args .column) 0
@@ -138,9 +133,9 @@ module _ (c : tie.After-next-row Inv-loop μ-loop) where
   stops :
       apart this ≡ false →
       (take more (tuples relation (rowsFrom ars 0 (drop place ws))) ≡ all)
-      × (RowsLeft n ars ws relation place more × ((0 < more → getD ws place 0 ≡ relation) × (place ≡ goal)))
+      × (RowsLeft ars ws relation place more × ((0 < more → getD ws place 0 ≡ relation) × (place ≡ goal)))
   stops e =
-      let none = same-stops _ _ _ _ _ left some is apart (more - 1) e in
+      let none = same-stops _ _ _ _ left some is apart (more - 1) e in
       (here ∙ sym (passing-stops apart this _ e) ∙ kept, (left, (λ _. is, omega (arith, none, leads))))
 
 add-cell : tie.Need-add-cell Inv-loop μ-loop
@@ -174,9 +169,9 @@ loop-again : tie.Need-loop-again Inv-loop μ-loop
 loop-again c =
     let b = c .before .before .before in
     let low = told-low (start b .args .column) (start b .args .asked) (start b .args .limit) (this b) (λ e. c .before .if1 .left (sym (cell b) ∙ e)) (omega (arith, cell b, c .if2 .left)) in (
-      same-left _ _ _ _ _ (left b) (some b) (is b) (more b - 1) (omega (arith, some b)),
+      same-left _ _ _ _ (left b) (some b) (is b) (more b - 1) (omega (arith, some b)),
       sym (passing-goes-on (apart b) (this b) _ low) ∙ kept b,
-      sym (same-goes-on _ _ _ _ _ (left b) (some b) (is b) (apart b) (more b - 1) low) ∙ leads b,
+      sym (same-goes-on _ _ _ _ (left b) (some b) (is b) (apart b) (more b - 1) low) ∙ leads b,
     )
 
 returns-3 : tie.Need-returns-3 Inv-loop μ-loop
@@ -189,7 +184,7 @@ returns-3 c =
     let zero : wordsPassed apart (a .relation) (c .before .loop .more) rows ≡ 0 = ap (λ (k : ℕ). wordsPassed apart (a .relation) k rows) none in (
       sym (ap (λ (k : ℕ). passing apart (take k (tuples (a .relation) rows))) none) ∙ c .before .loop .inv .1,
       (
-        fewer-left _ _ _ _ _ (c .before .loop .inv .0) 0 (omega arith),
+        fewer-left _ _ _ _ (c .before .loop .inv .0) 0 (omega arith),
         (λ less. absurd (omega (arith, less)), omega (arith, zero, c .before .loop .inv .2)),
       ),
     )

@@ -16,16 +16,16 @@ use Rattle.lookup.proofs.rows.next_row.Statement.{statement}
 use Rattle.lookup.proofs.rows.next_row.Tie as tie
 
 -- what stays true from index k to index j: the rows left, and where passing over leads
-abbrev Onward : ℕ → List ℕ → List ℕ → ℕ → ℕ → ℕ → Type 0
-Onward n ars ws relation k j =
-    RowsLeft n ars ws relation j 1
+abbrev Onward : List ℕ → List ℕ → ℕ → ℕ → ℕ → Type 0
+Onward ars ws relation k j =
+    RowsLeft ars ws relation j 1
     × (tuples relation (rowsFrom ars 0 (drop j ws)) ≡ tuples relation (rowsFrom ars 0 (drop k ws)))
     × ((test : List ℕ → Bool) (m : ℕ) → j + wordsPassed test relation (suc m) (rowsFrom ars 0 (drop j ws))
     ≡ k + wordsPassed test relation (suc m) (rowsFrom ars 0 (drop k ws)))
 
 abbrev Inv-loop : tie.InvT-loop
-Inv-loop words arities relations relation place other₀ step₀ i₀ w₀ other step i w =
-    RowsLeft relations arities words relation i 1
+Inv-loop words arities relation place other₀ step₀ i₀ w₀ other step i w =
+    RowsLeft arities words relation i 1
     × (tuples relation (rowsFrom arities 0 (drop i words)) ≡ tuples relation (rowsFrom arities 0 (drop place words)))
     × (w ≡ getD words i 0)
     × ((other ≡ relation → ⊥) → step ≡ 1 + arityOf arities other)
@@ -33,31 +33,28 @@ Inv-loop words arities relations relation place other₀ step₀ i₀ w₀ other
     ≡ place + wordsPassed test relation (suc n) (rowsFrom arities 0 (drop place words)))
 
 abbrev μ-loop : tie.MeasureT-loop
-μ-loop words arities relations relation place other₀ step₀ i₀ w₀ other step i w = length words - i
+μ-loop words arities relation place other₀ step₀ i₀ w₀ other step i w = length words - i
 
 -- past a row of another relation
 passed-over :
-    (n : ℕ) (ars ws : List ℕ) (relation k step : ℕ) → RowsLeft n ars ws relation k 1 → (getD ws k 0 ≡ relation → ⊥) → step ≡ 1 + arityOf ars (getD ws k 0) →
-    Onward n ars ws relation k (k + step)
-passed-over n ars ws relation k step left ne e =
-    rw e (other-left _ _ _ _ _ left (omega arith) ne, other-same _ _ _ _ _ left (omega arith) ne, other-words _ _ _ _ _ left (omega arith) ne)
+    (ars ws : List ℕ) (relation k step : ℕ) → RowsLeft ars ws relation k 1 → (getD ws k 0 ≡ relation → ⊥) → step ≡ 1 + arityOf ars (getD ws k 0) →
+    Onward ars ws relation k (k + step)
+passed-over ars ws relation k step left ne e =
+    rw e (other-left _ _ _ _ left (omega arith) ne, other-same _ _ _ _ left (omega arith) ne, other-words _ _ _ _ left (omega arith) ne)
 
 mul-w : tie.Need-mul-w Inv-loop μ-loop
-mul-w c = omega (arith, words-left _ _ _ _ _ (c .pre .1) (omega arith))
+mul-w c = omega (arith, words-left _ _ _ _ (c .pre) (omega arith))
 
 shared-slice-read-w : tie.Need-shared-slice-read-w Inv-loop μ-loop
-shared-slice-read-w c = words-left _ _ _ _ _ (c .before .pre .1) (omega arith)
+shared-slice-read-w c = words-left _ _ _ _ (c .before .pre) (omega arith)
 
 loop-holds : tie.Need-loop-holds Inv-loop μ-loop
-loop-holds c = (c .before .pre .1, refl, refl, λ ne. absurd (ne refl), λ test n. refl)
+loop-holds c = (c .before .pre, refl, refl, λ ne. absurd (ne refl), λ test n. refl)
 
 -- the row at index i, which is of another relation
 module _ (c : tie.In-loop Inv-loop μ-loop) where
   abbrev start : tie.Start Inv-loop μ-loop
   start = c .before .before .before
-
-  abbrev n : ℕ
-  n = start .args .relations
 
   abbrev ars : List ℕ
   ars = start .args .arities .now
@@ -74,17 +71,17 @@ module _ (c : tie.In-loop Inv-loop μ-loop) where
   abbrev w : ℕ
   w = c .before .loop .w
 
-  abbrev left : RowsLeft n ars ws relation i 1
+  abbrev left : RowsLeft ars ws relation i 1
   left = c .before .loop .inv .0
 
   is : w ≡ getD ws i 0
   is = c .before .loop .inv .2
 
-  here : AtRow n ars ws i
-  here = row-left _ _ _ _ _ left (omega arith)
+  here : AtRow (left .given .relations) ars ws i
+  here = row-left _ _ _ _ left (omega arith)
 
   few : w < maxRelations
-  few = rw is (relation-few n ars ws _ (start .pre .0 .0) (here .relation))
+  few = rw is (relation-few _ ars ws _ (left .given .well-formed) (here .relation))
 
   differs : getD ws i 0 ≡ relation → ⊥
   differs e = c .loop-test .taken (is ∙ e)
@@ -93,8 +90,8 @@ module _ (c : tie.In-loop Inv-loop μ-loop) where
   abbrev size : ℕ
   size = 1 + arityOf ars (getD ws i 0)
 
-  kept : (step : ℕ) → step ≡ size → Onward n ars ws relation i (i + step)
-  kept step e = passed-over n ars ws relation i step left differs e
+  kept : (step : ℕ) → step ≡ size → Onward ars ws relation i (i + step)
+  kept step e = passed-over ars ws relation i step left differs e
 
 cast-step : tie.Need-cast-step Inv-loop μ-loop
 cast-step c = omega (arith, few (c .before))
@@ -140,21 +137,21 @@ module _ (c : tie.Joined1 Inv-loop μ-loop) where
   abbrev next : ℕ
   next = i at + step
 
-  one : Onward (n at) (ars at) (ws at) (relation at) (i at) next
+  one : Onward (ars at) (ws at) (relation at) (i at) next
   one = kept at step (known .1 ∙ ap (λ (r : ℕ). 1 + arityOf (ars at) r) (is at))
 
   further : next < length (ws at)
-  further = words-left _ _ _ _ _ (one .0) (omega arith)
+  further = words-left _ _ _ _ (one .0) (omega arith)
 
   -- the same once more, if the row after it is of the same relation
   module _ (again : getD (ws at) next 0 ≡ other) where
-    two : Onward (n at) (ars at) (ws at) (relation at) next (next + step)
+    two : Onward (ars at) (ws at) (relation at) next (next + step)
     two =
-        passed-over (n at) (ars at) (ws at) (relation at) next step (one .0) (λ e. other-differs (sym again ∙ e))
+        passed-over (ars at) (ws at) (relation at) next step (one .0) (λ e. other-differs (sym again ∙ e))
         (stepped ∙ ap (λ (r : ℕ). 1 + arityOf (ars at) r) (sym again))
 
     further-two : next + step < length (ws at)
-    further-two = words-left _ _ _ _ _ (two .0) (omega arith)
+    further-two = words-left _ _ _ _ (two .0) (omega arith)
 
 add-i : tie.Need-add-i Inv-loop μ-loop
 add-i c = omega (arith, further (c .before))

@@ -15,7 +15,7 @@ use Rattle.query.specs.Scope.{atTheTop, candidateScope}
 use Rattle.query.specs.Check.{checkNodes, checkQuery}
 use Rattle.calculus.specs.Demand.{demand}
 use Rattle.query.specs.Answers.{scopes}
-use Rattle.query.proofs.Masks.{shifted}
+use Rattle.calculus.proofs.Bits.{shifted}
 use Rattle.query.proofs.Steps.{answers-number}
 use borrow.Author.Needs.{needs}
 use Rattle.query.proofs.check.check.Statement.{statement}

@@ -1,6 +1,7 @@
 -- `query::term::bind` meets its contract: the shifted bit is 2 ^ v. Assumes nothing.
 use native.Mathlib.Omega.{arith}
-use Rattle.query.proofs.Masks.{shifted, or-binding}
+use Rattle.calculus.proofs.Bits.{shifted}
+use Rattle.query.proofs.Masks.{or-binding}
 use borrow.Author.Needs.{needs}
 use Rattle.query.proofs.term.bind.Statement.{statement}
 use Rattle.query.proofs.term.bind.Tie as tie

@@ -1,0 +1,143 @@
+-- `known::counts::row_counts` meets its contract: the counts plus those of the rows from index i are the totals. Assumes nothing.
+use Prim.Native.Nat.{ℕ, _≤_, _<_, _-_, _+_}
+use mathlib.Core.Path.{_≡_, refl, sym, _∙_}
+use mathlib.Core.List.{List}
+use native.Mathlib.Omega.{arith}
+use lib.ListN.{length, take, drop, getD, length-set, take-append-drop}
+use lib.Seq.{getD-take, take-set-lt, drop-set-lt}
+use Rattle.instance.specs.Header.{maxRelations, maxWords}
+use Rattle.instance.specs.InstanceWellFormed.{InstanceOf}
+use Rattle.instance.specs.Rows.{rowsFrom}
+use Rattle.known.specs.Known.{knownWords}
+use Rattle.instance.proofs.Walk.{AtRow, row-here, rows-end, relation-few, tuples-few, WalkIn, walk-in}
+use Rattle.instance.proofs.RowCounts.{counted-row, RowsCounted}
+use Rattle.known.proofs.counts.row_counts.Statement.{statement}
+use Rattle.known.proofs.counts.row_counts.Tie as tie
+use Rattle.calculus.proofs.Counting.{counting-starts, counting-ends}
+use Rattle.calculus.specs.Closed.{tuples}
+
+abbrev Inv-loop : tie.InvT-loop
+Inv-loop words arities known₀ i₀ known i =
+    WalkIn arities words i × RowsCounted (rowsFrom arities 0 words) (rowsFrom arities 0 (drop i words)) (take maxRelations known)
+    × (drop maxRelations known ≡ drop maxRelations known₀) × (length known ≡ knownWords)
+
+abbrev μ-loop : tie.MeasureT-loop
+μ-loop words arities known₀ i₀ known i = length words - i
+
+loop-holds : tie.Need-loop-holds Inv-loop μ-loop
+loop-holds c = (walk-in _ _ (c .pre .0), rw (c .pre .1 .1) (counting-starts maxRelations _), refl, c .pre .1 .0)
+
+-- the row at index i
+module _ (c : tie.In-loop Inv-loop μ-loop) where
+  abbrev given : InstanceOf (c .before .before .args .arities .now) (c .before .before .args .words .now)
+  given = c .before .loop .inv .0 .0
+
+  abbrev ars : List ℕ
+  ars = c .before .before .args .arities .now
+
+  abbrev ws : List ℕ
+  ws = c .before .before .args .words .now
+
+  abbrev known : List ℕ
+  known = c .before .loop .known
+
+  abbrev i : ℕ
+  i = c .before .loop .i
+
+  abbrev r : ℕ
+  r = getD ws i 0
+
+  here : AtRow (given .relations) ars ws i
+  here = row-here (given .relations) ars ws i (omega arith) (c .before .loop .inv .0 .1)
+
+  few : r < maxRelations
+  few = relation-few (given .relations) ars ws r (given .well-formed) (here .relation)
+
+  count-few : getD known r 0 ≤ maxWords
+  count-few = omega (arith, getD-take maxRelations known r 0 few, c .before .loop .inv .1 .each r few, tuples-few r ars ws, given .well-formed .few)
+
+mul-relation : tie.Need-mul-relation Inv-loop μ-loop
+mul-relation c = omega arith
+
+shared-slice-read-relation : tie.Need-shared-slice-read-relation Inv-loop μ-loop
+shared-slice-read-relation c = omega arith
+
+cast-relation : tie.Need-cast-relation Inv-loop μ-loop
+cast-relation c = omega (arith, few (c .before))
+
+mul-known : tie.Need-mul-known Inv-loop μ-loop
+mul-known c = omega (arith, few (c .before))
+
+element-copy-out-known : tie.Need-element-copy-out-known Inv-loop μ-loop
+element-copy-out-known c = omega (arith, few (c .before), c .before .before .loop .inv .3)
+
+add-known : tie.Need-add-known Inv-loop μ-loop
+add-known c = omega (arith, count-few (c .before .before))
+
+element-write-known : tie.Need-element-write-known Inv-loop μ-loop
+element-write-known c = omega (arith, few (c .before .before), c .before .before .before .loop .inv .3)
+
+mul-i : tie.Need-mul-i Inv-loop μ-loop
+mul-i c = omega (arith, few (c .before .before))
+
+element-copy-out-i : tie.Need-element-copy-out-i Inv-loop μ-loop
+element-copy-out-i c = few (c .before .before)
+
+cast-i : tie.Need-cast-i Inv-loop μ-loop
+cast-i c = omega (arith, here (c .before .before .before) .next .within)
+
+add-i : tie.Need-add-i Inv-loop μ-loop
+add-i c = omega (arith, here (c .before .before .before) .next .within)
+
+add-i-2 : tie.Need-add-i-2 Inv-loop μ-loop
+add-i-2 c = omega (arith, here (c .before .before .before) .next .within)
+
+loop-less : tie.Need-loop-less Inv-loop μ-loop
+loop-less c = omega (arith, here (c .before .before .before) .next .within)
+
+loop-again : tie.Need-loop-again Inv-loop μ-loop
+loop-again c =
+    let b = c .before .before .before in
+    let h = here b in
+    let inv = b .before .loop .inv in
+    let one = counted-row _ _ _ _ (few b) (rw (h .rows) at (inv .1)) in (
+      (given b, h .next),
+      rw (take-set-lt maxRelations (known b) (r b) (getD (known b) (r b) 0 + 1) (few b), ← getD-take maxRelations (known b) (r b) 0 (few b)) one,
+      drop-set-lt maxRelations (known b) (r b) _ (few b) ∙ inv .2,
+      length-set (known b) _ _ ∙ inv .3,
+    )
+
+returns : tie.Need-returns Inv-loop μ-loop
+unfolding tuples
+returns c =
+    let ws = c .before .before .args .words .now in
+    let inv = c .before .loop .inv in
+    let e : c .before .loop .i ≡ length ws = omega (arith, inv .0 .1 .within) in
+    let counts =
+    counting-ends maxRelations _ _ (take maxRelations (c .before .loop .known)) (λ k. refl)
+    (rw (rows-end (c .before .before .args .arities .now) ws _ e) at (inv .1))
+    in
+    sym (take-append-drop maxRelations (c .before .loop .known)) ∙ rw (counts, inv .2) refl
+
+pub row-counts-spec : {M : Type 1} → statement M
+row-counts-spec =
+    tie.close
+    (tie.spec
+    Inv-loop
+    μ-loop
+    loop-holds
+    mul-relation
+    shared-slice-read-relation
+    cast-relation
+    mul-known
+    element-copy-out-known
+    add-known
+    element-write-known
+    mul-i
+    element-copy-out-i
+    cast-i
+    add-i
+    add-i-2
+    loop-less
+    loop-again
+    returns)

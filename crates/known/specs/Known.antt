@@ -1,0 +1,32 @@
+-- What evaluation knows of an instance besides its words, in one array: the number of rows of each of the eight relations, and then a flag for each
+-- place of the slice that quantifiers walk. A walk passes over the places whose flag stands.
+use Prim.Native.Nat.{ℕ, suc, _+_, _/_, _%_, _≤_, _<_}
+use mathlib.Core.Path.{_≡_}
+use mathlib.Core.Bool.{Bool, true, false, cond}
+use mathlib.Core.List.{List, [], _∷_}
+use lib.ListN.{getD}
+use Rattle.calculus.specs.Bit.{bitAt}
+
+-- where the flags begin, and the length of the array: a flag for each of 4,096 places, 32 to a word
+abbrev pub flagsFrom : ℕ
+flagsFrom = 8
+
+abbrev pub knownWords : ℕ
+knownWords = 136
+
+abbrev pub countIn : List ℕ → ℕ → ℕ
+countIn known r = getD known r 0
+
+abbrev pub flagAt : List ℕ → ℕ → Bool
+flagAt known p = bitAt (getD known (flagsFrom + p / 32) 0) (p % 32)
+
+-- the words of a slice, whose first word has place p, that are not passed over
+unfoldable pub unpassed : List ℕ → ℕ → List ℕ → List ℕ
+unpassed known p [] = []
+unpassed known p (w ∷ ws) = cond (flagAt known p) (unpassed known (suc p) ws) (w ∷ unpassed known (suc p) ws)
+
+-- r places from place p on are passed over, at most the 32 of a word; 0 says that p is not
+pub record Gap (known : List ℕ) (p r : ℕ) : Type 0 where
+  pub none : r ≡ 0 → flagAt known p ≡ false
+  pub all : (q : ℕ) → q < r → flagAt known (p + q) ≡ true
+  pub few : r ≤ 32
