@@ -1,10 +1,10 @@
 -- The answer to a question for each of its refusals, and if there is none. Assumes nothing.
 use Prim.Native.Nat.{ℕ, _+_, _≤_, _<_}
-use mathlib.Core.Path.{_≡_, refl, sym, ap, _∙_}
+use mathlib.Core.Path.{_≡_, refl, sym, ap, subst, _∙_}
 use mathlib.Core.Bool.{true, false}
-use mathlib.Core.List.{List, [], _∷_}
+use mathlib.Core.List.{List, [], _∷_, _++_}
 use native.Mathlib.Omega.{arith}
-use lib.ListN.{length, getD, drop, take, length-append}
+use lib.ListN.{length, getD, drop, take, replicate, length-append}
 use lib.Seq.{take-at, getD-take}
 use borrow.Author.Tests.{lt-leb}
 use Rattle.calculus.specs.declared.answer.Answer.{Answer}
@@ -29,9 +29,10 @@ use Rattle.query.specs.Check.{Checked, passed, checkQuery, checkNumber}
 use Rattle.calculus.specs.Reading.{refused, read}
 use Rattle.query.proofs.Passed.{few-cells, count-within, node-well-formed}
 use Rattle.instance.specs.RowCounts.{rowCounts}
-use Rattle.instance.proofs.RowCounts.{row-count-at}
-use Rattle.known.specs.Known.{knownWords, flagAt}
-use Rattle.known.proofs.Walking.{unpassed-all}
+use Rattle.instance.proofs.RowCounts.{row-count-at, row-counts-size}
+use Rattle.known.specs.Known.{knownWords, flagWords, aritiesIn, flagAt}
+use Rattle.known.proofs.Walking.{no-flags, unpassed-all}
+use Rattle.known.proofs.Parts.{counts-front, arities-middle, front-size, layout-size}
 use Rattle.calculus.proofs.Distinct.{distinct-le}
 use Rattle.answer.specs.declared.asked.Asked.the-variants.{Refused}
 use Rattle.evaluate.specs.declared.evaluated.Evaluated.{Evaluated}
@@ -114,12 +115,35 @@ module _ (h : Header) (ws qs cs buffer : List ℕ) (budget : ℕ) where
         sym (ap (λ (x : Answer). after x (overwrite (domain (rows h ws)) buffer) buffer) e),
       )
 
+-- the array holds an instance's row counts and arities
+pub record Described (h : Header) (ws table : List ℕ) : Type 0 where
+  pub size : length table ≡ knownWords
+  pub counts : take maxRelations table ≡ rowCounts (rowsFrom (h .arities) 0 (take (h .used) ws))
+  pub arities : aritiesIn table ≡ h .arities
+
+module _ (h : Header) (ws table : List ℕ) (eight : length (h .arities) ≡ maxRelations)
+    (is : table ≡ rowCounts (rowsFrom (h .arities) 0 (take (h .used) ws)) ++ h .arities ++ replicate flagWords 0) where
+  abbrev rs : List Row
+  rs = rowsFrom (h .arities) 0 (take (h .used) ws)
+
+  pub described : Described h ws table
+  described = record {
+    size = ap length is ∙ layout-size (rowCounts rs) (h .arities) (replicate flagWords 0) (row-counts-size rs) eight;
+    counts = ap (take maxRelations) is ∙ counts-front (rowCounts rs) (h .arities) (replicate flagWords 0) (row-counts-size rs) eight;
+    arities = ap aritiesIn is ∙ arities-middle (rowCounts rs) (h .arities) (replicate flagWords 0) (row-counts-size rs) eight;
+  }
+
+  pub described-unflagged : (p : ℕ) → flagAt table p ≡ false
+  described-unflagged p =
+      ap (λ (l : List ℕ). flagAt l p) is ∙
+      no-flags (rowCounts rs ++ h .arities) (front-size (rowCounts rs) (h .arities) (replicate flagWords 0) (row-counts-size rs) eight) flagWords p
+
 -- a sound instance and a question that passed are ready to be evaluated
 module _ (h : Header) (ws qs cs : List ℕ) (e : sound h ws ≡ true) (eight : length (h .arities) ≡ maxRelations) (right : rightLength qs ≡ true) (s : Scopes) (p : checkQuery (h .relations) (h .arities) qs cs ≡ passed s) where
   pub made-ready :
-      (table : List ℕ) → length table ≡ knownWords → take maxRelations table ≡ rowCounts (rowsFrom (h .arities) 0 (take (h .used) ws)) →
+      (table : List ℕ) → Described h ws table →
       Ready (h .arities) (take (h .used) ws) qs table × ((0 < nodeCount qs) × (length cs ≤ variables))
-  made-ready table size is-counted =
+  made-ready table d =
       let rs = rowsFrom (h .arities) 0 (take (h .used) ws) in
       let g = sound-gives h ws e in
       let within = count-within qs right in (
@@ -131,11 +155,21 @@ module _ (h : Header) (ws qs cs : List ℕ) (e : sound h ws ≡ true) (eight : l
           nodes = node-well-formed (h .relations) (h .arities) qs cs right s p;
           counted = λ r l.
               let low : r < maxRelations = omega (arith, l, g .headed .few) in
-              sym (getD-take maxRelations table r 0 low) ∙ ap (λ (z : List ℕ). getD z r 0) is-counted ∙ row-count-at rs r low;
-          size = size;
+              sym (getD-take maxRelations table r 0 low) ∙ ap (λ (z : List ℕ). getD z r 0) (d .counts) ∙ row-count-at rs r low;
+          size = d .size;
         },
         (within .0, omega (arith, few-cells (h .relations) (h .arities) qs cs right s p)),
       )
+
+  -- with the arities as the array has them
+  pub evaluable :
+      (table values : List ℕ) → Described h ws table → Ranged (h .arities) (take (h .used) ws) qs table values →
+      (Ready (aritiesIn table) (take (h .used) ws) qs table × Ranged (aritiesIn table) (take (h .used) ws) qs table values) ×
+      ((0 < nodeCount qs) × (length cs ≤ variables))
+  evaluable table values d ranged =
+      let made = made-ready table d in
+      subst (λ (ars : List ℕ). (Ready ars (take (h .used) ws) qs table × Ranged ars (take (h .used) ws) qs table values) × ((0 < nodeCount qs) × (length cs ≤ variables)))
+      (sym (d .arities)) ((made .0, ranged), made .1)
 
 -- a list of the values, with no flag
 pub listed-ranged :
@@ -152,14 +186,16 @@ listed-ranged h ws qs table values e none are =
 -- the answer if nothing is refused before the evaluation
 module _ (h : Header) (ws qs cs buffer : List ℕ) (budget : ℕ) (a : Asks h ws qs cs buffer) where
   pub answered :
-      (r : Evaluated) → r ≡ within budget (eval (world (h .arities) (take (h .used) ws)) (formulaOf (h .arities) qs) (assignment cs)) →
+      (table : List ℕ) → Described h ws table →
+      (r : Evaluated) → r ≡ within budget (eval (world (aritiesIn table) (take (h .used) ws)) (formulaOf (aritiesIn table) qs) (assignment cs)) →
       (left : List ℕ) →
       left ≡ overwrite (domain (rowsFrom (h .arities) 0 (take (h .used) ws))) buffer →
       (evaluatedAs r ≡ ask h ws qs cs buffer budget) × (left ≡ askedBuffer h ws qs cs buffer)
   unfolding rows
-  answered r is left holds =
+  answered table d r is left holds =
       let e = evaluated-asked h ws qs cs buffer budget a in
-      (ap evaluatedAs is ∙ e .0, holds ∙ e .1)
+      let same = ap (λ (ars : List ℕ). within budget (eval (world ars (take (h .used) ws)) (formulaOf ars qs) (assignment cs))) (d .arities) in
+      (ap evaluatedAs (is ∙ same) ∙ e .0, holds ∙ e .1)
 
 -- the values are the first words of the buffer that they were listed in
 pub listed-part : (vs buffer left : List ℕ) (n : ℕ) → n ≡ length vs → left ≡ overwrite vs buffer → (n ≤ length left) × (take n left ≡ vs)

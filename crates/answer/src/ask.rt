@@ -4,6 +4,7 @@ ghost use Prim.Native.Nat.{_<_, _≤_};
 ghost use lib.ListN.{length};
 ghost use Rattle.calculus.specs.Eval.{eval};
 ghost use Rattle.calculus.specs.Formula.{assignment, variables};
+ghost use Rattle.known.specs.Known.{aritiesIn};
 ghost use Rattle.query.specs.Words.{nodeCount};
 ghost use Rattle.query.specs.Tree.{formulaOf};
 ghost use Rattle.evaluate.specs.Within.{within};
@@ -23,7 +24,7 @@ use evaluate::nodes::evaluate;
 use instance::header::Header;
 use instance::scan::Scanned;
 use instance::scan::scan;
-use known::counts::row_counts;
+use known::describe;
 use query::check::check;
 use query::words::right_length;
 
@@ -43,20 +44,19 @@ fn assigned(candidate: &[u32]) -> [u32; 16]
 
 // Evaluates the top node.
 fn evaluate_top(
-    arities: &[u32; 8],
     words: &[u32],
     query: &[u32],
-    known: &[u32; 136],
+    known: &[u32; 144],
     values: &[u32],
     candidate: &[u32],
     budget: u32,
 ) -> Evaluated
-    requires { ⌜ Ready (now arities) (now words) (now query) (now known) × Ranged (now arities) (now words) (now query) (now known) (now values) ⌝ }
+    requires { ⌜ Ready (aritiesIn (now known)) (now words) (now query) (now known) × Ranged (aritiesIn (now known)) (now words) (now query) (now known) (now values) ⌝ }
     requires { ⌜ (0 < nodeCount (now query)) × (length (now candidate) ≤ variables) ⌝ }
-    ensures { λ r. ⌜ r ≡ within budget (eval (world (now (arities .entry)) (now (words .entry))) (formulaOf (now (arities .entry)) (now (query .entry))) (assignment (now (candidate .entry)))) ⌝ }
+    ensures { λ r. ⌜ r ≡ within budget (eval (world (aritiesIn (now (known .entry))) (now (words .entry))) (formulaOf (aritiesIn (now (known .entry))) (now (query .entry))) (assignment (now (candidate .entry)))) ⌝ }
 {
     let mut env = assigned(candidate);
-    evaluate(query, 0, &mut env, budget, values, arities, words, known)
+    evaluate(query, 0, &mut env, budget, values, words, known)
 }
 
 pub fn ask(
@@ -88,10 +88,9 @@ pub fn ask(
         return Asked::Refused(BUFFER_TOO_SHORT);
     }
     let n = list_values(&instance[..used], &arities, buffer);
-    let mut known = [0u32; 136];
-    row_counts(&instance[..used], &arities, &mut known);
+    let mut known = [0u32; 144];
+    describe(&instance[..used], &arities, &mut known);
     match evaluate_top(
-        &arities,
         &instance[..used],
         query,
         &known,

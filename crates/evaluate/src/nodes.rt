@@ -6,7 +6,7 @@ ghost use Prim.Native.Nat.{_<_, ℕ};
 ghost use lib.ListN.{length, set};
 ghost use Rattle.instance.specs.Header.{maxRelations};
 ghost use Rattle.calculus.specs.Formula.{variables};
-ghost use Rattle.known.specs.Known.{knownWords, countIn};
+ghost use Rattle.known.specs.Known.{knownWords, aritiesIn, countIn};
 ghost use Rattle.query.specs.Words.{nodeCount, nodeWords, wordAt, kindOf, rowStands, equals, negates, joins, ranges};
 ghost use Rattle.evaluate.specs.Ready.{Evaluable, Right, junctionOf, Ready, RightIn};
 ghost use Rattle.calculus.specs.Closed.{equality as equalityOf};
@@ -21,6 +21,7 @@ use calculus::truth::Truth;
 use calculus::truth::and;
 use calculus::truth::not;
 use calculus::truth::or;
+use known::arities::arity_in;
 use known::flags::gap;
 use known::flags::passed;
 use lookup::relation::stands;
@@ -35,7 +36,7 @@ fn word(query: &[u32], node: usize, j: usize) -> usize
 }
 
 // The number of rows of a relation.
-fn rows_of(known: &[u32; 136], relation: usize) -> u32
+fn rows_of(known: &[u32; 144], relation: usize) -> u32
     requires { ⌜ (length (now known) ≡ knownWords) × (relation < maxRelations) ⌝ }
     ensures { λ r. ⌜ r ≡ countIn (now (known .entry)) relation ⌝ }
 {
@@ -56,13 +57,12 @@ fn atom(
     node: usize,
     env: &[u32; 16],
     budget: u32,
-    arities: &[u32; 8],
     words: &[u32],
-    known: &[u32; 136],
+    known: &[u32; 144],
 ) -> Evaluated
-    requires { ⌜ Ready (now arities) (now words) (now query) (now known) × (node < nodeCount (now query)) × (length (now env) ≡ variables) ⌝ }
+    requires { ⌜ Ready (aritiesIn (now known)) (now words) (now query) (now known) × (node < nodeCount (now query)) × (length (now env) ≡ variables) ⌝ }
     requires { ⌜ kindOf (wordAt (now query) node 0) ≡ rowStands ⌝ }
-    ensures right { λ r. ⌜ Right (now (arities .entry)) (now (words .entry)) (now (query .entry)) node (now (env .entry)) budget r ⌝ }
+    ensures right { λ r. ⌜ Right (aritiesIn (now (known .entry))) (now (words .entry)) (now (query .entry)) node (now (env .entry)) budget r ⌝ }
 {
     if budget == 0 {
         return Evaluated::Spent;
@@ -70,10 +70,10 @@ fn atom(
     let covered = budget - 1;
     let relation = word(query, node, 1);
     let rows = rows_of(known, relation);
-    let arity = arities[relation] as usize;
+    let arity = arity_in(known, relation) as usize;
     let row = asked_row(query, node, arity, env);
     if covered < rows {
-        let front = stands(words, arities, relation as u32, covered, &row);
+        let front = stands(words, known, relation as u32, covered, &row);
         let truth = front.truth;
         let cost = 1 + front.rows;
         // The budget covers no other row, so only an identical one gives a verdict.
@@ -82,7 +82,7 @@ fn atom(
         }
         return Evaluated::Spent;
     }
-    let all = stands(words, arities, relation as u32, rows, &row);
+    let all = stands(words, known, relation as u32, rows, &row);
     let truth = all.truth;
     let cost = 1 + all.rows;
     Evaluated::Verdict(truth, cost)
@@ -133,26 +133,17 @@ fn negated(
     env: &mut [u32; 16],
     budget: u32,
     values: &[u32],
-    arities: &[u32; 8],
     words: &[u32],
-    known: &[u32; 136],
+    known: &[u32; 144],
 ) -> Evaluated
-    requires { ⌜ Evaluable (now arities) (now words) (now query) (now known) (now values) node (now env) ⌝ }
+    requires { ⌜ Evaluable (aritiesIn (now known)) (now words) (now query) (now known) (now values) node (now env) ⌝ }
     requires { ⌜ kindOf (wordAt (now query) node 0) ≡ negates ⌝ }
     ensures kept { λ r. ⌜ now (env .exit) ≡ now (env .entry) ⌝ }
-    ensures right { λ r. ⌜ Right (now (arities .entry)) (now (words .entry)) (now (query .entry)) node (now (env .entry)) budget r ⌝ }
+    ensures right { λ r. ⌜ Right (aritiesIn (now (known .entry))) (now (words .entry)) (now (query .entry)) node (now (env .entry)) budget r ⌝ }
 {
     let child = word(query, node, 1);
-    let Evaluated::Verdict(truth, cost) = evaluate(
-        query,
-        child,
-        env,
-        budget,
-        values,
-        arities,
-        words,
-        known,
-    ) else {
+    let Evaluated::Verdict(truth, cost) = evaluate(query, child, env, budget, values, words, known)
+    else {
         return Evaluated::Spent;
     };
     Evaluated::Verdict(not(truth), cost)
@@ -165,27 +156,18 @@ fn both(
     env: &mut [u32; 16],
     budget: u32,
     values: &[u32],
-    arities: &[u32; 8],
     words: &[u32],
-    known: &[u32; 136],
+    known: &[u32; 144],
 ) -> Evaluated
-    requires { ⌜ Evaluable (now arities) (now words) (now query) (now known) (now values) node (now env) ⌝ }
+    requires { ⌜ Evaluable (aritiesIn (now known)) (now words) (now query) (now known) (now values) node (now env) ⌝ }
     requires { ⌜ kindOf (wordAt (now query) node 0) ≡ joins (junctionOf every) ⌝ }
     ensures kept { λ r. ⌜ now (env .exit) ≡ now (env .entry) ⌝ }
-    ensures right { λ r. ⌜ Right (now (arities .entry)) (now (words .entry)) (now (query .entry)) node (now (env .entry)) budget r ⌝ }
+    ensures right { λ r. ⌜ Right (aritiesIn (now (known .entry))) (now (words .entry)) (now (query .entry)) node (now (env .entry)) budget r ⌝ }
 {
     let left = word(query, node, 1);
     let right = word(query, node, 2);
-    let Evaluated::Verdict(a, paid) = evaluate(
-        query,
-        left,
-        env,
-        budget,
-        values,
-        arities,
-        words,
-        known,
-    ) else {
+    let Evaluated::Verdict(a, paid) = evaluate(query, left, env, budget, values, words, known)
+    else {
         return Evaluated::Spent;
     };
     if settles(every, a) {
@@ -197,7 +179,6 @@ fn both(
         env,
         budget - paid,
         values,
-        arities,
         words,
         known,
     ) else {
@@ -215,14 +196,13 @@ fn walk(
     env: &mut [u32; 16],
     budget: u32,
     values: &[u32],
-    arities: &[u32; 8],
     words: &[u32],
-    known: &[u32; 136],
+    known: &[u32; 144],
 ) -> Evaluated
-    requires { ⌜ Evaluable (now arities) (now words) (now query) (now known) (now values) node (now env) ⌝ }
+    requires { ⌜ Evaluable (aritiesIn (now known)) (now words) (now query) (now known) (now values) node (now env) ⌝ }
     requires { ⌜ kindOf (wordAt (now query) node 0) ≡ ranges (junctionOf every) ⌝ }
     ensures kept { λ r. ⌜ now (env .exit) ≡ now (env .entry) ⌝ }
-    ensures right { λ r. ⌜ Right (now (arities .entry)) (now (words .entry)) (now (query .entry)) node (now (env .entry)) budget r ⌝ }
+    ensures right { λ r. ⌜ Right (aritiesIn (now (known .entry))) (now (words .entry)) (now (query .entry)) node (now (env .entry)) budget r ⌝ }
 {
     let variable = word(query, node, 1);
     let child = word(query, node, 2);
@@ -241,7 +221,6 @@ fn walk(
                 env,
                 budget - cost,
                 values,
-                arities,
                 words,
                 known,
             ) else {
@@ -267,41 +246,20 @@ pub fn evaluate(
     env: &mut [u32; 16],
     budget: u32,
     values: &[u32],
-    arities: &[u32; 8],
     words: &[u32],
-    known: &[u32; 136],
+    known: &[u32; 144],
 ) -> Evaluated
-    requires { ⌜ Evaluable (now arities) (now words) (now query) (now known) (now values) node (now env) ⌝ }
+    requires { ⌜ Evaluable (aritiesIn (now known)) (now words) (now query) (now known) (now values) node (now env) ⌝ }
     ensures kept { λ r. ⌜ now (env .exit) ≡ now (env .entry) ⌝ }
-    ensures right { λ r. ⌜ Right (now (arities .entry)) (now (words .entry)) (now (query .entry)) node (now (env .entry)) budget r ⌝ }
+    ensures right { λ r. ⌜ Right (aritiesIn (now (known .entry))) (now (words .entry)) (now (query .entry)) node (now (env .entry)) budget r ⌝ }
 {
     let kind = word(query, node, 0);
     match kind {
-        1 => atom(query, node, env, budget, arities, words, known),
+        1 => atom(query, node, env, budget, words, known),
         2 => equality(query, node, env, budget),
-        3 => negated(query, node, env, budget, values, arities, words, known),
-        4 | 5 => both(
-            query,
-            node,
-            kind == 4,
-            env,
-            budget,
-            values,
-            arities,
-            words,
-            known,
-        ),
-        6 | 7 => walk(
-            query,
-            node,
-            kind == 7,
-            env,
-            budget,
-            values,
-            arities,
-            words,
-            known,
-        ),
+        3 => negated(query, node, env, budget, values, words, known),
+        4 | 5 => both(query, node, kind == 4, env, budget, values, words, known),
+        6 | 7 => walk(query, node, kind == 7, env, budget, values, words, known),
         // Never reached: the contract requires that every node has a kind from 1 to 7.
         _ => Evaluated::Spent,
     }

@@ -1,21 +1,28 @@
--- What evaluation knows of an instance besides its words, in one array: the number of rows of each of the eight relations, and then a flag for each
--- place of the slice that quantifiers walk. A walk passes over the places whose flag stands.
+-- What evaluation knows of an instance besides its words, in one array: the number of rows of each of the eight relations, their arities, and then a flag
+-- for each place of the slice that quantifiers walk. A walk passes over the places whose flag stands.
 use Prim.Native.Nat.{ℕ, suc, _+_, _/_, _%_, _≤_, _<_}
 use mathlib.Core.Path.{_≡_}
 use mathlib.Core.Bool.{Bool, true, false, cond}
 use mathlib.Core.List.{List, [], _∷_}
-use lib.ListN.{getD}
+use lib.ListN.{getD, take, drop}
 use Rattle.calculus.specs.Bit.{bitAt}
+use Rattle.instance.specs.Header.{maxRelations}
 
--- where the flags begin, and the length of the array: a flag for each of 4,096 places, 32 to a word
+-- where the flags begin, their words (a flag for each of 4,096 places, 32 to a word), and the length of the array
 abbrev pub flagsFrom : ℕ
-flagsFrom = 8
+flagsFrom = 16
+
+abbrev pub flagWords : ℕ
+flagWords = 128
 
 abbrev pub knownWords : ℕ
-knownWords = 136
+knownWords = flagsFrom + flagWords
 
 abbrev pub countIn : List ℕ → ℕ → ℕ
 countIn known r = getD known r 0
+
+abbrev pub aritiesIn : List ℕ → List ℕ
+aritiesIn known = take maxRelations (drop maxRelations known)
 
 abbrev pub flagAt : List ℕ → ℕ → Bool
 flagAt known p = bitAt (getD known (flagsFrom + p / 32) 0) (p % 32)

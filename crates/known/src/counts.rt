@@ -6,18 +6,19 @@ ghost use Rattle.instance.specs.Header.{maxRelations};
 ghost use Rattle.instance.specs.Rows.{rowsFrom};
 ghost use Rattle.instance.specs.InstanceWellFormed.{InstanceOf};
 ghost use Rattle.instance.specs.RowCounts.{rowCounts};
-ghost use Rattle.known.specs.Known.{knownWords};
+ghost use Rattle.known.specs.Known.{knownWords, aritiesIn};
+use super::arities::arity_in;
 
 // The number of rows of each of the eight relations, in one pass from row to row, at the start of the array; its other words stay.
-pub fn row_counts(words: &[u32], arities: &[u32; 8], known: &mut [u32; 136])
-    requires { ⌜ InstanceOf (now arities) (now words) ⌝ }
+pub fn row_counts(words: &[u32], known: &mut [u32; 144])
+    requires { ⌜ InstanceOf (aritiesIn (now known)) (now words) ⌝ }
     requires { ⌜ (length (now known) ≡ knownWords) × (take maxRelations (now known) ≡ replicate maxRelations 0) ⌝ }
-    ensures { λ _. ⌜ now (known .exit) ≡ rowCounts (rowsFrom (now (arities .entry)) 0 (now (words .entry))) ++ drop maxRelations (now (known .entry)) ⌝ }
+    ensures { λ _. ⌜ now (known .exit) ≡ rowCounts (rowsFrom (aritiesIn (now (known .entry))) 0 (now (words .entry))) ++ drop maxRelations (now (known .entry)) ⌝ }
 {
     let mut i = 0;
     while i < words.len() {
         let relation = words[i] as usize;
         known[relation] += 1;
-        i += 1 + arities[relation] as usize;
+        i += 1 + arity_in(known, relation) as usize;
     }
 }

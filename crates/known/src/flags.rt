@@ -6,14 +6,14 @@ ghost use lib.ListN.{length};
 ghost use Rattle.instance.specs.Header.{maxWords};
 ghost use Rattle.known.specs.Known.{knownWords, flagAt, Gap};
 
-// The flags begin behind the counts.
-pub const FLAGS: usize = 8;
+// The flags begin behind the counts and the arities.
+pub const FLAGS: usize = 16;
 
 // A word whose flags all stand.
 const FULL: u32 = 4_294_967_295;
 
 // Whether a walk passes over a place.
-pub fn passed(known: &[u32; 136], place: usize) -> bool
+pub fn passed(known: &[u32; 144], place: usize) -> bool
     requires { ⌜ (length (now known) ≡ knownWords) × (place < maxWords) ⌝ }
     ensures { λ r. ⌜ r ≡ flagAt (now (known .entry)) place ⌝ }
 {
@@ -30,7 +30,7 @@ fn run(flags: u32, v: u32) -> usize
 }
 
 // How many places from one on are passed over, as far as its flag word tells: 0 if it is not passed over itself.
-pub fn gap(known: &[u32; 136], place: usize) -> usize
+pub fn gap(known: &[u32; 144], place: usize) -> usize
     requires { ⌜ (length (now known) ≡ knownWords) × (place < maxWords) ⌝ }
     ensures { λ r. ⌜ Gap (now (known .entry)) place r ⌝ }
 {

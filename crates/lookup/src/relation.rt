@@ -8,6 +8,7 @@ ghost use Rattle.instance.specs.Header.{arityOf, maxColumns};
 ghost use Rattle.instance.specs.Rows.{rowsFrom};
 ghost use Rattle.lookup.specs.Examined.{examinedOf};
 ghost use Rattle.lookup.specs.Matching.{matchAfter};
+ghost use Rattle.known.specs.Known.{knownWords, aritiesIn};
 ghost use Rattle.lookup.specs.Passing.{RowsLeft};
 ghost use Rattle.lookup.specs.Place.{cellsAt};
 use super::probe::next_probe;
@@ -17,6 +18,7 @@ use super::row::alike;
 use super::row::compare;
 use super::rows::next_near;
 use calculus::truth::Truth;
+use known::arities::arity_in;
 
 // What rows of a relation say of a row, and how many of them were examined.
 pub struct Examined {
@@ -42,17 +44,17 @@ fn compare_after(words: &[u32], place: usize, row: &[u32], possible: bool) -> Ma
 // a later one may be identical. A row is not compared if a probe of one column tells enough.
 pub fn stands(
     words: &[u32],
-    arities: &[u32; 8],
+    known: &[u32; 144],
     relation: u32,
     most: u32,
     row: &[u32; 6],
 ) -> Examined
-    requires { ⌜ RowsLeft (now arities) (now words) relation 0 most × (length (now row) ≡ maxColumns) ⌝ }
-    ensures answer { λ r. ⌜ r ≡ examinedOf (take most (tuples relation (rowsFrom (now (arities .entry)) 0 (now (words .entry))))) (take (arityOf (now (arities .entry)) relation) (now (row .entry))) ⌝ }
-    ensures verdict { λ r. ⌜ MeansStands (take most (tuples relation (rowsFrom (now (arities .entry)) 0 (now (words .entry))))) (take (arityOf (now (arities .entry)) relation) (now (row .entry))) (r .truth) ⌝ }
-    ensures charge { λ r. ⌜ MeansExamined (take most (tuples relation (rowsFrom (now (arities .entry)) 0 (now (words .entry))))) (take (arityOf (now (arities .entry)) relation) (now (row .entry))) (r .rows) ⌝ }
+    requires { ⌜ RowsLeft (aritiesIn (now known)) (now words) relation 0 most × (length (now known) ≡ knownWords) × (length (now row) ≡ maxColumns) ⌝ }
+    ensures answer { λ r. ⌜ r ≡ examinedOf (take most (tuples relation (rowsFrom (aritiesIn (now (known .entry))) 0 (now (words .entry))))) (take (arityOf (aritiesIn (now (known .entry))) relation) (now (row .entry))) ⌝ }
+    ensures verdict { λ r. ⌜ MeansStands (take most (tuples relation (rowsFrom (aritiesIn (now (known .entry))) 0 (now (words .entry))))) (take (arityOf (aritiesIn (now (known .entry))) relation) (now (row .entry))) (r .truth) ⌝ }
+    ensures charge { λ r. ⌜ MeansExamined (take most (tuples relation (rowsFrom (aritiesIn (now (known .entry))) 0 (now (words .entry))))) (take (arityOf (aritiesIn (now (known .entry))) relation) (now (row .entry))) (r .rows) ⌝ }
 {
-    let arity = arities[relation as usize] as usize;
+    let arity = arity_in(known, relation as usize) as usize;
     // A part of an array behind a reference is taken from its whole slice.
     let cells = &row[..];
     let asked = &cells[..arity];
@@ -64,7 +66,7 @@ pub fn stands(
         let column = probe.column;
         let cell = asked[column];
         let low = probe.low;
-        let near = next_near(words, arities, relation, column, cell, low, i, more);
+        let near = next_near(words, known, relation, column, cell, low, i, more);
         more = near.more;
         if 0 < more {
             let earlier = possible;

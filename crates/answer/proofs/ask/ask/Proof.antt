@@ -1,14 +1,14 @@
--- `answer::ask::ask` meets its contract: the scan and the check give the first refusals; if there is none, the values are listed, the rows
--- counted and the top node evaluated. Assumes nothing.
+-- `answer::ask::ask` meets its contract: the scan and the check give the first refusals; if there is none, the values are listed, the
+-- instance described and the top node evaluated. Assumes nothing.
 use Prim.Native.Nat.{ℕ, _+_, _≤_}
-use mathlib.Core.Path.{_≡_, refl, sym, ap, _∙_}
+use mathlib.Core.Path.{_≡_, refl, sym, _∙_}
 use mathlib.Core.Bool.{true}
-use mathlib.Core.List.{List, _++_}
+use mathlib.Core.List.{List}
 use native.Mathlib.Omega.{arith}
 use borrow.Author.Needs.{needs}
-use lib.ListN.{length, take, replicate, length-append}
-use lib.Seq.{length-take-le, take-at}
-use Rattle.calculus.specs.Row.{Row, cellsOf}
+use lib.ListN.{length, take}
+use lib.Seq.{length-take-le}
+use Rattle.calculus.specs.Row.{cellsOf}
 use Rattle.calculus.specs.Domain.{domain}
 use Rattle.instance.specs.declared.header.Header.{Header}
 use Rattle.instance.specs.declared.scan.Scanned.the-variants.{Rows}
@@ -17,15 +17,11 @@ use Rattle.instance.specs.InstanceWellFormed.{InstanceOf}
 use Rattle.instance.specs.Rows.{rowsFrom}
 use Rattle.instance.specs.Sound.{sound, rows, scanned}
 use Rattle.instance.proofs.Sound.{scanned-sound, scanned-unsound, scanned-rows, Sound, sound-gives}
-use Rattle.instance.specs.RowCounts.{rowCounts}
-use Rattle.instance.proofs.RowCounts.{row-counts-size}
-use Rattle.known.specs.Known.{knownWords, flagAt}
-use Rattle.known.proofs.Walking.{no-flags}
 use Rattle.query.specs.Scope.{Scopes}
 use Rattle.query.specs.Check.{checkQuery, passed}
 use Rattle.query.proofs.Passed.{passed-number}
 use Rattle.answer.proofs.RerunLaws.{Asks}
-use Rattle.answer.proofs.AskLaws.{unsound-asked, check-asked, buffer-asked, answered, cells-count, made-ready, listed-ranged, listed-part, length-asked}
+use Rattle.answer.proofs.AskLaws.{unsound-asked, check-asked, buffer-asked, answered, cells-count, Described, described, described-unflagged, evaluable, listed-ranged, listed-part, length-asked}
 use Rattle.answer.proofs.Told.{ask-told}
 use Rattle.answer.proofs.ask.ask.Statement.{statement}
 use Rattle.answer.proofs.ask.ask.Tie as tie
@@ -133,12 +129,8 @@ module _ (c : tie.After-buffer) where
   are-listed : (c .before .list-values .result ≤ length left) × (take (c .before .list-values .result) left ≡ values)
   are-listed = listed-part values (buffer (first tested)) left (c .before .list-values .result) (c .before .list-values .ensures .0) (c .before .list-values .ensures .1)
 
--- the counts, followed by no flags
-counts-size : (rs : List Row) → length (rowCounts rs ++ replicate 128 0) ≡ knownWords
-counts-size rs = length-append (rowCounts rs) (replicate 128 0) ∙ ap (λ (n : ℕ). n + 128) (row-counts-size rs)
-
--- after the rows were counted
-abbrev listed : tie.After-row-counts → tie.After-buffer
+-- after the instance was described
+abbrev listed : tie.After-describe → tie.After-buffer
 listed c = c .before .before .before .before .before
 
 scan-requires : tie.Need-scan-requires
@@ -193,36 +185,41 @@ list-values-requires : tie.Need-list-values-requires
 unfolding rows
 list-values-requires c κs = let t = c .before .before .before in (lent (first t), asks t .room)
 
-slice-aggregate-row-counts : tie.Need-slice-aggregate-row-counts
-slice-aggregate-row-counts c = sym (given (first (tested (c .before .before))) .in-use)
+slice-aggregate-describe : tie.Need-slice-aggregate-describe
+slice-aggregate-describe c = sym (given (first (tested (c .before .before))) .in-use)
 
-row-counts-requires : tie.Need-row-counts-requires
-row-counts-requires c κs = (lent (first (tested (c .before .before .before .before))), (refl, refl))
+describe-requires : tie.Need-describe-requires
+describe-requires c κs = let b = first (tested (c .before .before .before .before)) in (lent b, eight b, refl)
 
 slice-aggregate-evaluate-top : tie.Need-slice-aggregate-evaluate-top
-slice-aggregate-evaluate-top c = sym (given (first (tested (listed (c .before .before)))) .in-use)
+slice-aggregate-evaluate-top c = sym (given (first (tested (listed (c .before)))) .in-use)
 
 slice-reshare-prefix-evaluate-top : tie.Need-slice-reshare-prefix-evaluate-top
-slice-reshare-prefix-evaluate-top c = are-listed (listed (c .before .before .before)) .0
+slice-reshare-prefix-evaluate-top c = are-listed (listed (c .before .before)) .0
 
 slice-aggregate-evaluate-top-2 : tie.Need-slice-aggregate-evaluate-top-2
-slice-aggregate-evaluate-top-2 c = sym (length-take-le _ _ (are-listed (listed (c .before .before .before .before)) .0))
+slice-aggregate-evaluate-top-2 c = sym (length-take-le _ _ (are-listed (listed (c .before .before .before)) .0))
+
+-- what the instance's description gives
+module _ (c : tie.After-describe) where
+  abbrev found : tie.After-struct-known
+  found = first (tested (listed c))
+
+  abbrev table : List ℕ
+  table = c .describe .last .1 .1 .0
+
+  told-of : Described (h found) (ws found) table
+  told-of = described (h found) (ws found) table (eight found) (c .describe .ensures)
 
 evaluate-top-requires : tie.Need-evaluate-top-requires
 evaluate-top-requires c κs =
-    let counted = c .before .before .before .before in
-    let l = listed counted in
-    let t = tested l in
-    let b = first t in
+    let d = c .before .before .before in
+    let b = found d in
+    let t = tested (listed d) in
     let q = checked (t .before) in
-    let rs = rowsFrom (h b .arities) 0 (take (h b .used) (ws b)) in
-    let is = counted .row-counts .ensures in
-    let made =
-    made-ready (h b) (ws b) (qs b) (cs b) (is-sound b) (eight b) (right (length-known (t .before))) (q .0) (q .1) _
-    (ap length is ∙ counts-size rs) (ap (take maxRelations) is ∙ take-at (rowCounts rs) (replicate 128 0) maxRelations (row-counts-size rs))
-    in
-    let ranged = listed-ranged (h b) (ws b) (qs b) _ _ (is-sound b) (λ p. ap (λ (z : List ℕ). flagAt z p) is ∙ no-flags (rowCounts rs) (row-counts-size rs) 128 p) (are-listed l .1) in
-    ((made .0, ranged), made .1)
+    let unflagged = described-unflagged (h b) (ws b) (table d) (eight b) (d .describe .ensures) in
+    evaluable (h b) (ws b) (qs b) (cs b) (is-sound b) (eight b) (right (length-known (t .before))) (q .0) (q .1) (table d) _ (told-of d)
+    (listed-ranged (h b) (ws b) (qs b) (table d) _ (is-sound b) unflagged (are-listed (listed d) .1))
 
 enum-known-truth : tie.Need-enum-known-truth
 enum-known-truth c = search needs
@@ -236,7 +233,7 @@ same-length c = search needs
 -- after the evaluation
 module _ (c : tie.After-evaluate-top) where
   abbrev lists : tie.After-buffer
-  lists = listed (c .before .before .before .before .before)
+  lists = listed (c .before .before .before .before)
 
   abbrev begins : tie.After-struct-known
   begins = first (tested lists)
@@ -244,7 +241,7 @@ module _ (c : tie.After-evaluate-top) where
   verdict : (evaluatedAs (c .evaluate-top .result) ≡ ask (h begins) (ws begins) (qs begins) (cs begins) (buffer begins) (budget begins))
       × (left lists ≡ askedBuffer (h begins) (ws begins) (qs begins) (cs begins) (buffer begins))
   verdict =
-      answered (h begins) (ws begins) (qs begins) (cs begins) (buffer begins) (budget begins) (asks (tested lists)) _ (c .evaluate-top .ensures) _
+      answered (h begins) (ws begins) (qs begins) (cs begins) (buffer begins) (budget begins) (asks (tested lists)) _ (told-of (c .before .before .before .before)) _ (c .evaluate-top .ensures) _
       (lists .before .list-values .ensures .1)
 
 returns-5 : tie.Need-returns-5
@@ -274,8 +271,8 @@ ask-spec =
     returns-4
     slice-aggregate-list-values
     list-values-requires
-    slice-aggregate-row-counts
-    row-counts-requires
+    slice-aggregate-describe
+    describe-requires
     slice-aggregate-evaluate-top
     slice-reshare-prefix-evaluate-top
     slice-aggregate-evaluate-top-2

@@ -7,7 +7,7 @@ use mathlib.Core.List.{List, _∷_}
 use lib.ListN.{length, getD, set, drop, length-set}
 use lib.Seq.{set-getD}
 use Rattle.calculus.specs.Formula.{variables}
-use Rattle.known.specs.Known.{unpassed}
+use Rattle.known.specs.Known.{aritiesIn, unpassed}
 use Rattle.known.proofs.Walking.{unpassed-end, unpassed-here, unpassed-gap, gap-some}
 use Rattle.query.specs.Passed.{NodeBy}
 use Rattle.query.specs.Words.{noKind, negates, joins, ranges, kindOf, wordAt, nodeCount, equals}
@@ -42,42 +42,42 @@ use Rattle.calculus.proofs.truth.not.Reads as not-reads
 use Rattle.evaluate.proofs.nodes.+both+evaluate+negated+walk.{statement}
 use Rattle.evaluate.proofs.nodes.+both+evaluate+negated+walk.Tie.{close}
 
-abbrev μ-both : Measures 6 both-kinds.ps ℕ
+abbrev μ-both : Measures 5 both-kinds.ps ℕ
 μ-both κs a = 2 * (nodeCount (a .0 .now) - a .1 .0)
 
-abbrev μ-evaluate : Measures 6 evaluate-kinds.ps ℕ
+abbrev μ-evaluate : Measures 5 evaluate-kinds.ps ℕ
 μ-evaluate κs a = 2 * (nodeCount (a .0 .now) - a .1 .0) + 1
 
-abbrev μ-negated : Measures 6 negated-kinds.ps ℕ
+abbrev μ-negated : Measures 5 negated-kinds.ps ℕ
 μ-negated κs a = 2 * (nodeCount (a .0 .now) - a .1 .0)
 
-abbrev μ-walk : Measures 6 walk-kinds.ps ℕ
+abbrev μ-walk : Measures 5 walk-kinds.ps ℕ
 μ-walk κs a = 2 * (nodeCount (a .0 .now) - a .1 .0)
 
-abbrev both-at : ℕ → In 6 both-kinds.ps
-both-at t = and 6 both-kinds.ps (is 6 both-kinds.ps μ-both t) both.Pre
+abbrev both-at : ℕ → In 5 both-kinds.ps
+both-at t = and 5 both-kinds.ps (is 5 both-kinds.ps μ-both t) both.Pre
 
-abbrev both-below : ℕ → In 6 both-kinds.ps
-both-below t = and 6 both-kinds.ps (falls 6 both-kinds.ps _<_ μ-both t) both.Pre
+abbrev both-below : ℕ → In 5 both-kinds.ps
+both-below t = and 5 both-kinds.ps (falls 5 both-kinds.ps _<_ μ-both t) both.Pre
 
-abbrev evaluate-at : ℕ → In 6 evaluate-kinds.ps
-evaluate-at t = and 6 evaluate-kinds.ps (is 6 evaluate-kinds.ps μ-evaluate t) evaluate.Pre
+abbrev evaluate-at : ℕ → In 5 evaluate-kinds.ps
+evaluate-at t = and 5 evaluate-kinds.ps (is 5 evaluate-kinds.ps μ-evaluate t) evaluate.Pre
 
-abbrev evaluate-below : ℕ → In 6 evaluate-kinds.ps
+abbrev evaluate-below : ℕ → In 5 evaluate-kinds.ps
 evaluate-below t =
-    and 6 evaluate-kinds.ps (falls 6 evaluate-kinds.ps _<_ μ-evaluate t) evaluate.Pre
+    and 5 evaluate-kinds.ps (falls 5 evaluate-kinds.ps _<_ μ-evaluate t) evaluate.Pre
 
-abbrev negated-at : ℕ → In 6 negated-kinds.ps
-negated-at t = and 6 negated-kinds.ps (is 6 negated-kinds.ps μ-negated t) negated.Pre
+abbrev negated-at : ℕ → In 5 negated-kinds.ps
+negated-at t = and 5 negated-kinds.ps (is 5 negated-kinds.ps μ-negated t) negated.Pre
 
-abbrev negated-below : ℕ → In 6 negated-kinds.ps
-negated-below t = and 6 negated-kinds.ps (falls 6 negated-kinds.ps _<_ μ-negated t) negated.Pre
+abbrev negated-below : ℕ → In 5 negated-kinds.ps
+negated-below t = and 5 negated-kinds.ps (falls 5 negated-kinds.ps _<_ μ-negated t) negated.Pre
 
-abbrev walk-at : ℕ → In 6 walk-kinds.ps
-walk-at t = and 6 walk-kinds.ps (is 6 walk-kinds.ps μ-walk t) walk.Pre
+abbrev walk-at : ℕ → In 5 walk-kinds.ps
+walk-at t = and 5 walk-kinds.ps (is 5 walk-kinds.ps μ-walk t) walk.Pre
 
-abbrev walk-below : ℕ → In 6 walk-kinds.ps
-walk-below t = and 6 walk-kinds.ps (falls 6 walk-kinds.ps _<_ μ-walk t) walk.Pre
+abbrev walk-below : ℕ → In 5 walk-kinds.ps
+walk-below t = and 5 walk-kinds.ps (falls 5 walk-kinds.ps _<_ μ-walk t) walk.Pre
 
 -- what each function assumes of the functions that it calls
 abbrev both-claims : ℕ → both-lts.Claims
@@ -100,7 +100,7 @@ both-word-requires-2 t c κs = (c .before .before .before .before .pre .1 .0 .kn
 
 -- what is known of the two children of a node that joins them
 module _ (t : ℕ) (s : both-lts.Start (both-claims t) (both-at t) both.Post) where
-  both-down : NodeBy (s .pre .1 .0 .ready .given .relations) (s .args .arities .now) (s .args .query .now) (s .args .node) (joins (junctionOf (s .args .every)))
+  both-down : NodeBy (s .pre .1 .0 .ready .given .relations) (aritiesIn (s .args .known .now)) (s .args .query .now) (s .args .node) (joins (junctionOf (s .args .every)))
   both-down = well-formed-by _ _ _ _ _ (joins (junctionOf (s .args .every))) (s .pre .1 .0 .ready) (s .pre .1 .0 .known) (s .pre .1 .1)
 
 -- the left child's answer, as the answer for the node that word 1 names
@@ -109,7 +109,7 @@ module _ (t : ℕ) (e : both-lts.After-evaluate (both-claims t) (both-at t) both
   both-start = e .before .before .before .before .before .before .before
 
   left-told : (r : Evaluated) → e .evaluate .result ≡ r
-      → Right (both-start .args .arities .now) (both-start .args .words .now) (both-start .args .query .now) (wordAt (both-start .args .query .now) (both-start .args .node) 1) (both-start .args .env .now) (both-start .args .budget) r
+      → Right (aritiesIn (both-start .args .known .now)) (both-start .args .words .now) (both-start .args .query .now) (wordAt (both-start .args .query .now) (both-start .args .node) 1) (both-start .args .env .now) (both-start .args .budget) r
   left-told r is = rw (e .before .before .before .word .ensures, is) at (e .evaluate .ensures .1)
 
 -- the right child's answer, within what the left child has left of the budget
@@ -121,7 +121,7 @@ module _ (t : ℕ) (e : both-lts.After-evaluate2 (both-claims t) (both-at t) bot
   right-start = both-start t left-done
 
   right-told : (r : Evaluated) → e .evaluate2 .result ≡ r
-      → Right (right-start .args .arities .now) (right-start .args .words .now) (right-start .args .query .now) (wordAt (right-start .args .query .now) (right-start .args .node) 2) (right-start .args .env .now) (right-start .args .budget - e .before .before .before .before .before .a .given .0 .1 .0) r
+      → Right (aritiesIn (right-start .args .known .now)) (right-start .args .words .now) (right-start .args .query .now) (wordAt (right-start .args .query .now) (right-start .args .node) 2) (right-start .args .env .now) (right-start .args .budget - e .before .before .before .before .before .a .given .0 .1 .0) r
   right-told r is =
       rw (e .before .before .before .before .before .before .before .before .before .word2 .ensures, is, e .before .before .before .before .before .before .before .evaluate .ensures .0) at (e .evaluate2 .ensures .1)
 
@@ -324,16 +324,16 @@ negated-returns-2 t c =
     (child .0, rw (c .not .ensures .0) (negated-verdict _ _ _ _ (ev .known) (start .pre .1 .1) (down .0) _ _ _ _ (rw (c .before .before .before .before .before .before .word .ensures, c .before .before .truth .given .1) at (child .1))))
 
 abbrev walk-Inv-loop : walk-lts.InvT-loop
-walk-Inv-loop query node every env₀ budget values arities words known variable child old truth₀ cost₀ i₀ env truth cost i =
-    Walking (world arities words) arities query node (junctionOf every) env₀ budget truth cost (unpassed known i (drop i values)) × (set env variable old ≡ env₀)
+walk-Inv-loop query node every env₀ budget values words known variable child old truth₀ cost₀ i₀ env truth cost i =
+    Walking (world (aritiesIn known) words) (aritiesIn known) query node (junctionOf every) env₀ budget truth cost (unpassed known i (drop i values)) × (set env variable old ≡ env₀)
 
 abbrev walk-μ-loop : walk-lts.MeasureT-loop
-walk-μ-loop query node every env₀ budget values arities words known variable child old truth₀ cost₀ i₀ env truth cost i =
+walk-μ-loop query node every env₀ budget values words known variable child old truth₀ cost₀ i₀ env truth cost i =
     length values - i
 
 -- what is known of the child of a node that ranges over values
 module _ (t : ℕ) (s : walk-lts.Start (walk-claims t) (walk-at t) walk.Post walk-Inv-loop walk-μ-loop) where
-  walk-down : NodeBy (s .pre .1 .0 .ready .given .relations) (s .args .arities .now) (s .args .query .now) (s .args .node) (ranges (junctionOf (s .args .every)))
+  walk-down : NodeBy (s .pre .1 .0 .ready .given .relations) (aritiesIn (s .args .known .now)) (s .args .query .now) (s .args .node) (ranges (junctionOf (s .args .every)))
   walk-down = well-formed-by _ _ _ _ _ (ranges (junctionOf (s .args .every))) (s .pre .1 .0 .ready) (s .pre .1 .0 .known) (s .pre .1 .1)
 
 -- once the child was evaluated for a value
@@ -380,7 +380,7 @@ module _ (t : ℕ) (e : walk-lts.After-evaluate (walk-claims t) (walk-at t) walk
 
   -- the child's answer, as the answer for the node that word 2 names, within what is left of the budget
   child-told : (r : Evaluated) → e .evaluate .result ≡ r
-      → Right (walk-start .args .arities .now) (walk-start .args .words .now) qs (wordAt qs (walk-start .args .node) 2) (set env₀ (wordAt qs (walk-start .args .node) 1) value) (walk-start .args .budget - walk-loop .loop .cost) r
+      → Right (aritiesIn (walk-start .args .known .now)) (walk-start .args .words .now) qs (wordAt qs (walk-start .args .node) 2) (set env₀ (wordAt qs (walk-start .args .node) 1) value) (walk-start .args .budget - walk-loop .loop .cost) r
   child-told r is = rw (e .before .before .before .before .before .before .before .before .before .before .before .word2 .ensures, is, here) at (e .evaluate .ensures .1)
 
   -- the assignment still has 16 values, and the variable is one of them

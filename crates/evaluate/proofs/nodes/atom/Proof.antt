@@ -11,6 +11,7 @@ use Rattle.calculus.specs.declared.truth.Truth.{Truth}
 use Rattle.calculus.specs.declared.truth.Truth.the-variants.{False, Unknown, True}
 use Rattle.calculus.specs.Kleene.{disj}
 use Rattle.calculus.specs.Eval.{settles}
+use Rattle.calculus.specs.Padded.{padded}
 use Rattle.calculus.specs.Formula.{values}
 use Rattle.calculus.proofs.Bools.{false-not-true}
 use Rattle.calculus.proofs.UpTo.{examined-le}
@@ -24,7 +25,7 @@ use Rattle.evaluate.specs.declared.evaluated.Evaluated.{Evaluated}
 use Rattle.evaluate.specs.Within.{within}
 use Rattle.evaluate.specs.Ready.{Right}
 use Rattle.evaluate.proofs.TermLaws.{row-six, row-front}
-use Rattle.known.specs.Known.{countIn}
+use Rattle.known.specs.Known.{knownWords, aritiesIn, countIn}
 use Rattle.lookup.specs.Passing.{RowsLeft}
 use Rattle.evaluate.proofs.Budget.{spent, verdicts}
 use Rattle.evaluate.proofs.Covered.{atomOf, beyond-spent, found-verdict, all-verdict}
@@ -41,15 +42,15 @@ module _ (s : tie.Start) where
   abbrev is : kindOf (wordAt (s .args .query .now) (s .args .node) 0) ≡ rowStands
   is = s .pre .1
 
-  node : AtomWellFormed (s .args .arities .now) (s .args .words .now) (s .args .query .now) (s .args .known .now) (s .args .node)
+  node : AtomWellFormed (aritiesIn (s .args .known .now)) (s .args .words .now) (s .args .query .now) (s .args .known .now) (s .args .node)
   node = atom-well-formed _ _ _ _ _ (s .pre .0 .0) known is
 
   -- the tuples of relation r, and the row that is asked of it
   abbrev ts : ℕ → List (List ℕ)
-  ts r = tuples r (rowsFrom (s .args .arities .now) 0 (s .args .words .now))
+  ts r = tuples r (rowsFrom (aritiesIn (s .args .known .now)) 0 (s .args .words .now))
 
   abbrev row : ℕ → List ℕ
-  row r = values (s .args .env .now) (termsAt (s .args .query .now) (s .args .node) 2 (arityOf (s .args .arities .now) r))
+  row r = values (s .args .env .now) (termsAt (s .args .query .now) (s .args .node) 2 (arityOf (aritiesIn (s .args .known .now)) r))
 
   -- the node's relation
   abbrev named : ℕ
@@ -92,28 +93,38 @@ module _ (c : tie.After-rows-of) where
   all-rows : c .rows-of .result ≡ length (ts s of)
   all-rows = c .rows-of .ensures ∙ ap (λ (r : ℕ). countIn (s .args .known .now) r) (omega (arith, is-named)) ∙ node s .counted
 
-mul-arity : tie.Need-mul-arity
-mul-arity c = omega (arith, is-named c, node (s c) .eight)
+arity-in-requires : tie.Need-arity-in-requires
+arity-in-requires c κs = (s c .pre .0 .0 .size, omega (arith, is-named c, node (s c) .eight))
 
-element-copy-out-arity : tie.Need-element-copy-out-arity
-element-copy-out-arity c = omega (arith, is-named c, node (s c) .eight)
+-- the arity of the node's relation
+module _ (c : tie.After-arity-in) where
+  abbrev at-rows : tie.After-rows-of
+  at-rows = c .before
+
+  is-arity : c .arity-in .result ≡ arityOf (aritiesIn (s at-rows .args .known .now)) (of at-rows)
+  is-arity = c .arity-in .ensures ∙ ap (arityOf (aritiesIn (s at-rows .args .known .now))) (is-named at-rows)
 
 cast-arity : tie.Need-cast-arity
-cast-arity c = rw (is-named (c .before)) (omega (arith, node (s (c .before)) .narrow))
+cast-arity c = omega (arith, is-arity c, node (s (c .before)) .narrow)
 
 asked-row-requires : tie.Need-asked-row-requires
 asked-row-requires c κs =
     let a = node (s (c .before)) in
-    rw (is-named (c .before)) (record { known = known (s (c .before)); narrow = a .narrow; terms = a .terms; sixteen = s (c .before) .pre .0 .2 })
+    rw (is-arity c) (record { known = known (s (c .before)); narrow = a .narrow; terms = a .terms; sixteen = s (c .before) .pre .0 .2 })
 
 -- what the first `most` rows say of the row that the node's terms stand for; the budget covers them
 module _ (c : tie.After-asked-row) where
   abbrev at : tie.After-rows-of
   at = c .before .before
 
+  row-is : c .asked-row .result ≡ padded maxColumns (row (s at) (of at))
+  row-is =
+      c .asked-row .ensures ∙
+      ap (λ (k : ℕ). padded maxColumns (values (s at .args .env .now) (termsAt (s at .args .query .now) (s at .args .node) 2 k))) (is-arity (c .before))
+
   lent :
       (most : ℕ) → most ≤ length (ts (s at) (of at)) →
-      RowsLeft (s at .args .arities .now) (s at .args .words .now) (at .before .word .result) 0 most × (length (c .asked-row .result) ≡ maxColumns)
+      RowsLeft (aritiesIn (s at .args .known .now)) (s at .args .words .now) (at .before .word .result) 0 most × (length (s at .args .known .now) ≡ knownWords) × (length (c .asked-row .result) ≡ maxColumns)
   lent most few =
       let a = node (s at) in (
         record {
@@ -123,22 +134,23 @@ module _ (c : tie.After-asked-row) where
           well-formed = a .given .well-formed .words;
           some = subst (λ (r : ℕ). most ≤ length (ts (s at) r)) (sym (is-named at)) few;
         },
-        row-six _ _ _ _ _ (c .asked-row .ensures) (rw (is-named at) (a .narrow)),
+        s at .pre .0 .0 .size,
+        row-six _ _ _ _ _ row-is (a .narrow),
       )
 
   right : {r : Evaluated} →
       r ≡ within (s at .args .budget) (atomOf (ts (s at) (of at)) (row (s at) (of at))) →
-      Right (s at .args .arities .now) (s at .args .words .now) (s at .args .query .now) (s at .args .node) (s at .args .env .now) (s at .args .budget) r
+      Right (aritiesIn (s at .args .known .now)) (s at .args .words .now) (s at .args .query .now) (s at .args .node) (s at .args .env .now) (s at .args .budget) r
   right e = λ k h. e ∙ atom-right _ _ _ _ (known (s at)) (is (s at)) _ _ k h
 
   module _ (most : ℕ) (few : most ≤ length (ts (s at) (of at))) (covered : most + 1 ≤ s at .args .budget) (e : Examined)
       (answered : e ≡ examinedOf (take most (ts (s at) (at .before .word .result)))
-      (take (arityOf (s at .args .arities .now) (at .before .word .result)) (c .asked-row .result))) where
+      (take (arityOf (aritiesIn (s at .args .known .now)) (at .before .word .result)) (c .asked-row .result))) where
     told : e ≡ examinedOf (take most (ts (s at) (of at))) (row (s at) (of at))
     told =
         answered ∙
-        ap (examinedOf (take most (ts (s at) (at .before .word .result)))) (row-front _ _ _ _ _ (c .asked-row .ensures)) ∙
-        ap (λ (r : ℕ). examinedOf (take most (ts (s at) r)) (row (s at) r)) (is-named at)
+        ap (λ (r : ℕ). examinedOf (take most (ts (s at) r)) (take (arityOf (aritiesIn (s at .args .known .now)) r) (c .asked-row .result))) (is-named at) ∙
+        ap (examinedOf (take most (ts (s at) (of at)))) (row-front _ _ _ _ _ row-is)
 
     says : e .truth ≡ stands (take most (ts (s at) (of at))) (row (s at) (of at))
     says = ap (λ (e : Examined). e .truth) told
@@ -249,8 +261,7 @@ atom-spec =
     sub-covered
     word-requires
     rows-of-requires
-    mul-arity
-    element-copy-out-arity
+    arity-in-requires
     cast-arity
     asked-row-requires
     cast-stands

@@ -21,6 +21,7 @@ use Rattle.lookup.specs.declared.row.Match.the-variants.{Identical, Unif
 use Rattle.lookup.specs.declared.relation.Examined.{Examined}
 use Rattle.lookup.specs.Examined.{examinedOf}
 use Rattle.lookup.specs.Matching.{matchAfter}
+use Rattle.known.specs.Known.{aritiesIn}
 use Rattle.lookup.specs.Passing.{RowsLeft, limitOf, toldApart, passing}
 use Rattle.lookup.specs.Place.{cellsAt}
 use Rattle.lookup.specs.Probe.{Probes}
@@ -34,68 +35,76 @@ use Rattle.lookup.proofs.Passing.{passing-shorter, passed}
 use Rattle.lookup.proofs.relation.stands.Statement.{statement}
 use Rattle.lookup.proofs.relation.stands.Tie as tie
 
--- the answer with its meaning, from the equations of its two parts
+-- the answer with its meaning, from the equations of its two parts; the row is the part of a longer one that the arity says
 means :
-    (ts : List (List ℕ)) (row : List ℕ) {t : Truth} {n : ℕ} → t ≡ stands ts row → n ≡ examined ts row →
-    (_≡_ {A = Examined} (record { truth = t; rows = n }) (examinedOf ts row)) × (MeansStands ts row t × MeansExamined ts row n)
-means ts row p q = (rw (p, q) refl, (row-means ts row p, rw q (examined-means row ts)))
+    (ts : List (List ℕ)) (row : List ℕ) {k arity : ℕ} {t : Truth} {n : ℕ} → k ≡ arity → t ≡ stands ts (take k row) → n ≡ examined ts (take k row) →
+    (_≡_ {A = Examined} (record { truth = t; rows = n }) (examinedOf ts (take arity row)))
+    × (MeansStands ts (take arity row) t × MeansExamined ts (take arity row) n)
+means ts row {k} {arity} e p q =
+    let says = p ∙ ap (λ (k : ℕ). stands ts (take k row)) e in
+    let counts = q ∙ ap (λ (k : ℕ). examined ts (take k row)) e in
+    (rw (says, counts) refl, (row-means ts (take arity row) says, rw counts (examined-means (take arity row) ts)))
 
 -- none of any tuples
 none-left : (k : ℕ) → k ≡ 0 → (ts us : List (List ℕ)) → take k ts ≡ take k us
 none-left k e ts us = ap (λ (k : ℕ). take k ts) e ∙ sym (ap (λ (k : ℕ). take k us) e)
 
 abbrev Inv-loop : tie.InvT-loop
-Inv-loop words arities relation most row arity asked probe₀ possible₀ more₀ i₀ probe possible more i =
-    RowsLeft arities words relation i more
+Inv-loop words known relation most row arity asked probe₀ possible₀ more₀ i₀ probe possible more i =
+    RowsLeft (aritiesIn known) words relation i more
     × Probes possible asked probe
-    × (stands (take most (tuples relation (rowsFrom arities 0 words))) asked
-    ≡ truthFrom possible (take more (tuples relation (rowsFrom arities 0 (drop i words)))) asked)
+    × (stands (take most (tuples relation (rowsFrom (aritiesIn known) 0 words))) asked
+    ≡ truthFrom possible (take more (tuples relation (rowsFrom (aritiesIn known) 0 (drop i words)))) asked)
     × (more ≤ most)
-    × (examined (take most (tuples relation (rowsFrom arities 0 words))) asked + more
-    ≡ most + examined (take more (tuples relation (rowsFrom arities 0 (drop i words)))) asked)
+    × (examined (take most (tuples relation (rowsFrom (aritiesIn known) 0 words))) asked + more
+    ≡ most + examined (take more (tuples relation (rowsFrom (aritiesIn known) 0 (drop i words)))) asked)
 
 abbrev μ-loop : tie.MeasureT-loop
-μ-loop words arities relation most row arity asked probe₀ possible₀ more₀ i₀ probe possible more i = more
+μ-loop words known relation most row arity asked probe₀ possible₀ more₀ i₀ probe possible more i = more
 
-module _ (c : tie.Start Inv-loop μ-loop) where
+relation-low : (c : tie.Start Inv-loop μ-loop) → c .args .relation < maxRelations
+relation-low c = relation-few _ (aritiesIn (c .args .known .now)) (c .args .words .now) _ (c .pre .0 .given .well-formed) (c .pre .0 .known)
+
+arity-in-requires : tie.Need-arity-in-requires Inv-loop μ-loop
+arity-in-requires c κs = (c .before .pre .1, relation-low (c .before))
+
+-- the arity is known
+module _ (c : tie.After-arity-in Inv-loop μ-loop) where
+  abbrev called : tie.Start Inv-loop μ-loop
+  called = c .before .before
+
   -- the tuples to examine, and the row that is asked
   abbrev all : List (List ℕ)
-  all = take (c .args .most) (tuples (c .args .relation) (rowsFrom (c .args .arities .now) 0 (c .args .words .now)))
+  all = take (called .args .most) (tuples (called .args .relation) (rowsFrom (aritiesIn (called .args .known .now)) 0 (called .args .words .now)))
 
   abbrev arity : ℕ
-  arity = arityOf (c .args .arities .now) (c .args .relation)
+  arity = c .arity-in .result
+
+  is-arity : arity ≡ arityOf (aritiesIn (called .args .known .now)) (called .args .relation)
+  is-arity = c .arity-in .ensures
 
   abbrev asked : List ℕ
-  asked = take arity (c .args .row .now)
-
-  relation-low : c .args .relation < maxRelations
-  relation-low = relation-few _ (c .args .arities .now) (c .args .words .now) _ (c .pre .0 .given .well-formed) (c .pre .0 .known)
+  asked = take arity (called .args .row .now)
 
   columns : (1 ≤ arity) × (arity ≤ maxColumns)
-  columns = headed _ _ (c .pre .0 .given .well-formed .header) .columns _ (c .pre .0 .known)
+  columns = rw is-arity (headed _ _ (called .pre .0 .given .well-formed .header) .columns _ (called .pre .0 .known))
 
   size : length asked ≡ arity
-  size = length-take-le arity (c .args .row .now) (omega (arith, columns .1, c .pre .1))
-
-mul-arity : tie.Need-mul-arity Inv-loop μ-loop
-mul-arity c = omega (arith, relation-low (c .before))
-
-element-copy-out-arity : tie.Need-element-copy-out-arity Inv-loop μ-loop
-element-copy-out-arity c = relation-low (c .before)
+  size = length-take-le arity (called .args .row .now) (omega (arith, columns .1, called .pre .2))
 
 cast-arity : tie.Need-cast-arity Inv-loop μ-loop
-cast-arity c = omega (arith, columns (c .before .before) .1)
+cast-arity c = omega (arith, columns c .1)
 
 slice-aggregate-asked : tie.Need-slice-aggregate-asked Inv-loop μ-loop
-slice-aggregate-asked c = sym (size (c .before .before .before .before))
+slice-aggregate-asked c = sym (size (c .before .before))
 
 probe-at-requires : tie.Need-probe-at-requires Inv-loop μ-loop
-probe-at-requires c κs = let b = c .before .before .before .before in omega (arith, size b, columns b .0)
+probe-at-requires c κs = let b = c .before .before in omega (arith, size b, columns b .0)
 
 loop-holds : tie.Need-loop-holds Inv-loop μ-loop
 loop-holds c =
-    let b = c .before .before .before .before .before in (
-      b .pre .0,
+    let b = c .before .before .before in (
+      called b .pre .0,
       probe-stands _ _ _ (c .probe-at .ensures) (omega (arith, size b, columns b .0)),
       truth-starts _ _,
       omega arith,
@@ -103,7 +112,7 @@ loop-holds c =
     )
 
 mul-cell : tie.Need-mul-cell Inv-loop μ-loop
-mul-cell c = let b = c .before .before .before .before .before .before .before in omega (arith, c .before .loop .inv .1 .column, size b, columns b .1)
+mul-cell c = let b = c .before .before .before .before .before in omega (arith, c .before .loop .inv .1 .column, size b, columns b .1)
 
 shared-slice-read-cell : tie.Need-shared-slice-read-cell Inv-loop μ-loop
 shared-slice-read-cell c = c .before .before .loop .inv .1 .column
@@ -111,19 +120,22 @@ shared-slice-read-cell c = c .before .before .loop .inv .1 .column
 next-near-requires : tie.Need-next-near-requires Inv-loop μ-loop
 next-near-requires c κs =
     let l = c .before .before in
-    let b = l .before .before .before .before .before .before in
-    (l .loop .inv .0, omega (arith, l .loop .inv .1 .column, size b))
+    let b = l .before .before .before .before in
+    (l .loop .inv .0, called b .pre .1, omega (arith, l .loop .inv .1 .column, size b, is-arity b))
 
 -- the next row that is not passed over, if there is one
 module _ (c : tie.After-next-near Inv-loop μ-loop) where
   abbrev at : tie.At-loop Inv-loop μ-loop
   at = c .before .before .before
 
+  abbrev asks : tie.After-arity-in Inv-loop μ-loop
+  asks = at .before .before .before .before
+
   abbrev start : tie.Start Inv-loop μ-loop
-  start = at .before .before .before .before .before .before
+  start = called asks
 
   abbrev ars : List ℕ
-  ars = start .args .arities .now
+  ars = aritiesIn (start .args .known .now)
 
   abbrev ws : List ℕ
   ws = start .args .words .now
@@ -135,7 +147,7 @@ module _ (c : tie.After-next-near Inv-loop μ-loop) where
   most = start .args .most
 
   abbrev cells : List ℕ
-  cells = asked start
+  cells = asked asks
 
   abbrev column : ℕ
   column = at .loop .probe .column
@@ -153,10 +165,10 @@ module _ (c : tie.After-next-near Inv-loop μ-loop) where
   more = c .next-near .result .more
 
   abbrev answer : Truth
-  answer = stands (all start) cells
+  answer = stands (all asks) cells
 
   abbrev charge : ℕ
-  charge = examined (all start) cells
+  charge = examined (all asks) cells
 
   -- the rows left before the search and after it
   abbrev coming : List (List ℕ)
@@ -193,10 +205,10 @@ module _ (c : tie.After-next-near Inv-loop μ-loop) where
   -- the row at that place
   module _ (some : 0 < more) where
     abbrev next : ℕ
-    next = place + 1 + arity start
+    next = place + 1 + arity asks
 
-    sum : place + (1 + arity start) ≡ next
-    sum = omega arith
+    sum : place + (1 + arityOf ars relation) ≡ next
+    sum = omega (arith, is-arity asks)
 
     abbrev this : List ℕ
     this = cellsAt ws place (length cells)
@@ -208,7 +220,7 @@ module _ (c : tie.After-next-near Inv-loop μ-loop) where
     is = c .next-near .ensures .1 .1 .0 some
 
     within : next ≤ length ws
-    within = omega (arith, same-within _ _ _ _ left some is)
+    within = omega (arith, same-within _ _ _ _ left some is, is-arity asks)
 
     after : RowsLeft ars ws relation next (more - 1)
     after = subst (λ (k : ℕ). RowsLeft ars ws relation k (more - 1)) sum (same-left _ _ _ _ left some is (more - 1) (omega (arith, some)))
@@ -217,10 +229,10 @@ module _ (c : tie.After-next-near Inv-loop μ-loop) where
     here =
         let one : more ≡ suc (more - 1) = omega (arith, some) in
         let step =
-        same-step _ _ _ _ left some is ∙ ap (λ (k : ℕ). cellsAt ws place (arity start) ∷ tuples relation (rowsFrom ars 0 (drop k ws))) sum
+        same-step _ _ _ _ left some is ∙ ap (λ (k : ℕ). cellsAt ws place (arityOf ars relation) ∷ tuples relation (rowsFrom ars 0 (drop k ws))) sum
         in
-        ap (take more) step ∙ ap (λ (k : ℕ). take k (cellsAt ws place (arity start) ∷ tuples relation (rowsFrom ars 0 (drop next ws)))) one ∙
-        ap (λ (k : ℕ). cellsAt ws place k ∷ behind) (sym (size start))
+        ap (take more) step ∙ ap (λ (k : ℕ). take k (cellsAt ws place (arityOf ars relation) ∷ tuples relation (rowsFrom ars 0 (drop next ws)))) one ∙
+        ap (λ (k : ℕ). cellsAt ws place k ∷ behind) (sym (size asks ∙ is-arity asks))
 
     module _ (m : Match) (told : matchAfter possible cells this ≡ m) where
       same : answer ≡ truthAfter m possible behind cells
@@ -236,7 +248,7 @@ module _ (c : tie.After-next-near Inv-loop μ-loop) where
 
 compare-after-requires : tie.Need-compare-after-requires Inv-loop μ-loop
 compare-after-requires c κs =
-    let b = c .before in (omega (arith, within b (c .if1 .taken), size (start b)), omega (arith, size (start b), columns (start b) .1))
+    let b = c .before in (omega (arith, within b (c .if1 .taken), size (asks b)), omega (arith, size (asks b), columns (asks b) .1))
 
 enum-told : tie.Need-enum-told Inv-loop μ-loop
 enum-told c = search needs
@@ -253,7 +265,7 @@ returns c =
     let b = c .before .before .before .before in
     let some = c .before .before .before .if1 .taken in
     let told = sym (c .before .before .compare-after .ensures) ∙ c .enum-told .given .1 in
-    means _ _ (sym (same b some Identical told)) (omega (arith, counted-same b some Identical told, fewer b, at b .loop .inv .3))
+    means _ _ (is-arity (asks b)) (sym (same b some Identical told)) (omega (arith, counted-same b some Identical told, fewer b, at b .loop .inv .3))
 
 enum-told-2 : tie.Need-enum-told-2 Inv-loop μ-loop
 enum-told-2 c = search needs
@@ -263,7 +275,7 @@ enum-told-3 c = search needs
 
 next-probe-requires : tie.Need-next-probe-requires Inv-loop μ-loop
 next-probe-requires c κs =
-    let b = c .before .before .before in (omega (arith, within b (c .before .before .if1 .taken), size (start b)), at b .loop .inv .1)
+    let b = c .before .before .before in (omega (arith, within b (c .before .before .if1 .taken), size (asks b)), at b .loop .inv .1)
 
 sub-more : tie.Need-sub-more Inv-loop μ-loop
 sub-more c = omega (arith, c .before .before .before .if1 .taken)
@@ -321,11 +333,13 @@ loop-again-2 c =
 
 -- after the last row to examine
 module _ (c : tie.After-loop Inv-loop μ-loop) where
-  abbrev given : tie.Start Inv-loop μ-loop
-  given = c .before .before .before .before .before .before .before
+  abbrev given : tie.After-arity-in Inv-loop μ-loop
+  given = c .before .before .before .before .before
 
   abbrev beyond : List (List ℕ)
-  beyond = tuples (given .args .relation) (rowsFrom (given .args .arities .now) 0 (drop (c .before .loop .i) (given .args .words .now)))
+  beyond =
+      tuples (called given .args .relation)
+      (rowsFrom (aritiesIn (called given .args .known .now)) 0 (drop (c .before .loop .i) (called given .args .words .now)))
 
   none : take (c .before .loop .more) beyond ≡ []
   none = let zero : c .before .loop .more ≡ 0 = omega (arith, c .loop-test .left) in ap (λ (k : ℕ). take k beyond) zero
@@ -333,16 +347,16 @@ module _ (c : tie.After-loop Inv-loop μ-loop) where
   at-end : (possible : Bool) → c .before .loop .possible ≡ possible → stands (all given) (asked given) ≡ cond possible Unknown False
   at-end possible e = c .before .loop .inv .2 ∙ rw (e, none) (truth-ends possible _)
 
-  all-examined : given .args .most ≡ examined (all given) (asked given)
+  all-examined : called given .args .most ≡ examined (all given) (asked given)
   all-examined =
       let is-zero = ap (λ (ts : List (List ℕ)). examined ts (asked given)) none ∙ examined-ends (asked given) in
       omega (arith, c .loop-test .left, c .before .loop .inv .4, is-zero)
 
 returns-2 : tie.Need-returns-2 Inv-loop μ-loop
-returns-2 c = means _ _ (sym (at-end (c .before) true (c .if2 .taken))) (all-examined (c .before))
+returns-2 c = let b = c .before in means _ _ (is-arity (given b)) (sym (at-end b true (c .if2 .taken))) (all-examined b)
 
 returns-3 : tie.Need-returns-3 Inv-loop μ-loop
-returns-3 c = means _ _ (sym (at-end (c .before) false (c .if2 .left))) (all-examined (c .before))
+returns-3 c = let b = c .before in means _ _ (is-arity (given b)) (sym (at-end b false (c .if2 .left))) (all-examined b)
 
 pub stands-spec : {M : Type 1} → statement M
 stands-spec =
@@ -350,8 +364,7 @@ stands-spec =
     (tie.spec
     Inv-loop
     μ-loop
-    mul-arity
-    element-copy-out-arity
+    arity-in-requires
     cast-arity
     slice-aggregate-asked
     probe-at-requires

@@ -9,6 +9,7 @@ use Rattle.calculus.specs.Closed.{tuples}
 use Rattle.instance.specs.Header.{arityOf, maxRelations, maxColumns}
 use Rattle.instance.specs.Rows.{rowsFrom}
 use Rattle.instance.proofs.Walk.{relation-few, arity-few}
+use Rattle.known.specs.Known.{aritiesIn}
 use Rattle.lookup.specs.Passing.{RowsLeft, toldApart, passing, wordsPassed}
 use Rattle.lookup.specs.Place.{cellsAt}
 use Rattle.lookup.proofs.Columns.{cells-at}
@@ -18,44 +19,41 @@ use Rattle.lookup.proofs.rows.next_near.Statement.{statement}
 use Rattle.lookup.proofs.rows.next_near.Tie as tie
 
 abbrev Inv-loop : tie.InvT-loop
-Inv-loop words arities relation column asked limit place most step more₀ i₀ more i =
-    RowsLeft arities words relation i more
-    × (passing (toldApart column asked limit) (take more (tuples relation (rowsFrom arities 0 (drop i words))))
-    ≡ passing (toldApart column asked limit) (take most (tuples relation (rowsFrom arities 0 (drop place words)))))
-    × (i + wordsPassed (toldApart column asked limit) relation more (rowsFrom arities 0 (drop i words))
-    ≡ place + wordsPassed (toldApart column asked limit) relation most (rowsFrom arities 0 (drop place words)))
+Inv-loop words known relation column asked limit place most step more₀ i₀ more i =
+    RowsLeft (aritiesIn known) words relation i more
+    × (passing (toldApart column asked limit) (take more (tuples relation (rowsFrom (aritiesIn known) 0 (drop i words))))
+    ≡ passing (toldApart column asked limit) (take most (tuples relation (rowsFrom (aritiesIn known) 0 (drop place words)))))
+    × (i + wordsPassed (toldApart column asked limit) relation more (rowsFrom (aritiesIn known) 0 (drop i words))
+    ≡ place + wordsPassed (toldApart column asked limit) relation most (rowsFrom (aritiesIn known) 0 (drop place words)))
 
 abbrev μ-loop : tie.MeasureT-loop
-μ-loop words arities relation column asked limit place most step more₀ i₀ more i = more
+μ-loop words known relation column asked limit place most step more₀ i₀ more i = more
 
 module _ (c : tie.Start Inv-loop μ-loop) where
   relation-low : c .args .relation < maxRelations
-  relation-low = relation-few _ (c .args .arities .now) (c .args .words .now) _ (c .pre .0 .given .well-formed) (c .pre .0 .known)
+  relation-low = relation-few _ (aritiesIn (c .args .known .now)) (c .args .words .now) _ (c .pre .0 .given .well-formed) (c .pre .0 .known)
 
-  narrow : arityOf (c .args .arities .now) (c .args .relation) ≤ maxColumns
-  narrow = arity-few _ (c .args .arities .now) (c .args .words .now) _ (c .pre .0 .given .well-formed) (c .pre .0 .known)
+  narrow : arityOf (aritiesIn (c .args .known .now)) (c .args .relation) ≤ maxColumns
+  narrow = arity-few _ (aritiesIn (c .args .known .now)) (c .args .words .now) _ (c .pre .0 .given .well-formed) (c .pre .0 .known)
 
-  column-low : c .args .column < arityOf (c .args .arities .now) (c .args .relation)
-  column-low = c .pre .1
+  column-low : c .args .column < arityOf (aritiesIn (c .args .known .now)) (c .args .relation)
+  column-low = c .pre .2
 
-mul-step : tie.Need-mul-step Inv-loop μ-loop
-mul-step c = omega (arith, relation-low (c .before))
-
-element-copy-out-step : tie.Need-element-copy-out-step Inv-loop μ-loop
-element-copy-out-step c = relation-low (c .before)
+arity-in-requires : tie.Need-arity-in-requires Inv-loop μ-loop
+arity-in-requires c κs = (c .before .pre .1, relation-low (c .before))
 
 cast-step : tie.Need-cast-step Inv-loop μ-loop
-cast-step c = omega (arith, narrow (c .before .before))
+cast-step c = omega (arith, c .arity-in .ensures, narrow (c .before .before))
 
 add-step : tie.Need-add-step Inv-loop μ-loop
-add-step c = omega (arith, narrow (c .before .before))
+add-step c = omega (arith, c .arity-in .ensures, narrow (c .before .before))
 
 loop-holds : tie.Need-loop-holds Inv-loop μ-loop
 loop-holds c = (c .before .before .pre .0, refl, refl)
 
 next-row-requires : tie.Need-next-row-requires Inv-loop μ-loop
 next-row-requires c κs =
-    fewer-left _ _ _ _ (c .before .loop .inv .0) 1 (omega (arith, c .loop-test .taken))
+    (fewer-left _ _ _ _ (c .before .loop .inv .0) 1 (omega (arith, c .loop-test .taken)), c .before .before .before .before .pre .1)
 
 -- the relation's next row
 module _ (c : tie.After-next-row Inv-loop μ-loop) where
@@ -63,7 +61,7 @@ module _ (c : tie.After-next-row Inv-loop μ-loop) where
   start = c .before .before .before .before .before
 
   abbrev ars : List ℕ
-  ars = start .args .arities .now
+  ars = aritiesIn (start .args .known .now)
 
   abbrev ws : List ℕ
   ws = start .args .words .now
@@ -91,6 +89,10 @@ module _ (c : tie.After-next-row Inv-loop μ-loop) where
 
   abbrev behind : List (List ℕ)
   behind = tuples relation (rowsFrom ars 0 (drop (place + (1 + arity)) ws))
+
+  -- the length of a row
+  stepped : 1 + c .before .before .before .arity-in .result ≡ 1 + arity
+  stepped = ap (λ (k : ℕ). 1 + k) (c .before .before .before .arity-in .ensures)
 
   some : 0 < more
   some = c .before .loop-test .taken
@@ -160,7 +162,7 @@ sub-more : tie.Need-sub-more Inv-loop μ-loop
 sub-more c = omega (arith, some (c .before .before .before))
 
 add-i : tie.Need-add-i Inv-loop μ-loop
-add-i c = omega (arith, within (c .before .before .before))
+add-i c = let b = c .before .before .before in omega (arith, stepped b, within b)
 
 loop-less : tie.Need-loop-less Inv-loop μ-loop
 loop-less c = omega (arith, some (c .before .before .before))
@@ -168,7 +170,8 @@ loop-less c = omega (arith, some (c .before .before .before))
 loop-again : tie.Need-loop-again Inv-loop μ-loop
 loop-again c =
     let b = c .before .before .before in
-    let low = told-low (start b .args .column) (start b .args .asked) (start b .args .limit) (this b) (λ e. c .before .if1 .left (sym (cell b) ∙ e)) (omega (arith, cell b, c .if2 .left)) in (
+    let low = told-low (start b .args .column) (start b .args .asked) (start b .args .limit) (this b) (λ e. c .before .if1 .left (sym (cell b) ∙ e)) (omega (arith, cell b, c .if2 .left)) in
+    rw (stepped b) (
       same-left _ _ _ _ (left b) (some b) (is b) (more b - 1) (omega (arith, some b)),
       sym (passing-goes-on (apart b) (this b) _ low) ∙ kept b,
       sym (same-goes-on _ _ _ _ (left b) (some b) (is b) (apart b) (more b - 1) low) ∙ leads b,
@@ -180,7 +183,7 @@ returns-3 c =
     let a = c .before .before .before .before .args in
     let none : c .before .loop .more ≡ 0 = omega (arith, c .loop-test .left) in
     let apart = toldApart (a .column) (a .asked) (a .limit) in
-    let rows = rowsFrom (a .arities .now) 0 (drop (c .before .loop .i) (a .words .now)) in
+    let rows = rowsFrom (aritiesIn (a .known .now)) 0 (drop (c .before .loop .i) (a .words .now)) in
     let zero : wordsPassed apart (a .relation) (c .before .loop .more) rows ≡ 0 = ap (λ (k : ℕ). wordsPassed apart (a .relation) k rows) none in (
       sym (ap (λ (k : ℕ). passing apart (take k (tuples (a .relation) rows))) none) ∙ c .before .loop .inv .1,
       (
@@ -195,8 +198,7 @@ next-near-spec =
     (tie.spec
     Inv-loop
     μ-loop
-    mul-step
-    element-copy-out-step
+    arity-in-requires
     cast-step
     add-step
     loop-holds

@@ -1,5 +1,5 @@
 -- `lookup::rows::next_row` meets its contract: the rows left at index i are those left at the start. Assumes nothing.
-use Prim.Native.Nat.{ℕ, suc, _<_, _-_, _+_}
+use Prim.Native.Nat.{ℕ, suc, _≤_, _<_, _-_, _+_}
 use mathlib.Core.Path.{_≡_, refl, sym, ap, _∙_}
 use mathlib.Core.Logic.{⊎-elim}
 use mathlib.Core.Bool.{Bool}
@@ -10,6 +10,7 @@ use Rattle.calculus.specs.Closed.{tuples}
 use Rattle.instance.specs.Header.{arityOf, maxRelations}
 use Rattle.instance.specs.Rows.{rowsFrom}
 use Rattle.instance.proofs.Walk.{AtRow, relation-few}
+use Rattle.known.specs.Known.{aritiesIn}
 use Rattle.lookup.specs.Passing.{RowsLeft, wordsPassed}
 use Rattle.lookup.proofs.Left.{words-left, row-left, other-same, other-left, other-words}
 use Rattle.lookup.proofs.rows.next_row.Statement.{statement}
@@ -24,16 +25,16 @@ Onward ars ws relation k j =
     ≡ k + wordsPassed test relation (suc m) (rowsFrom ars 0 (drop k ws)))
 
 abbrev Inv-loop : tie.InvT-loop
-Inv-loop words arities relation place other₀ step₀ i₀ w₀ other step i w =
-    RowsLeft arities words relation i 1
-    × (tuples relation (rowsFrom arities 0 (drop i words)) ≡ tuples relation (rowsFrom arities 0 (drop place words)))
+Inv-loop words known relation place other₀ step₀ i₀ w₀ other step i w =
+    RowsLeft (aritiesIn known) words relation i 1
+    × (tuples relation (rowsFrom (aritiesIn known) 0 (drop i words)) ≡ tuples relation (rowsFrom (aritiesIn known) 0 (drop place words)))
     × (w ≡ getD words i 0)
-    × ((other ≡ relation → ⊥) → step ≡ 1 + arityOf arities other)
-    × ((test : List ℕ → Bool) (n : ℕ) → i + wordsPassed test relation (suc n) (rowsFrom arities 0 (drop i words))
-    ≡ place + wordsPassed test relation (suc n) (rowsFrom arities 0 (drop place words)))
+    × ((other ≡ relation → ⊥) → step ≡ 1 + arityOf (aritiesIn known) other)
+    × ((test : List ℕ → Bool) (n : ℕ) → i + wordsPassed test relation (suc n) (rowsFrom (aritiesIn known) 0 (drop i words))
+    ≡ place + wordsPassed test relation (suc n) (rowsFrom (aritiesIn known) 0 (drop place words)))
 
 abbrev μ-loop : tie.MeasureT-loop
-μ-loop words arities relation place other₀ step₀ i₀ w₀ other step i w = length words - i
+μ-loop words known relation place other₀ step₀ i₀ w₀ other step i w = length words - i
 
 -- past a row of another relation
 passed-over :
@@ -43,21 +44,21 @@ passed-over ars ws relation k step left ne e =
     rw e (other-left _ _ _ _ left (omega arith) ne, other-same _ _ _ _ left (omega arith) ne, other-words _ _ _ _ left (omega arith) ne)
 
 mul-w : tie.Need-mul-w Inv-loop μ-loop
-mul-w c = omega (arith, words-left _ _ _ _ (c .pre) (omega arith))
+mul-w c = omega (arith, words-left _ _ _ _ (c .before .pre .0) (omega arith))
 
 shared-slice-read-w : tie.Need-shared-slice-read-w Inv-loop μ-loop
-shared-slice-read-w c = words-left _ _ _ _ (c .before .pre) (omega arith)
+shared-slice-read-w c = words-left _ _ _ _ (c .before .before .pre .0) (omega arith)
 
 loop-holds : tie.Need-loop-holds Inv-loop μ-loop
-loop-holds c = (c .before .pre, refl, refl, λ ne. absurd (ne refl), λ test n. refl)
+loop-holds c = (c .before .before .pre .0, refl, refl, λ ne. absurd (ne refl), λ test n. refl)
 
 -- the row at index i, which is of another relation
 module _ (c : tie.In-loop Inv-loop μ-loop) where
   abbrev start : tie.Start Inv-loop μ-loop
-  start = c .before .before .before
+  start = c .before .before .before .before
 
   abbrev ars : List ℕ
-  ars = start .args .arities .now
+  ars = aritiesIn (start .args .known .now)
 
   abbrev ws : List ℕ
   ws = start .args .words .now
@@ -93,20 +94,25 @@ module _ (c : tie.In-loop Inv-loop μ-loop) where
   kept : (step : ℕ) → step ≡ size → Onward ars ws relation i (i + step)
   kept step e = passed-over ars ws relation i step left differs e
 
+cast-arity-in : tie.Need-cast-arity-in Inv-loop μ-loop
+cast-arity-in c = omega (arith, few (c .before))
+
+arity-in-requires : tie.Need-arity-in-requires Inv-loop μ-loop
+arity-in-requires c κs = (start (c .before) .pre .1, few (c .before))
+
+-- the row's length was looked up
+module _ (c : tie.After-arity-in Inv-loop μ-loop) where
+  abbrev at-row : tie.In-loop Inv-loop μ-loop
+  at-row = c .before .before
+
+  row-ends : i at-row + (1 + c .arity-in .result) ≤ length (ws at-row)
+  row-ends = omega (arith, here at-row .next .within, c .arity-in .ensures, ap (arityOf (ars at-row)) (is at-row))
+
 cast-step : tie.Need-cast-step Inv-loop μ-loop
-cast-step c = omega (arith, few (c .before))
-
-mul-step : tie.Need-mul-step Inv-loop μ-loop
-mul-step c = omega (arith, few (c .before))
-
-element-copy-out-step : tie.Need-element-copy-out-step Inv-loop μ-loop
-element-copy-out-step c = few (c .before)
-
-cast-step-2 : tie.Need-cast-step-2 Inv-loop μ-loop
-cast-step-2 c = let b = c .before .before in omega (arith, here b .next .within, ap (arityOf (ars b)) (is b))
+cast-step c = omega (arith, row-ends c)
 
 add-step : tie.Need-add-step Inv-loop μ-loop
-add-step c = let b = c .before .before in omega (arith, here b .next .within, ap (arityOf (ars b)) (is b))
+add-step c = omega (arith, row-ends c)
 
 -- the step that is taken is the length of this row, whether it was looked up here or before
 module _ (c : tie.Joined1 Inv-loop μ-loop) where
@@ -122,7 +128,7 @@ module _ (c : tie.Joined1 Inv-loop μ-loop) where
   known : (other ≡ w at) × (step ≡ 1 + arityOf (ars at) (w at))
   known =
       ⊎-elim
-      (λ a. (a .2, a .3))
+      (λ a. (a .2, a .3 ∙ ap (λ (k : ℕ). 1 + k) (a .1 .ensures)))
       (λ a.
       let same : w at ≡ at .before .loop .other = a .0 .left in
       (a .1 ∙ sym same, a .2 ∙ at .before .loop .inv .3 (λ f. at .loop-test .taken (same ∙ f)) ∙ ap (λ (r : ℕ). 1 + arityOf (ars at) r) (sym same)))
@@ -198,10 +204,9 @@ next-row-spec =
     mul-w
     shared-slice-read-w
     loop-holds
+    cast-arity-in
+    arity-in-requires
     cast-step
-    mul-step
-    element-copy-out-step
-    cast-step-2
     add-step
     add-i
     mul-w-2
