@@ -1,20 +1,24 @@
 -- The answer to a question for each of its refusals, and if there is none. Assumes nothing.
 use Prim.Native.Nat.{ℕ, _+_, _≤_, _<_}
 use mathlib.Core.Path.{_≡_, refl, sym, ap, subst, _∙_}
-use mathlib.Core.Bool.{true, false}
+use mathlib.Core.Bool.{Bool, true, false, cond}
 use mathlib.Core.List.{List, [], _∷_, _++_}
 use native.Mathlib.Omega.{arith}
 use lib.ListN.{length, getD, drop, take, replicate, length-append}
 use lib.Seq.{take-at, getD-take}
-use borrow.Author.Tests.{lt-leb}
+use borrow.Author.Tests.{le-leb, lt-leb}
 use Rattle.calculus.specs.declared.answer.Answer.{Answer}
 use Rattle.calculus.specs.declared.answer.Answer.the-variants as answer
 use Rattle.calculus.specs.Answer.{after}
 use Rattle.calculus.specs.Refusal.{unsound, buffer-too-short, bad-query-length}
 use Rattle.calculus.specs.Row.{Row, cellsOf}
 use Rattle.calculus.specs.Domain.{domain}
+use Rattle.calculus.specs.Demand.{demand}
 use Rattle.calculus.specs.Model.{outcomeOf}
+use Rattle.calculus.proofs.Answers.{demand-done}
+use Rattle.calculus.proofs.Bools.{zero-not-one}
 use Rattle.calculus.specs.Eval.{eval}
+use Rattle.calculus.specs.Kleene.{Junction}
 use Rattle.calculus.specs.Formula.{assignment, variables}
 use Rattle.instance.specs.declared.header.Header.{Header}
 use Rattle.instance.specs.Header.{maxRelations}
@@ -22,7 +26,7 @@ use Rattle.instance.specs.Rows.{wordsOf, rowsFrom}
 use Rattle.instance.specs.Sound.{sound, rows}
 use Rattle.instance.specs.Run.{modelOf}
 use Rattle.instance.proofs.Rows.{headed}
-use Rattle.query.specs.Words.{nodeCount, rightLength}
+use Rattle.query.specs.Words.{nodeCount, rightLength, wordAt, kindOf, ranges}
 use Rattle.query.specs.Tree.{formulaOf}
 use Rattle.query.specs.Scope.{Scopes}
 use Rattle.query.specs.Check.{Checked, passed, checkQuery, checkNumber}
@@ -30,15 +34,19 @@ use Rattle.calculus.specs.Reading.{refused, read}
 use Rattle.query.proofs.Passed.{few-cells, count-within, node-well-formed}
 use Rattle.instance.specs.RowCounts.{rowCounts}
 use Rattle.instance.proofs.RowCounts.{row-count-at, row-counts-size}
-use Rattle.known.specs.Known.{knownWords, flagWords, aritiesIn, flagAt}
+use Rattle.known.specs.Known.{knownWords, flagWords, flagsFrom, aritiesIn, flagAt, unpassed}
 use Rattle.known.proofs.Walking.{no-flags, unpassed-all}
-use Rattle.known.proofs.Parts.{counts-front, arities-middle, front-size, layout-size}
+use Rattle.known.proofs.Parts.{counts-front, arities-middle, front-size, layout-size, arities-kept, counts-kept}
+use Rattle.range.specs.Walked.{passes}
+use Rattle.range.proofs.Walked.{walked-values, unpassed-walked}
 use Rattle.calculus.proofs.Distinct.{distinct-le}
+use Rattle.answer.specs.declared.asked.Asked.{Asked}
 use Rattle.answer.specs.declared.asked.Asked.the-variants.{Refused}
-use Rattle.evaluate.specs.declared.evaluated.Evaluated.{Evaluated}
 use Rattle.evaluate.specs.Within.{within}
 use Rattle.evaluate.specs.Ready.{Ready, Ranged, world}
-use Rattle.answer.specs.Ask.{ifPassed, evaluatedAs, answeredBy, askable, ask, askedBuffer}
+use Rattle.answer.specs.Ask.{ifPassed, evaluatedAs, answeredBy, admitted, Lent, list, none, hasPlace, askable, ask, askedBuffer}
+use Rattle.answer.specs.Ranging.{rangesAmong}
+use Rattle.answer.proofs.Ranging.{none-ranges}
 use Rattle.answer.proofs.RerunLaws.{Asks, askable-done}
 use Rattle.calculus.specs.Overwrite.{overwrite}
 use Rattle.instance.proofs.Sound.{sound-gives}
@@ -58,62 +66,99 @@ module _ (h : Header) (ws : List ℕ) (e : sound h ws ≡ true) where
   cells-count =
       let g = sound-gives h ws e in sym (g .in-use) ∙ ap length (sym (g .words)) ∙ words-cells (rows h ws)
 
--- the refusals before the evaluation, in their order
-module _ (h : Header) (ws qs cs buffer : List ℕ) where
-  unsound-first : sound h ws ≡ false → askable h ws qs cs buffer ≡ answer.Refused unsound
-  unfolding askable
-  unsound-first e = rw e
+-- the refusals that do not turn on what is lent
+module _ (h : Header) (ws qs cs : List ℕ) where
+  pub unsound-first : sound h ws ≡ false → answer.Refused unsound ≡ admitted h ws qs cs
+  unfolding admitted
+  unsound-first e = rw e refl
 
-  length-second : sound h ws ≡ true → rightLength qs ≡ false → askable h ws qs cs buffer ≡ answer.Refused bad-query-length
-  unfolding askable
-  length-second e l = rw (e, l)
+  module _ (e : sound h ws ≡ true) where
+    pub length-second : rightLength qs ≡ false → answer.Refused bad-query-length ≡ admitted h ws qs cs
+    unfolding admitted
+    length-second l = rw (e, l) refl
 
-  check-third : sound h ws ≡ true → rightLength qs ≡ true → (r : ℕ) → r ≡ checkNumber (checkQuery (h .relations) (h .arities) qs cs) → (r ≡ 0 → ⊥) → askable h ws qs cs buffer ≡ answer.Refused r
-  unfolding askable
-  check-third e l r is some = rw (e, l) (go (checkQuery (h .relations) (h .arities) qs cs) _ is)
+    module _ (l : rightLength qs ≡ true) where
+      pub check-third : (r : ℕ) → r ≡ checkNumber (checkQuery (h .relations) (h .arities) qs cs) → (r ≡ 0 → ⊥) → answer.Refused r ≡ admitted h ws qs cs
+      unfolding admitted
+      check-third r is some = rw (e, l) (go (checkQuery (h .relations) (h .arities) qs cs) _ is)
+        where
+          go : (c : Checked) (a : Answer) → r ≡ checkNumber c → answer.Refused r ≡ ifPassed c a
+          go (read done s) a p = absurd (some p)
+          go (refused q) a p = ap answer.Refused p
+
+      pub none-refused : (s : Scopes) → checkQuery (h .relations) (h .arities) qs cs ≡ passed s → answer.Done (length (rows h ws)) ≡ admitted h ws qs cs
+      unfolding admitted
+      none-refused s p = rw (e, l, p) refl
+
+  -- what follows if none of them is met
+  pub record Admitted (count : ℕ) : Type 0 where
+    pub is-sound : sound h ws ≡ true
+    pub right : rightLength qs ≡ true
+    pub scopes : Scopes
+    pub passes : checkQuery (h .relations) (h .arities) qs cs ≡ passed scopes
+    pub counted : length (rows h ws) ≡ count
+
+  pub admitted-done : (k : ℕ) → admitted h ws qs cs ≡ answer.Done k → Admitted k
+  unfolding admitted
+  admitted-done k d =
+      let a = demand-done (sound h ws) unsound _ k d in
+      let q = demand-done (rightLength qs) bad-query-length _ k (a .1) in
+      go (checkQuery (h .relations) (h .arities) qs cs) refl (a .0) (q .0) (q .1)
     where
-      go : (c : Checked) (a : Answer) → r ≡ checkNumber c → ifPassed c a ≡ answer.Refused r
-      go (read done s) a p = absurd (some p)
-      go (refused q) a p = ap answer.Refused (sym p)
+      go :
+          (c : Checked) → checkQuery (h .relations) (h .arities) qs cs ≡ c → sound h ws ≡ true → rightLength qs ≡ true →
+          ifPassed c (answer.Done (length (rows h ws))) ≡ answer.Done k → Admitted k
+      go (read done s) p is-sound right d = record { is-sound = is-sound; right = right; scopes = s; passes = p; counted = cc }
+      go (refused r) p is-sound right d = let z : _≡_ {A = ℕ} 0 1 = cc in absurd (zero-not-one z)
 
-  buffer-fourth : sound h ws ≡ true → rightLength qs ≡ true → (s : Scopes) → checkQuery (h .relations) (h .arities) qs cs ≡ passed s → length buffer < length (cellsOf (rows h ws)) → askable h ws qs cs buffer ≡ answer.Refused buffer-too-short
-  unfolding askable
-  buffer-fourth e l s p short = rw (e, l, p, lt-leb (length (cellsOf (rows h ws))) (length buffer) short) refl
+  -- a question that is not admitted is refused by every way of asking
+  pub admitted-refused : (lent : Lent) (r : ℕ) → admitted h ws qs cs ≡ answer.Refused r → askable h ws qs cs lent ≡ answer.Refused r
+  unfolding admitted askable
+  admitted-refused lent r d = go (sound h ws) (rightLength qs) (checkQuery (h .relations) (h .arities) qs cs) d
+    where
+      go :
+          (a b : Bool) (c : Checked) →
+          demand a (answer.Refused unsound) (demand b (answer.Refused bad-query-length) (ifPassed c (answer.Done (length (rows h ws))))) ≡ answer.Refused r →
+          demand a (answer.Refused unsound) (demand b (answer.Refused bad-query-length)
+          (ifPassed c (demand (hasPlace lent (length (cellsOf (rows h ws)))) (answer.Refused buffer-too-short) (answer.Done 0)))) ≡ answer.Refused r
+      go false b c d = d
+      go true false c d = d
+      go true true (read done s) d = let z : _≡_ {A = ℕ} 0 1 = cc in absurd (zero-not-one z)
+      go true true (refused q) d = d
 
-module _ (h : Header) (ws qs cs buffer : List ℕ) (budget : ℕ) where
-  refused-by : (r : ℕ) → askable h ws qs cs buffer ≡ answer.Refused r → (Refused r ≡ ask h ws qs cs buffer budget) × (buffer ≡ askedBuffer h ws qs cs buffer)
-  unfolding ask askedBuffer
-  refused-by r e = (
-    sym (ap (λ (x : Answer). answeredBy x (within budget (outcomeOf (modelOf h ws cs) (formulaOf (h .arities) qs)))) e),
-    sym (ap (λ (x : Answer). after x (overwrite (domain (rows h ws)) buffer) buffer) e),
-  )
-
-  pub unsound-asked : sound h ws ≡ false → (Refused unsound ≡ ask h ws qs cs buffer budget) × (buffer ≡ askedBuffer h ws qs cs buffer)
-  unsound-asked e = refused-by unsound (unsound-first h ws qs cs buffer e)
-
-  pub length-asked : sound h ws ≡ true → rightLength qs ≡ false → (Refused bad-query-length ≡ ask h ws qs cs buffer budget) × (buffer ≡ askedBuffer h ws qs cs buffer)
-  length-asked e l = refused-by bad-query-length (length-second h ws qs cs buffer e l)
-
-  pub check-asked :
-      sound h ws ≡ true → rightLength qs ≡ true → (r : ℕ) → r ≡ checkNumber (checkQuery (h .relations) (h .arities) qs cs) → (r ≡ 0 → ⊥) →
-      (Refused r ≡ ask h ws qs cs buffer budget) × (buffer ≡ askedBuffer h ws qs cs buffer)
-  check-asked e l r is some = refused-by r (check-third h ws qs cs buffer e l r is some)
-
-  pub buffer-asked :
-      sound h ws ≡ true → rightLength qs ≡ true → (s : Scopes) → checkQuery (h .relations) (h .arities) qs cs ≡ passed s → length buffer < length (cellsOf (rows h ws)) →
-      (Refused buffer-too-short ≡ ask h ws qs cs buffer budget) × (buffer ≡ askedBuffer h ws qs cs buffer)
-  buffer-asked e l s p short = refused-by buffer-too-short (buffer-fourth h ws qs cs buffer e l s p short)
+-- the answer to a question that is refused, and to one that is not
+module _ (h : Header) (ws qs cs : List ℕ) (lent : Lent) (budget : ℕ) where
+  pub refused-asked : (r : ℕ) → askable h ws qs cs lent ≡ answer.Refused r → Refused r ≡ ask h ws qs cs lent budget
+  unfolding ask
+  refused-asked r e = sym (ap (λ (x : Answer). answeredBy x (within budget (outcomeOf (modelOf h ws cs) (formulaOf (h .arities) qs)))) e)
 
   pub evaluated-asked :
-      Asks h ws qs cs buffer →
-      (evaluatedAs (within budget (outcomeOf (modelOf h ws cs) (formulaOf (h .arities) qs))) ≡ ask h ws qs cs buffer budget) ×
-      (overwrite (domain (rows h ws)) buffer ≡ askedBuffer h ws qs cs buffer)
-  unfolding ask askedBuffer
+      Asks h ws qs cs lent → evaluatedAs (within budget (outcomeOf (modelOf h ws cs) (formulaOf (h .arities) qs))) ≡ ask h ws qs cs lent budget
+  unfolding ask
   evaluated-asked a =
-      let e = askable-done h ws qs cs buffer a in (
-        sym (ap (λ (x : Answer). answeredBy x (within budget (outcomeOf (modelOf h ws cs) (formulaOf (h .arities) qs)))) e),
-        sym (ap (λ (x : Answer). after x (overwrite (domain (rows h ws)) buffer) buffer) e),
-      )
+      sym (ap (λ (x : Answer). answeredBy x (within budget (outcomeOf (modelOf h ws cs) (formulaOf (h .arities) qs)))) (askable-done h ws qs cs lent a))
+
+-- the list that was lent
+module _ (h : Header) (ws qs cs buffer : List ℕ) where
+  pub refused-buffer : (r : ℕ) → askable h ws qs cs (list buffer) ≡ answer.Refused r → buffer ≡ askedBuffer h ws qs cs buffer
+  unfolding askedBuffer
+  refused-buffer r e = sym (ap (λ (x : Answer). after x (overwrite (domain (rows h ws)) buffer) buffer) e)
+
+  pub evaluated-buffer : Asks h ws qs cs (list buffer) → overwrite (domain (rows h ws)) buffer ≡ askedBuffer h ws qs cs buffer
+  unfolding askedBuffer
+  evaluated-buffer a = sym (ap (λ (x : Answer). after x (overwrite (domain (rows h ws)) buffer) buffer) (askable-done h ws qs cs (list buffer) a))
+
+  pub short-list :
+      (count : ℕ) → Admitted h ws qs cs count → length buffer < length (cellsOf (rows h ws)) →
+      askable h ws qs cs (list buffer) ≡ answer.Refused buffer-too-short
+  unfolding askable
+  short-list count a short = rw (a .is-sound, a .right, a .passes, lt-leb (length (cellsOf (rows h ws))) (length buffer) short) refl
+
+  pub long-list : (count : ℕ) → Admitted h ws qs cs count → length (cellsOf (rows h ws)) ≤ length buffer → Asks h ws qs cs (list buffer)
+  long-list count a long = record { is-sound = a .is-sound; right = a .right; scopes = a .scopes; passes = a .passes; room = le-leb _ _ long }
+
+pub no-list : (h : Header) (ws qs cs : List ℕ) (count : ℕ) → Admitted h ws qs cs count → Asks h ws qs cs none
+no-list h ws qs cs count a = record { is-sound = a .is-sound; right = a .right; scopes = a .scopes; passes = a .passes; room = refl }
 
 -- the array holds an instance's row counts and arities
 pub record Described (h : Header) (ws table : List ℕ) : Type 0 where
@@ -138,27 +183,27 @@ module _ (h : Header) (ws table : List ℕ) (eight : length (h .arities) ≡ max
       ap (λ (l : List ℕ). flagAt l p) is ∙
       no-flags (rowCounts rs ++ h .arities) (front-size (rowCounts rs) (h .arities) (replicate flagWords 0) (row-counts-size rs) eight) flagWords p
 
--- a sound instance and a question that passed are ready to be evaluated
-module _ (h : Header) (ws qs cs : List ℕ) (e : sound h ws ≡ true) (eight : length (h .arities) ≡ maxRelations) (right : rightLength qs ≡ true) (s : Scopes) (p : checkQuery (h .relations) (h .arities) qs cs ≡ passed s) where
+-- a question that is admitted is ready to be evaluated
+module _ (h : Header) (ws qs cs : List ℕ) (count : ℕ) (a : Admitted h ws qs cs count) (eight : length (h .arities) ≡ maxRelations) where
   pub made-ready :
       (table : List ℕ) → Described h ws table →
       Ready (h .arities) (take (h .used) ws) qs table × ((0 < nodeCount qs) × (length cs ≤ variables))
   made-ready table d =
       let rs = rowsFrom (h .arities) 0 (take (h .used) ws) in
-      let g = sound-gives h ws e in
-      let within = count-within qs right in (
+      let g = sound-gives h ws (a .is-sound) in
+      let within = count-within qs (a .right) in (
         record {
           given = record { relations = h .relations; well-formed = g .well-formed };
           eight = eight;
           whole = within .2;
           nodes-few = within .1;
-          nodes = node-well-formed (h .relations) (h .arities) qs cs right s p;
+          nodes = node-well-formed (h .relations) (h .arities) qs cs (a .right) (a .scopes) (a .passes);
           counted = λ r l.
               let low : r < maxRelations = omega (arith, l, g .headed .few) in
               sym (getD-take maxRelations table r 0 low) ∙ ap (λ (z : List ℕ). getD z r 0) (d .counts) ∙ row-count-at rs r low;
           size = d .size;
         },
-        (within .0, omega (arith, few-cells (h .relations) (h .arities) qs cs right s p)),
+        (within .0, omega (arith, few-cells (h .relations) (h .arities) qs cs (a .right) (a .scopes) (a .passes))),
       )
 
   -- with the arities as the array has them
@@ -171,31 +216,57 @@ module _ (h : Header) (ws qs cs : List ℕ) (e : sound h ws ≡ true) (eight : l
       subst (λ (ars : List ℕ). (Ready ars (take (h .used) ws) qs table × Ranged ars (take (h .used) ws) qs table values) × ((0 < nodeCount qs) × (length cs ≤ variables)))
       (sym (d .arities)) ((made .0, ranged), made .1)
 
+-- the array is still described if only flags were set
+pub described-kept :
+    (h : Header) (ws before table : List ℕ) → Described h ws before → length table ≡ knownWords → take flagsFrom table ≡ take flagsFrom before →
+    Described h ws table
+described-kept h ws before table d size kept = record {
+  size = size;
+  counts = counts-kept table before size (d .size) kept ∙ d .counts;
+  arities = arities-kept table before size (d .size) kept ∙ d .arities;
+}
+
+-- the instance's own words, of which a walk passes over each relation's number and each cell that stood earlier; no flag is needed if no node ranges over
+-- values
+pub walked-ranged :
+    (h : Header) (ws qs ars table : List ℕ) → sound h ws ≡ true → ars ≡ h .arities →
+    ((p : ℕ) → flagAt table p ≡ cond (rangesAmong qs (nodeCount qs)) (getD (passes ars [] 0 (take (h .used) ws)) p false) false) →
+    Ranged (h .arities) (take (h .used) ws) qs table (take (h .used) ws)
+walked-ranged h ws qs ars table e same flags =
+    let g = sound-gives h ws e in
+    record { short = omega (arith, g .in-use, g .few); walked = go (rangesAmong qs (nodeCount qs)) refl flags }
+  where
+    go :
+        (b : Bool) → rangesAmong qs (nodeCount qs) ≡ b →
+        ((p : ℕ) → flagAt table p ≡ cond b (getD (passes ars [] 0 (take (h .used) ws)) p false) false) →
+        (i : ℕ) (j : Junction) → i < nodeCount qs → kindOf (wordAt qs i 0) ≡ ranges j →
+        unpassed table 0 (take (h .used) ws) ≡ world (h .arities) (take (h .used) ws) .range
+    go true is flags i j l kind =
+        unpassed-walked ars (take (h .used) ws) table flags ∙ walked-values (rowsFrom ars 0 (take (h .used) ws)) ∙
+        ap (λ (l : List ℕ). domain (rowsFrom l 0 (take (h .used) ws))) same
+    go false is flags i j l kind = absurd (none-ranges qs (nodeCount qs) is i j l kind)
+
 -- a list of the values, with no flag
 pub listed-ranged :
     (h : Header) (ws qs table values : List ℕ) → sound h ws ≡ true → ((p : ℕ) → flagAt table p ≡ false) →
     values ≡ domain (rowsFrom (h .arities) 0 (take (h .used) ws)) → Ranged (h .arities) (take (h .used) ws) qs table values
 unfolding rows
-listed-ranged h ws qs table values e none are =
+listed-ranged h ws qs table values e unflagged are =
     let few = distinct-le (cellsOf (rows h ws)) in
     record {
       short = omega (arith, ap length are, few, cells-count h ws e, sound-gives h ws e .few);
-      walked = λ i j k is. unpassed-all table none 0 values ∙ are;
+      walked = λ i j k is. unpassed-all table unflagged 0 values ∙ are;
     }
 
--- the answer if nothing is refused before the evaluation
-module _ (h : Header) (ws qs cs buffer : List ℕ) (budget : ℕ) (a : Asks h ws qs cs buffer) where
-  pub answered :
-      (table : List ℕ) → Described h ws table →
-      (r : Evaluated) → r ≡ within budget (eval (world (aritiesIn table) (take (h .used) ws)) (formulaOf (aritiesIn table) qs) (assignment cs)) →
-      (left : List ℕ) →
-      left ≡ overwrite (domain (rowsFrom (h .arities) 0 (take (h .used) ws))) buffer →
-      (evaluatedAs r ≡ ask h ws qs cs buffer budget) × (left ≡ askedBuffer h ws qs cs buffer)
-  unfolding rows
-  answered table d r is left holds =
-      let e = evaluated-asked h ws qs cs buffer budget a in
-      let same = ap (λ (ars : List ℕ). within budget (eval (world ars (take (h .used) ws)) (formulaOf ars qs) (assignment cs))) (d .arities) in
-      (ap evaluatedAs (is ∙ same) ∙ e .0, holds ∙ e .1)
+-- the answer of the evaluation, with the arities as the array has them
+pub answered :
+    (h : Header) (ws qs cs : List ℕ) (lent : Lent) (budget : ℕ) → Asks h ws qs cs lent → (table : List ℕ) → Described h ws table →
+    (r : Asked) → r ≡ evaluatedAs (within budget (eval (world (aritiesIn table) (take (h .used) ws)) (formulaOf (aritiesIn table) qs) (assignment cs))) →
+    r ≡ ask h ws qs cs lent budget
+unfolding rows
+answered h ws qs cs lent budget a table d r is =
+    let same = ap (λ (ars : List ℕ). within budget (eval (world ars (take (h .used) ws)) (formulaOf ars qs) (assignment cs))) (d .arities) in
+    is ∙ ap evaluatedAs same ∙ evaluated-asked h ws qs cs lent budget a
 
 -- the values are the first words of the buffer that they were listed in
 pub listed-part : (vs buffer left : List ℕ) (n : ℕ) → n ≡ length vs → left ≡ overwrite vs buffer → (n ≤ length left) × (take n left ≡ vs)

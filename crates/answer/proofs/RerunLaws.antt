@@ -5,7 +5,6 @@ use mathlib.Core.Bool.{true}
 use mathlib.Core.List.{List}
 use native.Mathlib.Omega.{arith}
 use lib.ListN.{length, length-map}
-use lib.Dec.{leb}
 use borrow.Author.Tests.{le-leb, leb-true}
 use Rattle.calculus.specs.declared.answer.Answer.{Answer}
 use Rattle.calculus.specs.declared.answer.Answer.the-variants as answer
@@ -34,70 +33,82 @@ use Rattle.answer.specs.declared.asked.Asked.the-variants.{Verdict, Refu
 use Rattle.evaluate.specs.declared.evaluated.Evaluated.{Evaluated}
 use Rattle.evaluate.specs.declared.evaluated.Evaluated.the-variants as evaluated
 use Rattle.evaluate.specs.Within.{within}
-use Rattle.answer.specs.Ask.{ifPassed, evaluatedAs, answeredBy, askable, ask}
+use Rattle.answer.specs.Ask.{ifPassed, evaluatedAs, answeredBy, Lent, list, none, hasPlace, askable, ask}
+use Rattle.answer.specs.Ways.{NoShorter}
 use Rattle.answer.specs.Rerun.{DemandThree}
 use Rattle.evaluate.proofs.Budget.{verdict, was-verdict}
 use Rattle.calculus.proofs.Bools.{zero-not-one}
 
 -- what follows from a verdict: nothing before it was refused
-pub record Asks (h : Header) (ws qs candidate buffer : List ℕ) : Type 0 where
+pub record Asks (h : Header) (ws qs candidate : List ℕ) (lent : Lent) : Type 0 where
   pub is-sound : sound h ws ≡ true
   pub right : rightLength qs ≡ true
   pub scopes : Scopes
   pub passes : checkQuery (h .relations) (h .arities) qs candidate ≡ passed scopes
-  pub room : length (cellsOf (rows h ws)) ≤ length buffer
+  pub room : hasPlace lent (length (cellsOf (rows h ws))) ≡ true
 
-pub asks-done : (h : Header) (ws qs candidate buffer : List ℕ) (k : ℕ) → askable h ws qs candidate buffer ≡ answer.Done k → Asks h ws qs candidate buffer
+-- fewer cells have place in a list that is no shorter
+pub place-kept : (lent lent′ : Lent) (n m : ℕ) → NoShorter lent lent′ → m ≤ n → hasPlace lent n ≡ true → hasPlace lent′ m ≡ true
+place-kept (list buffer) (list buffer′) n m longer fewer room = le-leb m (length buffer′) (omega (arith, longer, fewer, leb-true n (length buffer) room))
+place-kept none none n m longer fewer room = refl
+place-kept (list buffer) none n m longer fewer room = absurd longer
+place-kept none (list buffer) n m longer fewer room = absurd longer
+
+pub same-lent : (lent : Lent) → NoShorter lent lent
+same-lent (list buffer) = omega arith
+same-lent none = tt
+
+pub asks-done : (h : Header) (ws qs candidate : List ℕ) (lent : Lent) (k : ℕ) → askable h ws qs candidate lent ≡ answer.Done k → Asks h ws qs candidate lent
 unfolding askable
-asks-done h ws qs candidate buffer k e =
+asks-done h ws qs candidate lent k e =
     let a = demand-done (sound h ws) unsound _ k e in
     let q = demand-done (rightLength qs) bad-query-length _ k (a .1) in
     go (checkQuery (h .relations) (h .arities) qs candidate) refl (a .0) (q .0) (q .1)
   where
     go :
         (c : Checked) → checkQuery (h .relations) (h .arities) qs candidate ≡ c → sound h ws ≡ true → rightLength qs ≡ true →
-        ifPassed c (demand (leb (length (cellsOf (rows h ws))) (length buffer)) (answer.Refused buffer-too-short) (answer.Done 0)) ≡ answer.Done k →
-        Asks h ws qs candidate buffer
+        ifPassed c (demand (hasPlace lent (length (cellsOf (rows h ws)))) (answer.Refused buffer-too-short) (answer.Done 0)) ≡ answer.Done k →
+        Asks h ws qs candidate lent
     go (read done s) p is-sound right d =
-        let r = demand-done (leb (length (cellsOf (rows h ws))) (length buffer)) buffer-too-short (answer.Done 0) k d in
-        record { is-sound = is-sound; right = right; scopes = s; passes = p; room = leb-true (length (cellsOf (rows h ws))) (length buffer) (r .0) }
+        let r = demand-done (hasPlace lent (length (cellsOf (rows h ws)))) buffer-too-short (answer.Done 0) k d in
+        record { is-sound = is-sound; right = right; scopes = s; passes = p; room = r .0 }
     go (refused r) p is-sound right d = let z : _≡_ {A = ℕ} 0 1 = cc in absurd (zero-not-one z)
 
-pub askable-done : (h : Header) (ws qs candidate buffer : List ℕ) → Asks h ws qs candidate buffer → askable h ws qs candidate buffer ≡ answer.Done 0
+pub askable-done : (h : Header) (ws qs candidate : List ℕ) (lent : Lent) → Asks h ws qs candidate lent → askable h ws qs candidate lent ≡ answer.Done 0
 unfolding askable
-askable-done h ws qs candidate buffer a =
-    rw (a .is-sound, a .right, a .passes, le-leb (length (cellsOf (rows h ws))) (length buffer) (a .room)) refl
+askable-done h ws qs candidate lent a =
+    rw (a .is-sound, a .right, a .passes, a .room) refl
 
 -- a verdict: nothing is refused, and the outcome is within the budget
 pub verdict-asked :
-    (h : Header) (ws qs candidate buffer : List ℕ) (budget : ℕ) (t : Truth) (n : ℕ) → ask h ws qs candidate buffer budget ≡ Verdict t n →
-    Asks h ws qs candidate buffer × (within budget (outcomeOf (modelOf h ws candidate) (formulaOf (h .arities) qs)) ≡ evaluated.Verdict t n)
+    (h : Header) (ws qs candidate : List ℕ) (lent : Lent) (budget : ℕ) (t : Truth) (n : ℕ) → ask h ws qs candidate lent budget ≡ Verdict t n →
+    Asks h ws qs candidate lent × (within budget (outcomeOf (modelOf h ws candidate) (formulaOf (h .arities) qs)) ≡ evaluated.Verdict t n)
 unfolding ask
-verdict-asked h ws qs candidate buffer budget t n =
-    go (askable h ws qs candidate buffer) refl (within budget (outcomeOf (modelOf h ws candidate) (formulaOf (h .arities) qs))) refl
+verdict-asked h ws qs candidate lent budget t n =
+    go (askable h ws qs candidate lent) refl (within budget (outcomeOf (modelOf h ws candidate) (formulaOf (h .arities) qs))) refl
   where
     go :
-        (a : Answer) → askable h ws qs candidate buffer ≡ a →
+        (a : Answer) → askable h ws qs candidate lent ≡ a →
         (e : Evaluated) → within budget (outcomeOf (modelOf h ws candidate) (formulaOf (h .arities) qs)) ≡ e →
         answeredBy a e ≡ Verdict t n →
-        Asks h ws qs candidate buffer × (within budget (outcomeOf (modelOf h ws candidate) (formulaOf (h .arities) qs)) ≡ evaluated.Verdict t n)
+        Asks h ws qs candidate lent × (within budget (outcomeOf (modelOf h ws candidate) (formulaOf (h .arities) qs)) ≡ evaluated.Verdict t n)
     go (answer.Done k) p (evaluated.Verdict u m) q r =
         let truths : u ≡ t = cc in
         let costs : m ≡ n = cc in
-        (asks-done h ws qs candidate buffer k p, q ∙ ap (λ (x : Truth). evaluated.Verdict x m) truths ∙ ap (evaluated.Verdict t) costs)
+        (asks-done h ws qs candidate lent k p, q ∙ ap (λ (x : Truth). evaluated.Verdict x m) truths ∙ ap (evaluated.Verdict t) costs)
     go (answer.Done k) p evaluated.Spent q r = let z : _≡_ {A = ℕ} 0 1 = cc in absurd (zero-not-one z)
     go (answer.Refused k) p e q r = let z : _≡_ {A = ℕ} 0 1 = cc in absurd (zero-not-one z)
 
 -- conversely, if nothing is refused and the cost is within the budget, the question gets its verdict
 pub asked-verdict :
-    (h : Header) (ws qs candidate buffer : List ℕ) (budget : ℕ) → Asks h ws qs candidate buffer →
+    (h : Header) (ws qs candidate : List ℕ) (lent : Lent) (budget : ℕ) → Asks h ws qs candidate lent →
     outcomeOf (modelOf h ws candidate) (formulaOf (h .arities) qs) .cost ≤ budget →
-    ask h ws qs candidate buffer budget ≡
+    ask h ws qs candidate lent budget ≡
     Verdict (outcomeOf (modelOf h ws candidate) (formulaOf (h .arities) qs) .truth) (outcomeOf (modelOf h ws candidate) (formulaOf (h .arities) qs) .cost)
 unfolding ask
-asked-verdict h ws qs candidate buffer budget a fits =
+asked-verdict h ws qs candidate lent budget a fits =
     let o = outcomeOf (modelOf h ws candidate) (formulaOf (h .arities) qs) in
-    ap (λ (x : Answer). answeredBy x (within budget o)) (askable-done h ws qs candidate buffer a) ∙ ap evaluatedAs (verdict budget o fits)
+    ap (λ (x : Answer). answeredBy x (within budget o)) (askable-done h ws qs candidate lent a) ∙ ap evaluatedAs (verdict budget o fits)
 
 -- a refusal is not a verdict
 pub not-refused : {t : Truth} {n r : ℕ} → Refused r ≡ Verdict t n → ⊥
@@ -105,8 +116,8 @@ not-refused e = let z : _≡_ {A = ℕ} 0 1 = cc in omega arith
 
 -- run B passes the checks of run A: of the candidate they use only the length and that its words are cells, and fills keep both
 pub demand-three : DemandThree
-demand-three h ws qs candidate buffer budget fs buffer′ budget′ longer larger t n e =
-    let a = verdict-asked h ws qs candidate buffer budget t n e in
+demand-three h ws qs candidate lent budget fs lent′ budget′ longer larger t n e =
+    let a = verdict-asked h ws qs candidate lent budget t n e in
     let b = modelOf h ws candidate in
     let was = was-verdict budget (outcomeOf b (formulaOf (h .arities) qs)) t n (a .1) in
     let r = fills-follow-model h fs ws candidate (a .0 .is-sound) in
@@ -120,7 +131,7 @@ demand-three h ws qs candidate buffer budget fs buffer′ budget′ longer large
     let same-cells : length (cellsOf (rows h ws′)) ≡ length (cellsOf (rows h ws)) =
     ap (λ (rs : List Row). length (cellsOf rs)) (r .holds ∙ m .rows) ∙ ap length (cells-map (m .by) (rows h ws)) ∙ length-map (cellsOf (rows h ws)) (m .by)
     in
-    let room : length (cellsOf (rows h ws′)) ≤ length buffer′ = omega (arith, same-cells, a .0 .room) in
+    let room = place-kept lent lent′ (length (cellsOf (rows h ws))) (length (cellsOf (rows h ws′))) longer (omega (arith, same-cells)) (a .0 .room) in
     let o = outcomeOf after (formulaOf (h .arities) qs) in
     let same-model : modelOf h ws′ (after .candidate) ≡ after = ap (λ (rs : List Row). record { rows = rs; candidate = after .candidate }) (r .holds) in
     let same-outcome : outcomeOf (modelOf h ws′ (after .candidate)) (formulaOf (h .arities) qs) ≡ o = ap (λ (x : Model). outcomeOf x (formulaOf (h .arities) qs)) same-model in
@@ -132,7 +143,7 @@ demand-three h ws qs candidate buffer budget fs buffer′ budget′ longer large
       truth = o .truth;
       cost = o .cost;
       answers =
-          asked-verdict h ws′ qs (after .candidate) buffer′ budget′ (record { is-sound = r .is-sound; right = a .0 .right; scopes = a .0 .scopes; passes = passes; room = room }) fits ∙
+          asked-verdict h ws′ qs (after .candidate) lent′ budget′ (record { is-sound = r .is-sound; right = a .0 .right; scopes = a .0 .scopes; passes = passes; room = room }) fits ∙
           ap (λ (x : Outcome). Verdict (x .truth) (x .cost)) same-outcome;
       kept = subst (λ (x : Truth). x ⊑ o .truth) (was .truth) (shared .kept .truth);
       no-more = omega (arith, shared .kept .cost, was .cost);

@@ -12,7 +12,7 @@ use Rattle.instance.specs.Run.{modelOf}
 use Rattle.query.specs.Tree.{formulaOf}
 use Rattle.answer.specs.declared.asked.Asked.{Asked}
 use Rattle.answer.specs.declared.asked.Asked.the-variants.{Verdict, Refused}
-use Rattle.answer.specs.Ask.{ask}
+use Rattle.answer.specs.Ask.{Lent, ask}
 use Rattle.answer.specs.Numbers.{askedAs, askedNumber, verdictOf, costOf, TellsVerdict}
 use Rattle.evaluate.proofs.Budget.{was-verdict}
 use Rattle.answer.proofs.RerunLaws.{verdict-asked}
@@ -36,13 +36,13 @@ tells-verdict {r} {a} o e of = record {
     cost (Verdict t n) of old = sym (of t n refl .1)
     cost (Refused r) of old = refl
 
-module _ (h : Header) (ws qs cs buffer : List ℕ) (budget : ℕ) where
-  pub ask-outcome : Of (outcomeOf (modelOf h ws cs) (formulaOf (h .arities) qs)) (ask h ws qs cs buffer budget)
+module _ (h : Header) (ws qs cs : List ℕ) (lent : Lent) (budget : ℕ) where
+  pub ask-outcome : Of (outcomeOf (modelOf h ws cs) (formulaOf (h .arities) qs)) (ask h ws qs cs lent budget)
   ask-outcome t n e =
-      let w = was-verdict budget (outcomeOf (modelOf h ws cs) (formulaOf (h .arities) qs)) t n (verdict-asked h ws qs cs buffer budget t n e .1) in
+      let w = was-verdict budget (outcomeOf (modelOf h ws cs) (formulaOf (h .arities) qs)) t n (verdict-asked h ws qs cs lent budget t n e .1) in
       (w .truth, w .cost)
 
   pub ask-told :
-      {r : Asked} {P : Type 0} → (r ≡ ask h ws qs cs buffer budget) × P →
-      (r ≡ ask h ws qs cs buffer budget) × (P × TellsVerdict r (ask h ws qs cs buffer budget) (outcomeOf (modelOf h ws cs) (formulaOf (h .arities) qs)))
-  ask-told p = (p .0, (p .1, tells-verdict (outcomeOf (modelOf h ws cs) (formulaOf (h .arities) qs)) (p .0) ask-outcome))
+      {r : Asked} → r ≡ ask h ws qs cs lent budget →
+      TellsVerdict r (ask h ws qs cs lent budget) (outcomeOf (modelOf h ws cs) (formulaOf (h .arities) qs))
+  ask-told p = tells-verdict (outcomeOf (modelOf h ws cs) (formulaOf (h .arities) qs)) p ask-outcome

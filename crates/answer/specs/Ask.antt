@@ -1,6 +1,7 @@
 -- Asking. Document 01: "Question: 41, 21, 26, then nodes by number .., then 45, 46"; "Each call answers either a verdict with its looks or a
 -- refusal."
 use Prim.Native.Nat.{ℕ}
+use mathlib.Core.Bool.{Bool, true}
 use mathlib.Core.List.{List}
 use lib.ListN.{length}
 use lib.Dec.{leb}
@@ -41,18 +42,35 @@ abbrev pub answeredBy : Answer → Evaluated → Asked
 answeredBy (answer.Done n) e = evaluatedAs e
 answeredBy (answer.Refused r) e = ask-answer.Refused r
 
-module _ (h : Header) (ws qs candidate buffer : List ℕ) where
+-- the refusals that do not turn on what is lent, in their order; the number of rows if there is none
+unfoldable pub admitted : Header → (ws qs candidate : List ℕ) → Answer
+admitted h ws qs candidate =
+    demand (sound h ws) (answer.Refused unsound)
+    (demand (rightLength qs) (answer.Refused bad-query-length)
+    (ifPassed (checkQuery (h .relations) (h .arities) qs candidate) (answer.Done (length (rows h ws)))))
+
+-- what is lent to a question besides: a list for the plot's values, or none (document 02, request 4: "Asking with no working list")
+pub data Lent : Type 0 where
+  list : List ℕ → Lent
+  none : Lent
+
+-- "45: working list shorter than the plot's cells", for n cells; document 02: "45 never occurs on this way"
+abbrev pub hasPlace : Lent → ℕ → Bool
+hasPlace (list buffer) n = leb n (length buffer)
+hasPlace none n = true
+
+module _ (h : Header) (ws qs candidate : List ℕ) (lent : Lent) where
   -- the refusals before the evaluation
   unfoldable pub askable : Answer
   askable =
       demand (sound h ws) (answer.Refused unsound)
       (demand (rightLength qs) (answer.Refused bad-query-length)
       (ifPassed (checkQuery (h .relations) (h .arities) qs candidate)
-      (demand (leb (length (cellsOf (rows h ws))) (length buffer)) (answer.Refused buffer-too-short) (answer.Done 0))))
+      (demand (hasPlace lent (length (cellsOf (rows h ws)))) (answer.Refused buffer-too-short) (answer.Done 0))))
 
   unfoldable pub ask : ℕ → Asked
   ask budget = answeredBy askable (within budget (outcomeOf (modelOf h ws candidate) (formulaOf (h .arities) qs)))
 
-  -- "After a verdict or number 46 it holds the plot's values first, and its other words keep their content. No other refusal touches it."
-  unfoldable pub askedBuffer : List ℕ
-  askedBuffer = after askable (overwrite (domain (rows h ws)) buffer) buffer
+-- "After a verdict or number 46 it holds the plot's values first, and its other words keep their content. No other refusal touches it."
+unfoldable pub askedBuffer : Header → (ws qs candidate buffer : List ℕ) → List ℕ
+askedBuffer h ws qs candidate buffer = after (askable h ws qs candidate (list buffer)) (overwrite (domain (rows h ws)) buffer) buffer

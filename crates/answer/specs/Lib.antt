@@ -1,4 +1,6 @@
 pub mod Ask
+pub mod Ways
+pub mod Ranging
 pub mod Rerun
 pub mod Numbers
 pub mod Repeats

@@ -11,7 +11,7 @@ use Rattle.instance.specs.declared.header.Header.{Header}
 use Rattle.instance.specs.Sound.{sound, rows}
 use Rattle.answer.specs.declared.asked.Asked.{Asked}
 use Rattle.answer.specs.declared.asked.Asked.the-variants.{Verdict, Refused}
-use Rattle.answer.specs.Ask.{ask}
+use Rattle.answer.specs.Ask.{Lent, hasPlace, ask}
 
 -- the verdict t, with a cost of at most n
 pub record SameVerdict (a : Asked) (t : Truth) (n : ℕ) : Type 0 where
@@ -37,15 +37,15 @@ pub record Repeat (h h′ : Header) (ws ws′ : List ℕ) : Type 0 where
   pub twice : rows h ws ≡ before ++ (row ∷ (between ++ (row ∷ behind)))
   pub once : rows h′ ws′ ≡ before ++ (row ∷ (between ++ behind))
 
--- A verdict of the first instance is also the second's, with the same question, candidate, buffer and budget. A verdict of the second is also the
--- first's, if the buffer is long enough for the first and the budget suffices.
-pub record MeansOne (h h′ : Header) (ws ws′ qs candidate buffer : List ℕ) (budget : ℕ) (t : Truth) (n : ℕ) : Type 0 where
-  pub to-second : ask h ws qs candidate buffer budget ≡ Verdict t n → SameVerdict (ask h′ ws′ qs candidate buffer budget) t n
+-- A verdict of the first instance is also the second's, with the same question, candidate and budget, by the same way of asking. A verdict of the second is
+-- also the first's, if a list that is lent is long enough for the first and the budget suffices.
+pub record MeansOne (h h′ : Header) (ws ws′ qs candidate : List ℕ) (lent : Lent) (budget : ℕ) (t : Truth) (n : ℕ) : Type 0 where
+  pub to-second : ask h ws qs candidate lent budget ≡ Verdict t n → SameVerdict (ask h′ ws′ qs candidate lent budget) t n
   pub to-first :
-      ask h′ ws′ qs candidate buffer budget ≡ Verdict t n → length (cellsOf (rows h ws)) ≤ length buffer →
-      SameOrSpent (ask h ws qs candidate buffer budget) t n
+      ask h′ ws′ qs candidate lent budget ≡ Verdict t n → hasPlace lent (length (cellsOf (rows h ws))) ≡ true →
+      SameOrSpent (ask h ws qs candidate lent budget) t n
 
 abbrev pub RepeatMeansOne : Type 0
 RepeatMeansOne =
-    (h h′ : Header) (ws ws′ qs candidate buffer : List ℕ) (budget : ℕ) (t : Truth) (n : ℕ) → Repeat h h′ ws ws′ →
-    MeansOne h h′ ws ws′ qs candidate buffer budget t n
+    (h h′ : Header) (ws ws′ qs candidate : List ℕ) (lent : Lent) (budget : ℕ) (t : Truth) (n : ℕ) → Repeat h h′ ws ws′ →
+    MeansOne h h′ ws ws′ qs candidate lent budget t n

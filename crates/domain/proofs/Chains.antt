@@ -10,7 +10,8 @@ use lib.ListN.{length, getD, set, take, replicate, length-set, length-replicate,
 use lib.Seq.{take-suc, take-set-le, drop-set-lt, getD-set-same, getD-set-other, drop-drop}
 use lib.Dec.{eqb}
 use Rattle.calculus.specs.Listed.{listed}
-use Rattle.domain.specs.Chains.{linkUnit, buckets, bucketOf, wordValue, wordLink, valuesOf, Chain, Linked, Chained, Added}
+use Rattle.domain.specs.Bucket.{buckets, bucketOf}
+use Rattle.domain.specs.Chains.{linkUnit, wordValue, wordLink, valuesOf, Chain, Linked, Chained, Added}
 use Rattle.calculus.specs.Domain.{listing}
 use Rattle.calculus.proofs.Listing.{listing-append}
 

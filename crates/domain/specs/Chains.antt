@@ -1,21 +1,15 @@
 -- A list of values while it is being built: a hash table whose chains run through the list. A word of it holds a value plus 2^20 times a link:
 -- the index, counted from 1, of the latest value before it in the same bucket, or 0 if there is none. Every cell is below 2^20.
-use Prim.Native.Nat.{ℕ, _+_, _-_, _*_, _/_, _%_, _≤_, _<_}
+use Prim.Native.Nat.{ℕ, _+_, _-_, _/_, _%_, _≤_, _<_}
 use mathlib.Core.Path.{_≡_}
 use mathlib.Core.List.{List, map}
 use lib.ListN.{length, getD, take, drop}
 use Rattle.calculus.specs.Listed.{listed}
 use Rattle.calculus.specs.Domain.{listing}
+use Rattle.domain.specs.Bucket.{buckets, bucketOf}
 
 abbrev pub linkUnit : ℕ
 linkUnit = 1048576
-
-abbrev pub buckets : ℕ
-buckets = 1024
-
--- the upper 10 of the lower 32 bits of a product, so that evenly spaced values spread over the buckets
-abbrev pub bucketOf : ℕ → ℕ
-bucketOf c = c * 2654435761 % 4294967296 / 4194304
 
 abbrev pub wordValue : ℕ → ℕ
 wordValue w = w % linkUnit

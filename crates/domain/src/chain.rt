@@ -8,12 +8,10 @@ ghost use Rattle.calculus.specs.Listed.{listed};
 ghost use Rattle.domain.specs.Chains.{linkUnit, wordValue, valuesOf, InBucket, Linked, Chained, Added};
 ghost use Rattle.instance.specs.Rows.{areCells};
 ghost use mathlib.Core.Bool.{true};
+use super::bucket::bucket_of;
 
 // Each word packs a value (low 20 bits) and a link (high 12 bits): cells are below 2^20, and a link is at most 4,095.
 const LINK_UNIT: u32 = 1_048_576;
-
-// A cell's bucket is the upper 10 of the lower 32 bits of its product with this number, so that evenly spaced values spread.
-const SPREAD: u64 = 2_654_435_761;
 
 // Whether a cell is among the first `head` values of a list, found along the chain of its bucket.
 fn find(list: &[u32], head: usize, cell: u32) -> bool
@@ -37,7 +35,7 @@ pub fn add_value(list: &mut [u32], heads: &mut [u16; 1024], n: usize, cell: u32)
     ensures chained { λ r. ⌜ Chained (now (heads .exit)) (now (list .exit)) r ⌝ }
     ensures added { λ r. ⌜ Added (now (list .entry)) n (cell ∷ []) (now (list .exit)) r ⌝ }
 {
-    let bucket = ((cell as u64) * SPREAD % 4_294_967_296 / 4_194_304) as usize;
+    let bucket = bucket_of(cell);
     let head = heads[bucket];
     if find(list, head as usize, cell) {
         return n;

@@ -10,6 +10,7 @@ ghost use Rattle.calculus.specs.Overwrite.{overwrite};
 use chain::add_cells;
 use chain::unlink;
 
+pub mod bucket;
 mod chain;
 
 // Lists the values at the start of a buffer, row by row, and returns their number; the rest of the buffer stays.

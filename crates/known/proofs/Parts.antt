@@ -1,12 +1,12 @@
 -- The parts of the array: counts, arities, flags. Assumes nothing.
 use Prim.Native.Nat.{ℕ, _+_}
-use mathlib.Core.Path.{_≡_, ap, _∙_}
+use mathlib.Core.Path.{_≡_, sym, ap, _∙_}
 use mathlib.Core.List.{List, _++_, append-assoc}
 use native.Mathlib.Omega.{arith}
 use lib.ListN.{length, take, drop, length-append}
-use lib.Seq.{take-at, drop-at}
+use lib.Seq.{take-at, drop-at, take-add, take-take, length-take-le}
 use Rattle.instance.specs.Header.{maxRelations}
-use Rattle.known.specs.Known.{flagsFrom, aritiesIn}
+use Rattle.known.specs.Known.{flagsFrom, knownWords, aritiesIn}
 
 module _ (counts ars flags : List ℕ) (eight : length counts ≡ maxRelations) (as-many : length ars ≡ maxRelations) where
   pub counts-front : take maxRelations (counts ++ ars ++ flags) ≡ counts
@@ -23,3 +23,17 @@ module _ (counts ars flags : List ℕ) (eight : length counts ≡ maxRelations) 
 
   pub layout-size : length (counts ++ ars ++ flags) ≡ flagsFrom + length flags
   layout-size = length-append (counts ++ ars) flags ∙ ap (λ (n : ℕ). n + length flags) front-size
+
+-- the counts and the arities stand before the flags, so they stay if the words before the flags do
+arities-before : (known : List ℕ) → length known ≡ knownWords → aritiesIn known ≡ drop maxRelations (take flagsFrom known)
+arities-before known long =
+    sym
+    (ap (drop maxRelations) (take-add maxRelations maxRelations known) ∙
+    drop-at (take maxRelations known) (aritiesIn known) maxRelations (length-take-le maxRelations known (omega arith)))
+
+module _ (known before : List ℕ) (size : length known ≡ knownWords) (long : length before ≡ knownWords) (kept : take flagsFrom known ≡ take flagsFrom before) where
+  pub arities-kept : aritiesIn known ≡ aritiesIn before
+  arities-kept = arities-before known size ∙ ap (drop maxRelations) kept ∙ sym (arities-before before long)
+
+  pub counts-kept : take maxRelations known ≡ take maxRelations before
+  counts-kept = sym (take-take maxRelations flagsFrom known (omega arith)) ∙ ap (take maxRelations) kept ∙ take-take maxRelations flagsFrom before (omega arith)

@@ -1,12 +1,12 @@
--- `answer::ask::assigned` meets its contract: the first cells are the candidate's, the others 0. Assumes nothing.
+-- `answer::top::assigned` meets its contract: the first cells are the candidate's, the others 0. Assumes nothing.
 use Prim.Native.Nat.{ℕ, _≤_, _-_}
 use mathlib.Core.List.{List}
 use mathlib.Core.Path.{_≡_, refl, ap, _∙_}
 use native.Mathlib.Omega.{arith}
 use lib.ListN.{length, getD, set}
 use Rattle.answer.proofs.Assigned.{partly, partly-more, partly-all}
-use Rattle.answer.proofs.ask.assigned.Statement.{statement}
-use Rattle.answer.proofs.ask.assigned.Tie as tie
+use Rattle.answer.proofs.top.assigned.Statement.{statement}
+use Rattle.answer.proofs.top.assigned.Tie as tie
 
 abbrev Inv-loop : tie.InvT-loop
 Inv-loop candidate env₀ i₀ env i = (env ≡ partly candidate i) × (i ≤ length candidate)

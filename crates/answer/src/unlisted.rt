@@ -1,0 +1,90 @@
+// Asking a question of an instance with no list: the quantifiers walk the instance's own words.
+ghost use mathlib.Core.Path.{_≡_};
+ghost use mathlib.Core.Bool.{false, cond};
+ghost use mathlib.Core.List.{[]};
+ghost use Prim.Native.Nat.{ℕ, _*_};
+ghost use lib.ListN.{length, take, getD};
+ghost use Rattle.calculus.specs.Model.{outcomeOf};
+ghost use Rattle.instance.specs.InstanceWellFormed.{InstanceOf};
+ghost use Rattle.instance.specs.Run.{modelOf};
+ghost use Rattle.known.specs.Known.{knownWords, flagsFrom, aritiesIn, flagAt};
+ghost use Rattle.query.specs.Words.{nodeCount, nodeWords};
+ghost use Rattle.query.specs.Tree.{formulaOf};
+ghost use Rattle.range.specs.Walked.{passes};
+ghost use Rattle.answer.specs.Ask.{ask, none};
+ghost use Rattle.answer.specs.Numbers.{TellsVerdict};
+ghost use Rattle.answer.specs.Ranging.{rangesAmong};
+use super::admit::admit;
+use super::asked::Asked;
+use super::top::answer_top;
+use calculus::answer::Answer;
+use instance::header::Header;
+use known::describe;
+use query::words::NODE_WORDS;
+use range::pass::pass_over;
+
+// The kinds of the two quantifiers.
+const SOME: u32 = 6;
+
+const EVERY: u32 = 7;
+
+// Whether a node ranges over values.
+fn ranging(query: &[u32]) -> bool
+    requires { ⌜ nodeCount (now query) * nodeWords ≡ length (now query) ⌝ }
+    ensures { λ r. ⌜ r ≡ rangesAmong (now (query .entry)) (nodeCount (now (query .entry))) ⌝ }
+{
+    let mut i = 0;
+    while i < query.len() / NODE_WORDS {
+        let kind = query[i * NODE_WORDS];
+        if SOME <= kind {
+            if kind <= EVERY {
+                return true;
+            }
+        }
+        i += 1;
+    }
+    false
+}
+
+// Sets the flag of each word that a walk over the values passes over, if a node ranges over values.
+fn pass_for(words: &[u32], query: &[u32], known: &mut [u32; 144])
+    requires { ⌜ InstanceOf (aritiesIn (now known)) (now words) ⌝ }
+    requires { ⌜ nodeCount (now query) * nodeWords ≡ length (now query) ⌝ }
+    requires { ⌜ (length (now known) ≡ knownWords) × ((p : ℕ) → flagAt (now known) p ≡ false) ⌝ }
+    ensures kept { λ _. ⌜ (length (now (known .exit)) ≡ knownWords) × (take flagsFrom (now (known .exit)) ≡ take flagsFrom (now (known .entry))) ⌝ }
+    ensures flags { λ _. ⌜ ((p : ℕ) → flagAt (now (known .exit)) p ≡ cond (rangesAmong (now (query .entry)) (nodeCount (now (query .entry)))) (getD (passes (aritiesIn (now (known .entry))) [] 0 (now (words .entry))) p false) false) ⌝ }
+{
+    if ranging(query) {
+        pass_over(words, known);
+    }
+}
+
+pub fn ask_unlisted(
+    header: Header,
+    instance: &[u32],
+    query: &[u32],
+    candidate: &[u32],
+    budget: u32,
+) -> Asked
+    ensures answer { λ r. ⌜ r ≡ ask header (now (instance .entry)) (now (query .entry)) (now (candidate .entry)) none budget ⌝ }
+    ensures told { λ r. ⌜ TellsVerdict r (ask header (now (instance .entry)) (now (query .entry)) (now (candidate .entry)) none budget) (outcomeOf (modelOf header (now (instance .entry)) (now (candidate .entry))) (formulaOf (header .arities) (now (query .entry)))) ⌝ }
+{
+    match admit(header, instance, query, candidate) {
+        Answer::Refused(why) => Asked::Refused(why),
+        Answer::Done(_) => {
+            let used = header.used as usize;
+            let arities = header.arities;
+            let mut known = [0u32; 144];
+            describe(&instance[..used], &arities, &mut known);
+            pass_for(&instance[..used], query, &mut known);
+            answer_top(
+                &instance[..used],
+                query,
+                &known,
+                &instance[..used],
+                candidate,
+                budget,
+            )
+        }
+    }
+}

@@ -1,0 +1,4 @@
+pub mod Places
+pub mod Walked
+pub mod Cache
+pub mod Passing

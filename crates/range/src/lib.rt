@@ -1,0 +1,2 @@
+// The values of an instance without a list of them: flags for the words that a walk passes over.
+pub mod pass;
