@@ -10,14 +10,11 @@ use borrow.Author.Tests.{le-leb, lt-leb}
 use Rattle.calculus.specs.declared.answer.Answer.{Answer}
 use Rattle.calculus.specs.declared.answer.Answer.the-variants as answer
 use Rattle.calculus.specs.Answer.{after}
-use Rattle.calculus.specs.Refusal.{unsound, buffer-too-short, bad-query-length}
+use Rattle.calculus.specs.Refusal.{buffer-too-short}
 use Rattle.calculus.specs.Row.{Row, cellsOf}
 use Rattle.calculus.specs.Domain.{domain}
-use Rattle.calculus.specs.Demand.{demand}
 use Rattle.calculus.specs.Model.{outcomeOf}
-use Rattle.calculus.proofs.Answers.{demand-done}
-use Rattle.calculus.proofs.Bools.{zero-not-one}
-use Rattle.calculus.specs.Eval.{eval}
+use Rattle.calculus.specs.Eval.{Outcome, eval}
 use Rattle.calculus.specs.Kleene.{Junction}
 use Rattle.calculus.specs.Formula.{assignment, variables}
 use Rattle.instance.specs.declared.header.Header.{Header}
@@ -26,11 +23,9 @@ use Rattle.instance.specs.Rows.{wordsOf, rowsFrom}
 use Rattle.instance.specs.Sound.{sound, rows}
 use Rattle.instance.specs.Run.{modelOf}
 use Rattle.instance.proofs.Rows.{headed}
-use Rattle.query.specs.Words.{nodeCount, rightLength, wordAt, kindOf, ranges}
+use Rattle.query.specs.Words.{nodeCount, wordAt, kindOf, ranges}
 use Rattle.query.specs.Tree.{formulaOf}
-use Rattle.query.specs.Scope.{Scopes}
-use Rattle.query.specs.Check.{Checked, passed, checkQuery, checkNumber}
-use Rattle.calculus.specs.Reading.{refused, read}
+use Rattle.calculus.specs.Reading.{refused}
 use Rattle.query.proofs.Passed.{few-cells, count-within, node-well-formed}
 use Rattle.instance.specs.RowCounts.{rowCounts}
 use Rattle.instance.proofs.RowCounts.{row-count-at, row-counts-size}
@@ -44,9 +39,12 @@ use Rattle.answer.specs.declared.asked.Asked.{Asked}
 use Rattle.answer.specs.declared.asked.Asked.the-variants.{Refused}
 use Rattle.evaluate.specs.Within.{within}
 use Rattle.evaluate.specs.Ready.{Ready, Ranged, world}
-use Rattle.answer.specs.Ask.{ifPassed, evaluatedAs, answeredBy, admitted, Lent, list, none, hasPlace, askable, ask, askedBuffer}
+use Rattle.answer.specs.Ask.{evaluatedAs, answeredBy, admitted, Lent, list, none, outcomeBy, askable, ask, askedBuffer}
+use Rattle.answer.specs.Admitted.{Admitted}
 use Rattle.answer.specs.Ranging.{rangesAmong}
 use Rattle.answer.proofs.Ranging.{none-ranges}
+use Rattle.answer.proofs.Admitted.{none-refused}
+use Rattle.answer.proofs.Ways.{outcome-by}
 use Rattle.answer.proofs.RerunLaws.{Asks, askable-done}
 use Rattle.calculus.specs.Overwrite.{overwrite}
 use Rattle.instance.proofs.Sound.{sound-gives}
@@ -66,77 +64,25 @@ module _ (h : Header) (ws : List ℕ) (e : sound h ws ≡ true) where
   cells-count =
       let g = sound-gives h ws e in sym (g .in-use) ∙ ap length (sym (g .words)) ∙ words-cells (rows h ws)
 
--- the refusals that do not turn on what is lent
-module _ (h : Header) (ws qs cs : List ℕ) where
-  pub unsound-first : sound h ws ≡ false → answer.Refused unsound ≡ admitted h ws qs cs
-  unfolding admitted
-  unsound-first e = rw e refl
-
-  module _ (e : sound h ws ≡ true) where
-    pub length-second : rightLength qs ≡ false → answer.Refused bad-query-length ≡ admitted h ws qs cs
-    unfolding admitted
-    length-second l = rw (e, l) refl
-
-    module _ (l : rightLength qs ≡ true) where
-      pub check-third : (r : ℕ) → r ≡ checkNumber (checkQuery (h .relations) (h .arities) qs cs) → (r ≡ 0 → ⊥) → answer.Refused r ≡ admitted h ws qs cs
-      unfolding admitted
-      check-third r is some = rw (e, l) (go (checkQuery (h .relations) (h .arities) qs cs) _ is)
-        where
-          go : (c : Checked) (a : Answer) → r ≡ checkNumber c → answer.Refused r ≡ ifPassed c a
-          go (read done s) a p = absurd (some p)
-          go (refused q) a p = ap answer.Refused p
-
-      pub none-refused : (s : Scopes) → checkQuery (h .relations) (h .arities) qs cs ≡ passed s → answer.Done (length (rows h ws)) ≡ admitted h ws qs cs
-      unfolding admitted
-      none-refused s p = rw (e, l, p) refl
-
-  -- what follows if none of them is met
-  pub record Admitted (count : ℕ) : Type 0 where
-    pub is-sound : sound h ws ≡ true
-    pub right : rightLength qs ≡ true
-    pub scopes : Scopes
-    pub passes : checkQuery (h .relations) (h .arities) qs cs ≡ passed scopes
-    pub counted : length (rows h ws) ≡ count
-
-  pub admitted-done : (k : ℕ) → admitted h ws qs cs ≡ answer.Done k → Admitted k
-  unfolding admitted
-  admitted-done k d =
-      let a = demand-done (sound h ws) unsound _ k d in
-      let q = demand-done (rightLength qs) bad-query-length _ k (a .1) in
-      go (checkQuery (h .relations) (h .arities) qs cs) refl (a .0) (q .0) (q .1)
-    where
-      go :
-          (c : Checked) → checkQuery (h .relations) (h .arities) qs cs ≡ c → sound h ws ≡ true → rightLength qs ≡ true →
-          ifPassed c (answer.Done (length (rows h ws))) ≡ answer.Done k → Admitted k
-      go (read done s) p is-sound right d = record { is-sound = is-sound; right = right; scopes = s; passes = p; counted = cc }
-      go (refused r) p is-sound right d = let z : _≡_ {A = ℕ} 0 1 = cc in absurd (zero-not-one z)
-
-  -- a question that is not admitted is refused by every way of asking
-  pub admitted-refused : (lent : Lent) (r : ℕ) → admitted h ws qs cs ≡ answer.Refused r → askable h ws qs cs lent ≡ answer.Refused r
-  unfolding admitted askable
-  admitted-refused lent r d = go (sound h ws) (rightLength qs) (checkQuery (h .relations) (h .arities) qs cs) d
-    where
-      go :
-          (a b : Bool) (c : Checked) →
-          demand a (answer.Refused unsound) (demand b (answer.Refused bad-query-length) (ifPassed c (answer.Done (length (rows h ws))))) ≡ answer.Refused r →
-          demand a (answer.Refused unsound) (demand b (answer.Refused bad-query-length)
-          (ifPassed c (demand (hasPlace lent (length (cellsOf (rows h ws)))) (answer.Refused buffer-too-short) (answer.Done 0)))) ≡ answer.Refused r
-      go false b c d = d
-      go true false c d = d
-      go true true (read done s) d = let z : _≡_ {A = ℕ} 0 1 = cc in absurd (zero-not-one z)
-      go true true (refused q) d = d
+-- a question that is not admitted is refused by every way of asking
+pub admitted-refused :
+    (h : Header) (ws qs cs : List ℕ) (lent : Lent) (r : ℕ) → admitted h ws qs cs ≡ answer.Refused r → askable h ws qs cs lent ≡ answer.Refused r
+unfolding askable
+admitted-refused h ws qs cs lent r d = rw d refl
 
 -- the answer to a question that is refused, and to one that is not
 module _ (h : Header) (ws qs cs : List ℕ) (lent : Lent) (budget : ℕ) where
   pub refused-asked : (r : ℕ) → askable h ws qs cs lent ≡ answer.Refused r → Refused r ≡ ask h ws qs cs lent budget
   unfolding ask
-  refused-asked r e = sym (ap (λ (x : Answer). answeredBy x (within budget (outcomeOf (modelOf h ws cs) (formulaOf (h .arities) qs)))) e)
+  refused-asked r e = sym (ap (λ (x : Answer). answeredBy x (within budget (outcomeBy lent (modelOf h ws cs) (formulaOf (h .arities) qs)))) e)
 
   pub evaluated-asked :
       Asks h ws qs cs lent → evaluatedAs (within budget (outcomeOf (modelOf h ws cs) (formulaOf (h .arities) qs))) ≡ ask h ws qs cs lent budget
   unfolding ask
   evaluated-asked a =
-      sym (ap (λ (x : Answer). answeredBy x (within budget (outcomeOf (modelOf h ws cs) (formulaOf (h .arities) qs)))) (askable-done h ws qs cs lent a))
+      sym
+      (ap (λ (x : Answer). answeredBy x (within budget (outcomeBy lent (modelOf h ws cs) (formulaOf (h .arities) qs)))) (askable-done h ws qs cs lent a) ∙
+      ap (λ (o : Outcome). evaluatedAs (within budget o)) (outcome-by lent (modelOf h ws cs) (formulaOf (h .arities) qs)))
 
 -- the list that was lent
 module _ (h : Header) (ws qs cs buffer : List ℕ) where
@@ -152,7 +98,8 @@ module _ (h : Header) (ws qs cs buffer : List ℕ) where
       (count : ℕ) → Admitted h ws qs cs count → length buffer < length (cellsOf (rows h ws)) →
       askable h ws qs cs (list buffer) ≡ answer.Refused buffer-too-short
   unfolding askable
-  short-list count a short = rw (a .is-sound, a .right, a .passes, lt-leb (length (cellsOf (rows h ws))) (length buffer) short) refl
+  short-list count a short =
+      rw (← none-refused h ws qs cs (a .is-sound) (a .right) (a .scopes) (a .passes), lt-leb (length (cellsOf (rows h ws))) (length buffer) short) refl
 
   pub long-list : (count : ℕ) → Admitted h ws qs cs count → length (cellsOf (rows h ws)) ≤ length buffer → Asks h ws qs cs (list buffer)
   long-list count a long = record { is-sound = a .is-sound; right = a .right; scopes = a .scopes; passes = a .passes; room = le-leb _ _ long }
@@ -259,14 +206,13 @@ listed-ranged h ws qs table values e unflagged are =
     }
 
 -- the answer of the evaluation, with the arities as the array has them
-pub answered :
-    (h : Header) (ws qs cs : List ℕ) (lent : Lent) (budget : ℕ) → Asks h ws qs cs lent → (table : List ℕ) → Described h ws table →
+pub evaluated-top :
+    (h : Header) (ws qs cs : List ℕ) (budget : ℕ) (table : List ℕ) → Described h ws table →
     (r : Asked) → r ≡ evaluatedAs (within budget (eval (world (aritiesIn table) (take (h .used) ws)) (formulaOf (aritiesIn table) qs) (assignment cs))) →
-    r ≡ ask h ws qs cs lent budget
+    r ≡ evaluatedAs (within budget (outcomeOf (modelOf h ws cs) (formulaOf (h .arities) qs)))
 unfolding rows
-answered h ws qs cs lent budget a table d r is =
-    let same = ap (λ (ars : List ℕ). within budget (eval (world ars (take (h .used) ws)) (formulaOf ars qs) (assignment cs))) (d .arities) in
-    is ∙ ap evaluatedAs same ∙ evaluated-asked h ws qs cs lent budget a
+evaluated-top h ws qs cs budget table d r is =
+    is ∙ ap (λ (ars : List ℕ). evaluatedAs (within budget (eval (world ars (take (h .used) ws)) (formulaOf ars qs) (assignment cs)))) (d .arities)
 
 -- the values are the first words of the buffer that they were listed in
 pub listed-part : (vs buffer left : List ℕ) (n : ℕ) → n ≡ length vs → left ≡ overwrite vs buffer → (n ≤ length left) × (take n left ≡ vs)

@@ -10,7 +10,7 @@ use Rattle.calculus.specs.declared.answer.Answer.{Answer}
 use Rattle.calculus.specs.declared.answer.Answer.the-variants as answer
 use Rattle.calculus.specs.declared.truth.Truth.{Truth}
 use Rattle.calculus.specs.Demand.{demand}
-use Rattle.calculus.specs.Refusal.{unsound, buffer-too-short, bad-query-length}
+use Rattle.calculus.specs.Refusal.{buffer-too-short}
 use Rattle.calculus.specs.Row.{Row, cellsOf}
 use Rattle.calculus.specs.Eval.{Outcome}
 use Rattle.calculus.specs.Order.{_⊑_}
@@ -26,15 +26,17 @@ use Rattle.instance.proofs.Run.{fills-follow-model, candidate-cells}
 use Rattle.query.specs.Words.{nodeCount, rightLength}
 use Rattle.query.specs.Tree.{formulaOf}
 use Rattle.query.specs.Scope.{Scopes}
-use Rattle.query.specs.Check.{Checked, passed, checkQuery}
-use Rattle.calculus.specs.Reading.{refused, read}
+use Rattle.query.specs.Check.{passed, checkQuery}
+use Rattle.calculus.specs.Reading.{refused}
 use Rattle.query.proofs.Passed.{passed-inked, count-within, are-cells, same-candidate}
 use Rattle.answer.specs.declared.asked.Asked.the-variants.{Verdict, Refused}
 use Rattle.evaluate.specs.declared.evaluated.Evaluated.{Evaluated}
 use Rattle.evaluate.specs.declared.evaluated.Evaluated.the-variants as evaluated
 use Rattle.evaluate.specs.Within.{within}
-use Rattle.answer.specs.Ask.{ifPassed, evaluatedAs, answeredBy, Lent, list, none, hasPlace, askable, ask}
+use Rattle.answer.specs.Ask.{evaluatedAs, answeredBy, admitted, Lent, list, none, hasPlace, outcomeBy, ifDone, askable, ask}
 use Rattle.answer.specs.Ways.{NoShorter}
+use Rattle.answer.proofs.Admitted.{none-refused, admitted-done}
+use Rattle.answer.proofs.Ways.{outcome-by}
 use Rattle.answer.specs.Rerun.{DemandThree}
 use Rattle.evaluate.proofs.Budget.{verdict, was-verdict}
 use Rattle.calculus.proofs.Bools.{zero-not-one}
@@ -60,24 +62,22 @@ same-lent none = tt
 
 pub asks-done : (h : Header) (ws qs candidate : List ℕ) (lent : Lent) (k : ℕ) → askable h ws qs candidate lent ≡ answer.Done k → Asks h ws qs candidate lent
 unfolding askable
-asks-done h ws qs candidate lent k e =
-    let a = demand-done (sound h ws) unsound _ k e in
-    let q = demand-done (rightLength qs) bad-query-length _ k (a .1) in
-    go (checkQuery (h .relations) (h .arities) qs candidate) refl (a .0) (q .0) (q .1)
+asks-done h ws qs candidate lent k e = go (admitted h ws qs candidate) refl e
   where
     go :
-        (c : Checked) → checkQuery (h .relations) (h .arities) qs candidate ≡ c → sound h ws ≡ true → rightLength qs ≡ true →
-        ifPassed c (demand (hasPlace lent (length (cellsOf (rows h ws)))) (answer.Refused buffer-too-short) (answer.Done 0)) ≡ answer.Done k →
+        (a : Answer) → admitted h ws qs candidate ≡ a →
+        ifDone a (demand (hasPlace lent (length (cellsOf (rows h ws)))) (answer.Refused buffer-too-short) (answer.Done 0)) ≡ answer.Done k →
         Asks h ws qs candidate lent
-    go (read done s) p is-sound right d =
+    go (answer.Done m) p d =
+        let a = admitted-done h ws qs candidate m p in
         let r = demand-done (hasPlace lent (length (cellsOf (rows h ws)))) buffer-too-short (answer.Done 0) k d in
-        record { is-sound = is-sound; right = right; scopes = s; passes = p; room = r .0 }
-    go (refused r) p is-sound right d = let z : _≡_ {A = ℕ} 0 1 = cc in absurd (zero-not-one z)
+        record { is-sound = a .is-sound; right = a .right; scopes = a .scopes; passes = a .passes; room = r .0 }
+    go (answer.Refused r) p d = let z : _≡_ {A = ℕ} 0 1 = cc in absurd (zero-not-one z)
 
 pub askable-done : (h : Header) (ws qs candidate : List ℕ) (lent : Lent) → Asks h ws qs candidate lent → askable h ws qs candidate lent ≡ answer.Done 0
 unfolding askable
 askable-done h ws qs candidate lent a =
-    rw (a .is-sound, a .right, a .passes, a .room) refl
+    rw (← none-refused h ws qs candidate (a .is-sound) (a .right) (a .scopes) (a .passes), a .room) refl
 
 -- a verdict: nothing is refused, and the outcome is within the budget
 pub verdict-asked :
@@ -85,7 +85,8 @@ pub verdict-asked :
     Asks h ws qs candidate lent × (within budget (outcomeOf (modelOf h ws candidate) (formulaOf (h .arities) qs)) ≡ evaluated.Verdict t n)
 unfolding ask
 verdict-asked h ws qs candidate lent budget t n =
-    go (askable h ws qs candidate lent) refl (within budget (outcomeOf (modelOf h ws candidate) (formulaOf (h .arities) qs))) refl
+    go (askable h ws qs candidate lent) refl (within budget (outcomeBy lent (modelOf h ws candidate) (formulaOf (h .arities) qs)))
+    (ap (within budget) (sym (outcome-by lent (modelOf h ws candidate) (formulaOf (h .arities) qs))))
   where
     go :
         (a : Answer) → askable h ws qs candidate lent ≡ a →
@@ -108,7 +109,8 @@ pub asked-verdict :
 unfolding ask
 asked-verdict h ws qs candidate lent budget a fits =
     let o = outcomeOf (modelOf h ws candidate) (formulaOf (h .arities) qs) in
-    ap (λ (x : Answer). answeredBy x (within budget o)) (askable-done h ws qs candidate lent a) ∙ ap evaluatedAs (verdict budget o fits)
+    ap (λ (x : Answer). answeredBy x (within budget (outcomeBy lent (modelOf h ws candidate) (formulaOf (h .arities) qs)))) (askable-done h ws qs candidate lent a) ∙
+    ap (λ (o : Outcome). evaluatedAs (within budget o)) (outcome-by lent (modelOf h ws candidate) (formulaOf (h .arities) qs)) ∙ ap evaluatedAs (verdict budget o fits)
 
 -- a refusal is not a verdict
 pub not-refused : {t : Truth} {n r : ℕ} → Refused r ≡ Verdict t n → ⊥

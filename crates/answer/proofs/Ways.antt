@@ -2,18 +2,24 @@
 use Prim.Native.Nat.{ℕ}
 use mathlib.Core.Path.{_≡_, refl, sym, ap, _∙_}
 use mathlib.Core.Bool.{Bool, true, false}
+use mathlib.Core.List.{List}
 use lib.ListN.{length}
 use native.Mathlib.Omega.{arith}
+use Rattle.calculus.specs.declared.answer.Answer.{Answer}
 use Rattle.calculus.specs.declared.answer.Answer.the-variants as answer
 use Rattle.calculus.specs.Demand.{demand}
 use Rattle.calculus.specs.Listed.{listed}
-use Rattle.calculus.specs.Model.{outcomeOf}
+use Rattle.calculus.specs.Closed.{closedOver}
+use Rattle.calculus.specs.Eval.{eval}
+use Rattle.calculus.specs.Formula.{Formula, assignment}
+use Rattle.calculus.specs.Model.{Model, outcomeOf}
 use Rattle.calculus.specs.Reading.{refused, read, refusedIn}
 use Rattle.calculus.specs.Refusal.{unsound, buffer-too-short, bad-query-length}
 use Rattle.calculus.specs.Row.{cellsOf}
 use Rattle.calculus.proofs.Bools.{false-not-true}
 use Rattle.instance.specs.Run.{modelOf}
 use Rattle.instance.specs.Sound.{sound, rows}
+use Rattle.range.proofs.Walked.{walked-values}
 use Rattle.query.specs.Check.{Checked, checkQuery, checkNumbers}
 use Rattle.query.specs.Tree.{formulaOf}
 use Rattle.query.specs.Words.{rightLength}
@@ -22,39 +28,43 @@ use Rattle.evaluate.specs.declared.evaluated.Evaluated.{Evaluated}
 use Rattle.evaluate.specs.declared.evaluated.Evaluated.the-variants as evaluated
 use Rattle.evaluate.specs.Within.{within}
 use Rattle.answer.specs.declared.asked.Asked.the-variants.{Refused}
-use Rattle.answer.specs.Ask.{ifPassed, answeredBy, list, hasPlace, askable, ask}
+use Rattle.answer.specs.Ask.{ifPassed, evaluatedAs, answeredBy, admitted, Lent, list, none, hasPlace, outcomeBy, ifDone, askable, ask}
 use Rattle.answer.specs.Numbers.{askedNumber}
 use Rattle.answer.specs.Ways.{WaysAgree, NeverShort}
 
--- they differ in one demand: the list's
+-- the walked values are the plot's, so by either way the outcome is that of the rules
+pub outcome-by : (lent : Lent) (b : Model) (f : Formula) → outcomeBy lent b f ≡ outcomeOf b f
+outcome-by (list buffer) b f = refl
+outcome-by none b f = ap (λ (range : List ℕ). eval (closedOver range (b .rows)) f (assignment (b .candidate))) (walked-values (b .rows))
+
+-- of the refusals they differ in one: the list's
 pub ways-agree : WaysAgree
 unfolding ask askable
 ways-agree h ws qs cs buffer budget not-short =
-    go (sound h ws) (rightLength qs) (checkQuery (h .relations) (h .arities) qs cs) (hasPlace (list buffer) (length (cellsOf (rows h ws))))
-    (within budget (outcomeOf (modelOf h ws cs) (formulaOf (h .arities) qs))) not-short
+    go (admitted h ws qs cs) (hasPlace (list buffer) (length (cellsOf (rows h ws))))
+    (ap (within budget) (outcome-by none (modelOf h ws cs) (formulaOf (h .arities) qs))) not-short
   where
     go :
-        (a l : Bool) (c : Checked) (b : Bool) (e : Evaluated) →
-        (answeredBy (demand a (answer.Refused unsound) (demand l (answer.Refused bad-query-length) (ifPassed c (demand b (answer.Refused buffer-too-short) (answer.Done 0))))) e
-        ≡ Refused buffer-too-short → ⊥) →
-        answeredBy (demand a (answer.Refused unsound) (demand l (answer.Refused bad-query-length) (ifPassed c (answer.Done 0)))) e ≡
-        answeredBy (demand a (answer.Refused unsound) (demand l (answer.Refused bad-query-length) (ifPassed c (demand b (answer.Refused buffer-too-short) (answer.Done 0))))) e
-    go false l c b e n = refl
-    go true false c b e n = refl
-    go true true (read done s) true e n = refl
-    go true true (read done s) false e n = absurd (n refl)
-    go true true (refused r) b e n = refl
+        (a : Answer) (b : Bool) {e e′ : Evaluated} → e ≡ e′ →
+        (answeredBy (ifDone a (demand b (answer.Refused buffer-too-short) (answer.Done 0))) e′ ≡ Refused buffer-too-short → ⊥) →
+        answeredBy (ifDone a (answer.Done 0)) e ≡ answeredBy (ifDone a (demand b (answer.Refused buffer-too-short) (answer.Done 0))) e′
+    go (answer.Done n) true same no-45 = ap evaluatedAs same
+    go (answer.Done n) false same no-45 = absurd (no-45 refl)
+    go (answer.Refused r) b same no-45 = refl
 
 -- 45 is none of the numbers that are left
 pub never-short : NeverShort
-unfolding ask askable listed
+unfolding ask askable admitted listed
 never-short h ws qs cs budget short =
     go (sound h ws) (rightLength qs) (checkQuery (h .relations) (h .arities) qs cs) (query-numbered (h .relations) (h .arities) qs cs)
-    (within budget (outcomeOf (modelOf h ws cs) (formulaOf (h .arities) qs))) (ap askedNumber short)
+    (within budget (outcomeBy none (modelOf h ws cs) (formulaOf (h .arities) qs))) (ap askedNumber short)
   where
     go :
         (a l : Bool) (c : Checked) → refusedIn checkNumbers c ≡ true → (e : Evaluated) →
-        askedNumber (answeredBy (demand a (answer.Refused unsound) (demand l (answer.Refused bad-query-length) (ifPassed c (answer.Done 0)))) e) ≡ 45 → ⊥
+        askedNumber
+        (answeredBy
+        (ifDone (demand a (answer.Refused unsound) (demand l (answer.Refused bad-query-length) (ifPassed c (answer.Done (length (rows h ws)))))) (answer.Done 0))
+        e) ≡ 45 → ⊥
     go false l c p e n = omega (arith, n)
     go true false c p e n = omega (arith, n)
     go true true (read done s) p (evaluated.Verdict t k) n = omega (arith, n)

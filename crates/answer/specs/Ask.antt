@@ -9,12 +9,16 @@ use Rattle.calculus.specs.declared.answer.Answer.{Answer}
 use Rattle.calculus.specs.declared.answer.Answer.the-variants as answer
 use Rattle.calculus.specs.Answer.{after}
 use Rattle.calculus.specs.Refusal.{unsound, buffer-too-short, budget-spent, bad-query-length}
-use Rattle.calculus.specs.Row.{cellsOf}
+use Rattle.calculus.specs.Row.{Row, cellsOf}
 use Rattle.calculus.specs.Domain.{domain}
-use Rattle.calculus.specs.Model.{outcomeOf}
+use Rattle.calculus.specs.Closed.{closedOver}
+use Rattle.calculus.specs.Eval.{Outcome, eval}
+use Rattle.calculus.specs.Formula.{Formula, assignment}
+use Rattle.calculus.specs.Model.{Model}
 use Rattle.instance.specs.declared.header.Header.{Header}
 use Rattle.instance.specs.Sound.{sound, rows}
 use Rattle.instance.specs.Run.{modelOf}
+use Rattle.range.specs.Walked.{walkedValues}
 use Rattle.query.specs.Tree.{formulaOf}
 use Rattle.query.specs.Check.{Checked, checkQuery}
 use Rattle.calculus.specs.Reading.{refused, read}
@@ -42,7 +46,7 @@ abbrev pub answeredBy : Answer → Evaluated → Asked
 answeredBy (answer.Done n) e = evaluatedAs e
 answeredBy (answer.Refused r) e = ask-answer.Refused r
 
--- the refusals that do not turn on what is lent, in their order; the number of rows if there is none
+-- the refusals that do not depend on what is lent, in their order; the number of rows if there is none
 unfoldable pub admitted : Header → (ws qs candidate : List ℕ) → Answer
 admitted h ws qs candidate =
     demand (sound h ws) (answer.Refused unsound)
@@ -59,17 +63,29 @@ abbrev pub hasPlace : Lent → ℕ → Bool
 hasPlace (list buffer) n = leb n (length buffer)
 hasPlace none n = true
 
+-- Where "some" and "every" get the plot's values from: the list has them; or, document 02, "finds the plot's values by walking the rows and passing over any
+-- cell that stood earlier".
+abbrev pub rangeOf : Lent → List Row → List ℕ
+rangeOf (list buffer) rs = domain rs
+rangeOf none rs = walkedValues rs
+
+-- the question's outcome with that range
+abbrev pub outcomeBy : Lent → Model → Formula → Outcome
+outcomeBy lent b f = eval (closedOver (rangeOf lent (b .rows)) (b .rows)) f (assignment (b .candidate))
+
+-- goes on only if nothing is refused so far
+abbrev pub ifDone : Answer → Answer → Answer
+ifDone (answer.Done n) a = a
+ifDone (answer.Refused r) a = answer.Refused r
+
 module _ (h : Header) (ws qs candidate : List ℕ) (lent : Lent) where
   -- the refusals before the evaluation
   unfoldable pub askable : Answer
   askable =
-      demand (sound h ws) (answer.Refused unsound)
-      (demand (rightLength qs) (answer.Refused bad-query-length)
-      (ifPassed (checkQuery (h .relations) (h .arities) qs candidate)
-      (demand (hasPlace lent (length (cellsOf (rows h ws)))) (answer.Refused buffer-too-short) (answer.Done 0))))
+      ifDone (admitted h ws qs candidate) (demand (hasPlace lent (length (cellsOf (rows h ws)))) (answer.Refused buffer-too-short) (answer.Done 0))
 
   unfoldable pub ask : ℕ → Asked
-  ask budget = answeredBy askable (within budget (outcomeOf (modelOf h ws candidate) (formulaOf (h .arities) qs)))
+  ask budget = answeredBy askable (within budget (outcomeBy lent (modelOf h ws candidate) (formulaOf (h .arities) qs)))
 
 -- "After a verdict or number 46 it holds the plot's values first, and its other words keep their content. No other refusal touches it."
 unfoldable pub askedBuffer : Header → (ws qs candidate buffer : List ℕ) → List ℕ

@@ -38,7 +38,7 @@ pub record Repeat (h h′ : Header) (ws ws′ : List ℕ) : Type 0 where
   pub once : rows h′ ws′ ≡ before ++ (row ∷ (between ++ behind))
 
 -- A verdict of the first instance is also the second's, with the same question, candidate and budget, by the same way of asking. A verdict of the second is
--- also the first's, if a list that is lent is long enough for the first and the budget suffices.
+-- also the first's, if the list, where one is lent, is long enough for the first and the budget suffices.
 pub record MeansOne (h h′ : Header) (ws ws′ qs candidate : List ℕ) (lent : Lent) (budget : ℕ) (t : Truth) (n : ℕ) : Type 0 where
   pub to-second : ask h ws qs candidate lent budget ≡ Verdict t n → SameVerdict (ask h′ ws′ qs candidate lent budget) t n
   pub to-first :

@@ -10,7 +10,7 @@ use instance::scan::scan;
 use query::check::check;
 use query::words::right_length;
 
-// The first refusal that does not turn on what is lent; the number of rows if there is none.
+// The first refusal that does not depend on what is lent; the number of rows if there is none.
 pub fn admit(header: Header, instance: &[u32], query: &[u32], candidate: &[u32]) -> Answer
     ensures { λ r. ⌜ r ≡ admitted header (now (instance .entry)) (now (query .entry)) (now (candidate .entry)) ⌝ }
 {

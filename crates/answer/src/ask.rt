@@ -1,9 +1,14 @@
 // Asking a question of an instance, with a list for its values.
 ghost use mathlib.Core.Path.{_≡_};
+ghost use Prim.Native.Nat.{ℕ};
+ghost use Rattle.calculus.specs.Domain.{domain};
 ghost use Rattle.calculus.specs.Model.{outcomeOf};
 ghost use Rattle.instance.specs.Run.{modelOf};
+ghost use Rattle.instance.specs.Sound.{rows};
+ghost use Rattle.evaluate.specs.Within.{within};
 ghost use Rattle.query.specs.Tree.{formulaOf};
-ghost use Rattle.answer.specs.Ask.{ask as askOf, askedBuffer, list};
+ghost use Rattle.answer.specs.Ask.{ask as askOf, askedBuffer, evaluatedAs, list};
+ghost use Rattle.answer.specs.Admitted.{Admitted};
 ghost use Rattle.answer.specs.Numbers.{TellsVerdict};
 use super::admit::admit;
 use super::asked::Asked;
@@ -13,6 +18,26 @@ use calculus::refusal::BUFFER_TOO_SHORT;
 use domain::list_values;
 use instance::header::Header;
 use known::describe;
+
+// Answers by the list of the values. The array is of this function, so that it can take the place on the stack that the listing has left.
+fn answer_listed(
+    header: Header,
+    instance: &[u32],
+    query: &[u32],
+    values: &[u32],
+    candidate: &[u32],
+    budget: u32,
+) -> Asked
+    requires { ⌜ ((count : ℕ) × Admitted header (now instance) (now query) (now candidate) count) ⌝ }
+    requires { ⌜ now values ≡ domain (rows header (now instance)) ⌝ }
+    ensures { λ r. ⌜ r ≡ evaluatedAs (within budget (outcomeOf (modelOf header (now (instance .entry)) (now (candidate .entry))) (formulaOf (header .arities) (now (query .entry))))) ⌝ }
+{
+    let used = header.used as usize;
+    let arities = header.arities;
+    let mut known = [0u32; 144];
+    describe(&instance[..used], &arities, &mut known);
+    answer_top(&instance[..used], query, &known, values, candidate, budget)
+}
 
 pub fn ask(
     header: Header,
@@ -35,16 +60,7 @@ pub fn ask(
                 return Asked::Refused(BUFFER_TOO_SHORT);
             }
             let n = list_values(&instance[..used], &arities, buffer);
-            let mut known = [0u32; 144];
-            describe(&instance[..used], &arities, &mut known);
-            answer_top(
-                &instance[..used],
-                query,
-                &known,
-                &buffer[..n],
-                candidate,
-                budget,
-            )
+            answer_listed(header, instance, query, &buffer[..n], candidate, budget)
         }
     }
 }

@@ -47,10 +47,14 @@ unfoldable pub examined : List (List ℕ) → List ℕ → ℕ
 examined ts row = upTo (identical row) ts
 
 -- "a kind 1 node costs 1 plus" the rows examined. The closed world of Libkin's paper: a row that unifies with none of them is false.
-abbrev pub closed : List Row → Structure
-closed rs = record {
+abbrev pub closedOver : List ℕ → List Row → Structure
+closedOver range rs = record {
   holds = λ r row. record { truth = stands (tuples r rs) row; cost = 1 + examined (tuples r rs) row };
   equals = equality;
   start = unit;
-  range = domain rs;
+  range = range;
 }
+
+-- "some" and "every" range over the active domain
+abbrev pub closed : List Row → Structure
+closed rs = closedOver (domain rs) rs

@@ -33,7 +33,7 @@ pub record Ready (ars ws qs table : List ℕ) : Type 0 where
   pub counted : (r : ℕ) → r < given .relations → countIn table r ≡ length (tuples r (rowsFrom ars 0 ws))
   pub size : length table ≡ knownWords
 
--- what a walk does not pass over is the active domain; this is asked only if a node ranges over values
+-- what a walk does not pass over is the active domain; this is required only if a node ranges over values
 pub record Ranged (ars ws qs table values : List ℕ) : Type 0 where
   pub short : length values ≤ maxWords
   pub walked : (i : ℕ) (j : Junction) → i < nodeCount qs → kindOf (wordAt qs i 0) ≡ ranges j → unpassed table 0 values ≡ world ars ws .range

@@ -1,19 +1,20 @@
 -- What evaluation knows of an instance besides its words, in one array: the number of rows of each of the eight relations, their arities, and then a flag
 -- for each place of the slice that quantifiers walk. A walk passes over the places whose flag stands.
-use Prim.Native.Nat.{ℕ, suc, _+_, _/_, _%_, _≤_, _<_}
+use Prim.Native.Nat.{ℕ, suc, _+_, _-_, _/_, _%_, _^_, _≤_, _<_}
 use mathlib.Core.Path.{_≡_}
 use mathlib.Core.Bool.{Bool, true, false, cond}
 use mathlib.Core.List.{List, [], _∷_}
+use lib.Count.{trailingZeros}
 use lib.ListN.{getD, take, drop}
 use Rattle.calculus.specs.Bit.{bitAt}
-use Rattle.instance.specs.Header.{maxRelations}
+use Rattle.instance.specs.Header.{maxRelations, maxWords}
 
 -- where the flags begin, their words (a flag for each of 4,096 places, 32 to a word), and the length of the array
 abbrev pub flagsFrom : ℕ
-flagsFrom = 16
+flagsFrom = maxRelations + maxRelations
 
 abbrev pub flagWords : ℕ
-flagWords = 128
+flagWords = maxWords / 32
 
 abbrev pub knownWords : ℕ
 knownWords = flagsFrom + flagWords
@@ -32,7 +33,11 @@ unfoldable pub unpassed : List ℕ → ℕ → List ℕ → List ℕ
 unpassed known p [] = []
 unpassed known p (w ∷ ws) = cond (flagAt known p) (unpassed known (suc p) ws) (w ∷ unpassed known (suc p) ws)
 
--- r places from place p on are passed over, at most the 32 of a word; 0 says that p is not
+-- how many flags stand one after another from place p on, as far as its word goes: as many as the word's complement has zeros there
+abbrev pub gapAt : List ℕ → ℕ → ℕ
+gapAt known p = trailingZeros 32 (4294967295 - getD known (flagsFrom + p / 32) 0 / 2 ^ (p % 32))
+
+-- what that means: r places from place p on are passed over, at most the 32 of a word; 0 says that p is not
 pub record Gap (known : List ℕ) (p r : ℕ) : Type 0 where
   pub none : r ≡ 0 → flagAt known p ≡ false
   pub all : (q : ℕ) → q < r → flagAt known (p + q) ≡ true

@@ -4,7 +4,7 @@ ghost use Prim.Native.Nat.{_-_, _/_, _^_, _<_};
 ghost use lib.Count.{trailingZeros};
 ghost use lib.ListN.{length};
 ghost use Rattle.instance.specs.Header.{maxWords};
-ghost use Rattle.known.specs.Known.{knownWords, flagAt, Gap};
+ghost use Rattle.known.specs.Known.{knownWords, flagAt, gapAt, Gap};
 
 // The flags begin behind the counts and the arities.
 pub const FLAGS: usize = 16;
@@ -21,7 +21,7 @@ pub fn passed(known: &[u32; 144], place: usize) -> bool
     (known[FLAGS + place / 32] >> v) % 2 == 1
 }
 
-// How many bits of a word are set from bit v on without a break.
+// How many bits of a word are set from bit v on without a break. That the word has 32 bits is promised too, for the law on gaps.
 fn run(flags: u32, v: u32) -> usize
     requires { ⌜ v < 32 ⌝ }
     ensures { λ r. ⌜ (flags < 4294967296) × (r ≡ trailingZeros 32 (4294967295 - flags / 2 ^ v)) ⌝ }
@@ -32,7 +32,8 @@ fn run(flags: u32, v: u32) -> usize
 // How many places from one on are passed over, as far as its flag word tells: 0 if it is not passed over itself.
 pub fn gap(known: &[u32; 144], place: usize) -> usize
     requires { ⌜ (length (now known) ≡ knownWords) × (place < maxWords) ⌝ }
-    ensures { λ r. ⌜ Gap (now (known .entry)) place r ⌝ }
+    ensures length { λ r. ⌜ r ≡ gapAt (now (known .entry)) place ⌝ }
+    ensures gap { λ r. ⌜ Gap (now (known .entry)) place r ⌝ }
 {
     run(known[FLAGS + place / 32], (place % 32) as u32)
 }

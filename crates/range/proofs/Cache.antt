@@ -10,19 +10,18 @@ use lib.ListN.{length, getD, set, replicate, length-set, length-replicate, getD-
 use lib.Seq.{getD-set-same, getD-set-other}
 use Rattle.calculus.specs.Listed.{listed}
 use Rattle.calculus.proofs.Listed.{listed-left}
-use Rattle.domain.specs.Bucket.{buckets, bucketOf}
 use Rattle.known.specs.Known.{unpassed}
-use Rattle.range.specs.Cache.{Head, Cached}
+use Rattle.range.specs.Cache.{headCount, headOf, Head, Cached}
 use Rattle.range.specs.Flagged.{Flagged, stoodBefore}
 use Rattle.range.proofs.Places.{stood-next}
 use Rattle.range.proofs.Walked.{listed-snoc}
 
-pub cached-starts : (known ws : List ℕ) → Cached (replicate buckets 0) ws (stoodBefore known ws 0) 0
+pub cached-starts : (known ws : List ℕ) → Cached (replicate headCount 0) ws (stoodBefore known ws 0) 0
 unfolding unpassed listed
 cached-starts known ws = record {
-  size = length-replicate {A = ℕ} buckets 0;
+  size = length-replicate {A = ℕ} headCount 0;
   heads-of = λ c.
-      rw (getD-replicate {A = ℕ} buckets (bucketOf c) 0 0 (omega arith))
+      rw (getD-replicate {A = ℕ} headCount (headOf c) 0 0 (omega arith))
       (record { none = λ e. refl; within = omega arith; stood = λ l. absurd (omega arith) });
 }
 
@@ -62,29 +61,29 @@ module _ {heads ws vs : List ℕ} {i : ℕ} (s : Cached heads ws vs i) where
   abbrev later : List ℕ
   later = cond (listed cell vs) vs (vs ++ cell ∷ [])
 
-  head-more : (d : ℕ) (b : Bool) → eqb (bucketOf d) (bucketOf cell) ≡ b → Head ws later (i + 1) d (getD (set heads (bucketOf cell) (i + 1)) (bucketOf d) 0)
+  head-more : (d : ℕ) (b : Bool) → eqb (headOf d) (headOf cell) ≡ b → Head ws later (i + 1) d (getD (set heads (headOf cell) (i + 1)) (headOf d) 0)
   head-more d true q =
       let back : i + 1 - 1 ≡ i = omega arith in
-      rw (eqb-true (bucketOf d) (bucketOf cell) q, getD-set-same heads (bucketOf cell) (i + 1) 0 (omega (arith, s .size)))
+      rw (eqb-true (headOf d) (headOf cell) q, getD-set-same heads (headOf cell) (i + 1) 0 (omega (arith, s .size)))
       (record { none = λ e. absurd (omega arith); within = omega arith; stood = λ l. rw back (grown-here vs cell (listed cell vs) refl) })
   head-more d false q =
-      let ne = eqb-false (bucketOf d) (bucketOf cell) q in
+      let ne = eqb-false (headOf d) (headOf cell) q in
       let h = s .heads-of d in
       let w = h .within in
-      rw (getD-set-other heads (bucketOf cell) (bucketOf d) (i + 1) 0 ne)
+      rw (getD-set-other heads (headOf cell) (headOf d) (i + 1) 0 ne)
       (record {
-        none = λ e. grown-other vs cell d (λ p. ne (ap bucketOf (sym p))) (listed cell vs) ∙ h .none e;
+        none = λ e. grown-other vs cell d (λ p. ne (ap headOf (sym p))) (listed cell vs) ∙ h .none e;
         within = omega arith;
         stood = λ l. grown-left vs cell _ (h .stood l) (listed cell vs);
       })
 
-  cached-more : Cached (set heads (bucketOf cell) (i + 1)) ws later (i + 1)
+  cached-more : Cached (set heads (headOf cell) (i + 1)) ws later (i + 1)
   cached-more = record {
-    size = length-set heads (bucketOf cell) (i + 1) ∙ s .size;
-    heads-of = λ d. head-more d (eqb (bucketOf d) (bucketOf cell)) refl;
+    size = length-set heads (headOf cell) (i + 1) ∙ s .size;
+    heads-of = λ d. head-more d (eqb (headOf d) (headOf cell)) refl;
   }
 
 pub cached-cell :
-    {heads known after ws : List ℕ} {i : ℕ} (bucket : ℕ) → bucket ≡ bucketOf (getD ws i 0) → i < length ws → Cached heads ws (stoodBefore known ws i) i →
+    {heads known after ws : List ℕ} {i : ℕ} (bucket : ℕ) → bucket ≡ headOf (getD ws i 0) → i < length ws → Cached heads ws (stoodBefore known ws i) i →
     Flagged known i (listed (getD ws i 0) (stoodBefore known ws i)) after → Cached (set heads bucket (i + 1)) ws (stoodBefore after ws (i + 1)) (i + 1)
 cached-cell {ws = ws} bucket e l s f = rw (e, stood-next ws l f) (cached-more s)

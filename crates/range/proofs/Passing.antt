@@ -10,12 +10,11 @@ use lib.ListN.{length, getD, take, drop, replicate}
 use lib.Seq.{drop-drop, drop-length, getD-drop}
 use Rattle.calculus.specs.Listed.{listed}
 use Rattle.calculus.proofs.Lists.{drop-step}
-use Rattle.domain.specs.Bucket.{buckets}
 use Rattle.instance.specs.Header.{arityOf}
 use Rattle.instance.specs.Rows.{wordsWellFormed}
 use Rattle.instance.proofs.Rows.{at-row, at-cell}
 use Rattle.known.specs.Known.{flagsFrom, flagAt, unpassed}
-use Rattle.range.specs.Cache.{Cached}
+use Rattle.range.specs.Cache.{headCount, Cached}
 use Rattle.range.specs.Flagged.{Flagged, stoodBefore}
 use Rattle.range.specs.Walked.{passes}
 use Rattle.range.proofs.Cache.{cached-starts, cached-relation}
@@ -56,7 +55,7 @@ pub record Passing (n : ℕ) (ars ws before known heads : List ℕ) (left i : �
 
 pub passing-starts :
     (n : ℕ) (ars ws known : List ℕ) → wordsWellFormed n ars 0 ws ≡ true → ((q : ℕ) → flagAt known q ≡ false) →
-    Passing n ars ws known known (replicate buckets 0) 0 0
+    Passing n ars ws known known (replicate headCount 0) 0 0
 unfolding unpassed
 passing-starts n ars ws known e none = record {
   earlier = [];

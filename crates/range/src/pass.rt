@@ -42,7 +42,7 @@ fn stood(known: &[u32; 144], words: &[u32], cell: u32) -> bool
     false
 }
 
-// Whether a cell stood before a place. The head of its bucket often tells; only if the head is another cell are the words scanned.
+// Whether a cell stood before a place. The head that the cell shares with others often tells; only if another cell has it are the words scanned.
 fn stood_earlier(words: &[u32], known: &[u32; 144], place: usize, cell: u32, head: usize) -> bool
     requires { ⌜ (length (now known) ≡ knownWords) × (place ≤ length (now words)) × (length (now words) ≤ maxWords) ⌝ }
     requires { ⌜ Head (now words) (stoodBefore (now known) (now words) place) place cell head ⌝ }
@@ -57,15 +57,15 @@ fn stood_earlier(words: &[u32], known: &[u32; 144], place: usize, cell: u32, hea
     stood(known, &words[..place], cell)
 }
 
-// Passes over the cell at a place if it stood earlier, and makes the place the head of the cell's bucket.
-fn pass_again(words: &[u32], known: &mut [u32; 144], heads: &mut [u16; 1024], place: usize)
+// Passes over the cell at a place if it stood earlier, and puts its place into the cell's head.
+fn pass_again(words: &[u32], known: &mut [u32; 144], heads: &mut [u16; 512], place: usize)
     requires { ⌜ (length (now known) ≡ knownWords) × (place < length (now words)) × (length (now words) ≤ maxWords) × (flagAt (now known) place ≡ false) ⌝ }
     requires { ⌜ Cached (now heads) (now words) (stoodBefore (now known) (now words) place) place ⌝ }
     ensures flags { λ _. ⌜ Flagged (now (known .entry)) place (listed (getD (now (words .entry)) place 0) (stoodBefore (now (known .entry)) (now (words .entry)) place)) (now (known .exit)) ⌝ }
     ensures cached { λ _. ⌜ Cached (now (heads .exit)) (now (words .entry)) (stoodBefore (now (known .exit)) (now (words .entry)) (place + 1)) (place + 1) ⌝ }
 {
     let cell = words[place];
-    let bucket = bucket_of(cell);
+    let bucket = bucket_of(cell) / 2;
     let head = heads[bucket] as usize;
     heads[bucket] = (place + 1) as u16;
     if stood_earlier(words, known, place, cell, head) {
@@ -80,10 +80,11 @@ pub fn pass_over(words: &[u32], known: &mut [u32; 144])
     ensures kept { λ _. ⌜ (length (now (known .exit)) ≡ knownWords) × (take flagsFrom (now (known .exit)) ≡ take flagsFrom (now (known .entry))) ⌝ }
     ensures flags { λ _. ⌜ ((p : ℕ) → flagAt (now (known .exit)) p ≡ getD (passes (aritiesIn (now (known .entry))) [] 0 (now (words .entry))) p false) ⌝ }
 {
-    let mut heads = [0u16; 1024];
+    let mut heads = [0u16; 512];
     let mut left: u32 = 0;
-    let mut i = 0;
-    while i < words.len() {
+    let mut more = words.len();
+    while 0 < more {
+        let i = words.len() - more;
         if left == 0 {
             left = arity_in(known, words[i] as usize);
             pass(known, i);
@@ -91,6 +92,6 @@ pub fn pass_over(words: &[u32], known: &mut [u32; 144])
             pass_again(words, known, &mut heads, i);
             left -= 1;
         }
-        i += 1;
+        more -= 1;
     }
 }

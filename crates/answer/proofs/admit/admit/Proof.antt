@@ -14,7 +14,7 @@ use Rattle.instance.specs.Sound.{sound, scanned}
 use Rattle.instance.proofs.Sound.{scanned-sound, scanned-unsound, scanned-rows, sound-gives}
 use Rattle.query.specs.Words.{rightLength}
 use Rattle.query.proofs.Passed.{passed-number}
-use Rattle.answer.proofs.AskLaws.{unsound-first, length-second, check-third, none-refused}
+use Rattle.answer.proofs.Admitted.{unsound-first, length-second, check-third, none-refused}
 use Rattle.answer.proofs.admit.admit.Statement.{statement}
 use Rattle.answer.proofs.admit.admit.Tie as tie
 

@@ -1,6 +1,6 @@
--- `answer::ask::ask` meets its contract: if nothing is refused, the values are listed, the instance described and the top node evaluated. Assumes nothing.
+-- `answer::ask::ask` meets its contract: if nothing is refused, the values are listed, and the question is answered by the list. Assumes nothing.
 use Prim.Native.Nat.{ℕ, _+_, _≤_}
-use mathlib.Core.Path.{_≡_, refl, sym, _∙_}
+use mathlib.Core.Path.{_≡_, sym, _∙_}
 use mathlib.Core.List.{List}
 use native.Mathlib.Omega.{arith}
 use borrow.Author.Needs.{needs}
@@ -20,12 +20,14 @@ use Rattle.instance.specs.Sound.{rows}
 use Rattle.instance.proofs.Sound.{Sound, sound-gives}
 use Rattle.query.specs.Tree.{formulaOf}
 use Rattle.answer.specs.Ask.{admitted, askable, ask, askedBuffer, list}
+use Rattle.answer.specs.Admitted.{Admitted}
 use Rattle.answer.specs.Numbers.{TellsVerdict}
 use Rattle.answer.specs.declared.asked.Asked.{Asked}
 use Rattle.answer.specs.declared.asked.Asked.the-variants.{Refused}
 use Rattle.answer.proofs.RerunLaws.{Asks}
-use Rattle.answer.proofs.AskLaws.{Admitted, admitted-done, admitted-refused, refused-asked, refused-buffer, evaluated-buffer, short-list, long-list, cells-count}
-use Rattle.answer.proofs.AskLaws.{Described, described, described-unflagged, evaluable, listed-ranged, listed-part, answered}
+use Rattle.answer.proofs.Admitted.{admitted-done}
+use Rattle.answer.proofs.AskLaws.{admitted-refused, refused-asked, refused-buffer, evaluated-asked, evaluated-buffer, short-list, long-list, cells-count}
+use Rattle.answer.proofs.AskLaws.{listed-part}
 use Rattle.answer.proofs.Told.{ask-told}
 use Rattle.answer.proofs.ask.ask.Statement.{statement}
 use Rattle.answer.proofs.ask.ask.Tie as tie
@@ -121,20 +123,6 @@ module _ (c : tie.After-buffer) where
   are-listed : (c .before .list-values .result ≤ length left) × (take (c .before .list-values .result) left ≡ values)
   are-listed = listed-part values (buffer begins) left (c .before .list-values .result) (c .before .list-values .ensures .0) (c .before .list-values .ensures .1)
 
--- after the instance was described
-module _ (c : tie.After-describe) where
-  abbrev listed : tie.After-buffer
-  listed = c .before .before .before .before .before
-
-  abbrev found : tie.After-arities
-  found = first (tested listed)
-
-  abbrev table : List ℕ
-  table = c .describe .last .1 .1 .0
-
-  is-described : Described (h (at found)) (ws (at found)) table
-  is-described = described (h (at found)) (ws (at found)) table (eight found) (c .describe .ensures)
-
 admit-requires : tie.Need-admit-requires
 admit-requires c κs = search needs
 
@@ -166,29 +154,15 @@ list-values-requires : tie.Need-list-values-requires
 unfolding rows
 list-values-requires c κs = let t = c .before .before .before in (lent (first t), long t)
 
-slice-aggregate-describe : tie.Need-slice-aggregate-describe
-slice-aggregate-describe c = sym (given (first (tested (c .before .before))) .in-use)
+slice-reshare-prefix-answer-listed : tie.Need-slice-reshare-prefix-answer-listed
+slice-reshare-prefix-answer-listed c = are-listed (c .before) .0
 
-describe-requires : tie.Need-describe-requires
-describe-requires c κs = let f = first (tested (c .before .before .before .before)) in (lent f, eight f, refl)
+slice-aggregate-answer-listed : tie.Need-slice-aggregate-answer-listed
+slice-aggregate-answer-listed c = sym (length-take-le _ _ (are-listed (c .before .before) .0))
 
-slice-aggregate-answer-top : tie.Need-slice-aggregate-answer-top
-slice-aggregate-answer-top c = sym (given (found (c .before)) .in-use)
-
-slice-reshare-prefix-answer-top : tie.Need-slice-reshare-prefix-answer-top
-slice-reshare-prefix-answer-top c = are-listed (listed (c .before .before)) .0
-
-slice-aggregate-answer-top-2 : tie.Need-slice-aggregate-answer-top-2
-slice-aggregate-answer-top-2 c = sym (length-take-le _ _ (are-listed (listed (c .before .before .before)) .0))
-
-answer-top-requires : tie.Need-answer-top-requires
-answer-top-requires c κs =
-    let d = c .before .before .before in
-    let f = found d in
-    let b = at f in
-    let unflagged = described-unflagged (h b) (ws b) (table d) (eight f) (d .describe .ensures) in
-    evaluable (h b) (ws b) (qs b) (cs b) (count f) (passes f) (eight f) (table d) _ (is-described d)
-    (listed-ranged (h b) (ws b) (qs b) (table d) _ (passes f .is-sound) unflagged (are-listed (listed d) .1))
+answer-listed-requires : tie.Need-answer-listed-requires
+unfolding rows
+answer-listed-requires c κs = let l = c .before .before in let f = first (tested l) in ((count f, passes f), are-listed l .1)
 
 returns-2 : tie.Need-returns-2
 returns-2 c =
@@ -201,12 +175,12 @@ same-length c = search needs
 returns-3 : tie.Need-returns-3
 unfolding rows
 returns-3 c =
-    let d = c .before .before .before .before in
-    let t = tested (listed d) in
-    let b = at (found d) in
+    let l = c .before .before .before in
+    let t = tested l in
+    let b = begins l in
     told b
-    (answered (h b) (ws b) (qs b) (cs b) (list (buffer b)) (budget b) (asks t) (table d) (is-described d) _ (c .answer-top .ensures))
-    (listed d .before .list-values .ensures .1 ∙ evaluated-buffer (h b) (ws b) (qs b) (cs b) (buffer b) (asks t))
+    (c .answer-listed .ensures ∙ evaluated-asked (h b) (ws b) (qs b) (cs b) (list (buffer b)) (budget b) (asks t))
+    (l .before .list-values .ensures .1 ∙ evaluated-buffer (h b) (ws b) (qs b) (cs b) (buffer b) (asks t))
 
 pub ask-spec : {M : Type 1} → statement M
 ask-spec =
@@ -221,12 +195,9 @@ ask-spec =
     returns
     slice-aggregate-list-values
     list-values-requires
-    slice-aggregate-describe
-    describe-requires
-    slice-aggregate-answer-top
-    slice-reshare-prefix-answer-top
-    slice-aggregate-answer-top-2
-    answer-top-requires
+    slice-reshare-prefix-answer-listed
+    slice-aggregate-answer-listed
+    answer-listed-requires
     returns-2
     same-length
     returns-3)

@@ -15,10 +15,12 @@ use Rattle.instance.proofs.Sound.{Sound, sound-gives}
 use Rattle.query.specs.Tree.{formulaOf}
 use Rattle.query.proofs.Passed.{count-within}
 use Rattle.answer.specs.Ask.{admitted, ask, none}
+use Rattle.answer.specs.Admitted.{Admitted}
 use Rattle.answer.specs.Numbers.{TellsVerdict}
 use Rattle.answer.specs.declared.asked.Asked.{Asked}
-use Rattle.answer.proofs.AskLaws.{Admitted, admitted-done, admitted-refused, refused-asked, no-list}
-use Rattle.answer.proofs.AskLaws.{Described, described, described-unflagged, described-kept, evaluable, walked-ranged, answered}
+use Rattle.answer.proofs.Admitted.{admitted-done}
+use Rattle.answer.proofs.AskLaws.{admitted-refused, refused-asked, evaluated-asked, no-list}
+use Rattle.answer.proofs.AskLaws.{Described, described, described-unflagged, described-kept, evaluable, walked-ranged, evaluated-top}
 use Rattle.answer.proofs.Told.{ask-told}
 use Rattle.answer.proofs.unlisted.ask_unlisted.Statement.{statement}
 use Rattle.answer.proofs.unlisted.ask_unlisted.Tie as tie
@@ -152,8 +154,8 @@ returns-2 c =
     let f = found (known p) in
     let b = at f in
     told b
-    (answered (h b) (ws b) (qs b) (cs b) none (budget b) (no-list (h b) (ws b) (qs b) (cs b) (count f) (passes f)) (table p) (still-described p) _
-    (c .answer-top .ensures))
+    (evaluated-top (h b) (ws b) (qs b) (cs b) (budget b) (table p) (still-described p) _ (c .answer-top .ensures) ∙
+    evaluated-asked (h b) (ws b) (qs b) (cs b) none (budget b) (no-list (h b) (ws b) (qs b) (cs b) (count f) (passes f)))
 
 pub ask-unlisted-spec : {M : Type 1} → statement M
 ask-unlisted-spec =

@@ -496,11 +496,11 @@ walk-gap-requires t c κs =
 walk-add-i : (t : ℕ) → walk-lts.Need-add-i (walk-claims t) (walk-at t) walk.Post walk-Inv-loop walk-μ-loop
 walk-add-i t c =
     let ev = c .before .before .before .before .before .before .before .before .before .before .before .before .pre .1 .0 in
-    omega (arith, c .gap .ensures .few, c .before .before .before .loop-test .taken, ev .ranged .short)
+    omega (arith, c .gap .ensures .1 .few, c .before .before .before .loop-test .taken, ev .ranged .short)
 
 walk-loop-less : (t : ℕ) → walk-lts.Need-loop-less (walk-claims t) (walk-at t) walk.Post walk-Inv-loop walk-μ-loop
 walk-loop-less t c =
-    let some = gap-some (c .gap .ensures) (sym (c .before .before .passed .ensures) ∙ c .before .if1 .taken) in
+    let some = gap-some (c .gap .ensures .1) (sym (c .before .before .passed .ensures) ∙ c .before .if1 .taken) in
     omega (arith, some, c .before .before .before .loop-test .taken)
 
 walk-loop-again : (t : ℕ) → walk-lts.Need-loop-again (walk-claims t) (walk-at t) walk.Post walk-Inv-loop walk-μ-loop
@@ -508,7 +508,7 @@ walk-loop-again t c =
     let l = c .before .before .before .before in
     let s = l .before .before .before .before .before .before .before .before in (
       walk-passes _ _ _ _ (s .pre .1 .0 .known) _ (s .pre .1 .1) (walk-down t s .1 .0) _ _ _ _ _ (l .loop .inv .0) _
-          (unpassed-gap _ _ _ _ (c .gap .ensures .all)),
+          (unpassed-gap _ _ _ _ (c .gap .ensures .1 .all)),
       l .loop .inv .1,
     )
 

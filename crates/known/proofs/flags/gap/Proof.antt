@@ -25,9 +25,11 @@ run-requires c κs = search needs
 returns : tie.Need-returns
 returns c =
     let a = c .before .before .args in
-    let fits = c .run .ensures .0 in
-    subst (Gap (a .known .now) (a .place)) (sym (c .run .ensures .1))
-    (record { none = gap-none (a .known .now) (a .place) fits; all = gap-all (a .known .now) (a .place) fits; few = trailing-le 32 _ })
+    let fits = c .run .ensures .0 in (
+      c .run .ensures .1,
+      subst (Gap (a .known .now) (a .place)) (sym (c .run .ensures .1))
+          (record { none = gap-none (a .known .now) (a .place) fits; all = gap-all (a .known .now) (a .place) fits; few = trailing-le 32 _ }),
+    )
 
 pub gap-spec : {M : Type 1} → statement M
 gap-spec = tie.close (tie.spec add-run mul-run element-copy-out-run cast-run run-requires returns)

@@ -100,7 +100,7 @@ cast-arity-in c = omega (arith, few (c .before))
 arity-in-requires : tie.Need-arity-in-requires Inv-loop μ-loop
 arity-in-requires c κs = (start (c .before) .pre .1, few (c .before))
 
--- the row's length was looked up
+-- the row's length was read
 module _ (c : tie.After-arity-in Inv-loop μ-loop) where
   abbrev at-row : tie.In-loop Inv-loop μ-loop
   at-row = c .before .before

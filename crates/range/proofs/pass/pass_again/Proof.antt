@@ -1,13 +1,12 @@
 -- `range::pass::pass_again` meets its contract. Assumes nothing.
-use Prim.Native.Nat.{ℕ, _+_}
-use mathlib.Core.Path.{_≡_, refl, sym, _∙_}
+use Prim.Native.Nat.{ℕ, _+_, _/_}
+use mathlib.Core.Path.{_≡_, refl, sym, _∙_, ap}
 use mathlib.Core.List.{List}
 use native.Mathlib.Omega.{arith}
 use borrow.Author.Needs.{needs}
 use lib.ListN.{getD, set}
 use Rattle.calculus.specs.Listed.{listed}
-use Rattle.domain.specs.Bucket.{bucketOf}
-use Rattle.range.specs.Cache.{Head, Cached}
+use Rattle.range.specs.Cache.{headOf, Head, Cached}
 use Rattle.range.specs.Flagged.{Flagged, stoodBefore}
 use Rattle.range.proofs.Cache.{cached-cell}
 use Rattle.range.proofs.pass.pass_again.Statement.{statement}
@@ -32,20 +31,24 @@ module _ (c : tie.Start) where
   abbrev vs : List ℕ
   vs = stoodBefore known ws place
 
-  -- the head of the cell's bucket
-  head-at : (bucket : ℕ) → bucket ≡ bucketOf cell → Head ws vs place cell (getD heads bucket 0)
+  -- the cell's head
+  head-at : (bucket : ℕ) → bucket ≡ headOf cell → Head ws vs place cell (getD heads bucket 0)
   head-at bucket e = rw e (c .pre .1 .heads-of cell)
 
   -- what is promised, once the flag is right
-  done : (bucket : ℕ) → bucket ≡ bucketOf cell → (after : List ℕ) → Flagged known place (listed cell vs) after
+  done : (bucket : ℕ) → bucket ≡ headOf cell → (after : List ℕ) → Flagged known place (listed cell vs) after
       → Flagged known place (listed cell vs) after × Cached (set heads bucket (place + 1)) ws (stoodBefore after ws (place + 1)) (place + 1)
   done bucket e after f = (f, cached-cell bucket e (c .pre .0 .1) (c .pre .1) f)
 
 abbrev from : tie.After-bucket-of → tie.Start
 from c = c .before .before .before
 
-abbrev found : (c : tie.After-bucket-of) → Head (ws (from c)) (vs (from c)) (place (from c)) (cell (from c)) (getD (heads (from c)) (c .bucket-of .result) 0)
-found c = head-at (from c) (c .bucket-of .result) (c .bucket-of .ensures)
+-- two buckets share a head
+half : (c : tie.After-bucket-of) → c .bucket-of .result / 2 ≡ headOf (cell (from c))
+half c = ap (λ (k : ℕ). k / 2) (c .bucket-of .ensures)
+
+abbrev found : (c : tie.After-bucket-of) → Head (ws (from c)) (vs (from c)) (place (from c)) (cell (from c)) (getD (heads (from c)) (c .bucket-of .result / 2) 0)
+found c = head-at (from c) (c .bucket-of .result / 2) (half c)
 
 mul-cell : tie.Need-mul-cell
 mul-cell c = search needs
@@ -90,13 +93,13 @@ returns : tie.Need-returns
 returns c =
     let b = c .before .before .before .before .before .before in
     let f = c .pass .ensures in
-    done (from b) (b .bucket-of .result) (b .bucket-of .ensures) _
+    done (from b) (b .bucket-of .result / 2) (half b) _
     (record { size = f .size; kept = f .kept; here = f .here ∙ sym (c .before .before .if1 .taken) ∙ c .before .before .before .stood-earlier .ensures; other = f .other })
 
 returns-2 : tie.Need-returns-2
 returns-2 c =
     let b = c .before .before .before .before in
-    done (from b) (b .bucket-of .result) (b .bucket-of .ensures) _
+    done (from b) (b .bucket-of .result / 2) (half b) _
     (record { size = refl; kept = refl; here = from b .pre .0 .3 ∙ sym (c .if1 .left) ∙ c .before .stood-earlier .ensures; other = λ q ne. refl })
 
 pub pass-again-spec : {M : Type 1} → statement M
