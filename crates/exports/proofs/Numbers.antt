@@ -22,11 +22,11 @@ use Rattle.evaluate.specs.declared.evaluated.Evaluated.{Evaluated}
 use Rattle.evaluate.specs.declared.evaluated.Evaluated.the-variants as evaluated
 use Rattle.evaluate.specs.Within.{within}
 use Rattle.answer.specs.declared.asked.Asked.the-variants as asked
-use Rattle.answer.specs.Ask.{answeredBy, askable, ask, askedBuffer}
+use Rattle.answer.specs.Ask.{answeredBy, Lent, list, none, askable, ask, askedBuffer}
 use Rattle.answer.specs.Numbers.{askedAs}
 use Rattle.calls.specs.Calls.{Call, answerTo, leaves}
 use Rattle.calls.specs.Calls as library
-use Rattle.calls.specs.Numbers.{insertNumbers, fillNumbers, logNumbers, undoNumbers, writeNumbers, readNumbers, askNumbers, numbers}
+use Rattle.calls.specs.Numbers.{insertNumbers, fillNumbers, logNumbers, undoNumbers, writeNumbers, readNumbers, askedNumbers, numbers}
 use Rattle.calls.proofs.Numbers.{every-number}
 use Rattle.calls.proofs.Between.{refused-writes-none}
 use Rattle.exports.specs.Words.{headerLength, headerOf, headed, ifHeaded}
@@ -34,7 +34,7 @@ use Rattle.exports.specs.Calls.{decodeAnswer, decodeHeader, decodeWords,
 use Rattle.exports.specs.Calls.{substituteAnswer, substituteWords, logAnswer, logWords, logLog, logUsed, undoAnswer, undoWords, undoUsed, decodeUsed}
 use Rattle.exports.specs.Calls.{countsAnswer, countsWords, encodeAnswer, encodeBytes, askAnswer, askBuffer}
 use Rattle.exports.specs.Steps.{Job, asks, counts, encodes, inserts, substitutes, logs, undoes, decodes, answerOn, numberOn, headerLeft, wordsLeft}
-use Rattle.exports.specs.Numbers.{numbersOf, isDone, outGiven, outLeft, usedGiven, usedLeft, EveryReturn}
+use Rattle.exports.specs.Numbers.{numbersOf, isDone, listGiven, listLeft, outGiven, outLeft, usedGiven, usedLeft, EveryReturn}
 use Rattle.calculus.specs.Demand.{demand}
 use Rattle.calculus.specs.Listed.{listed}
 use Rattle.calculus.proofs.Listed.{listed-right}
@@ -56,18 +56,23 @@ known c hs ws ns first more r = go (eqb (length hs) headerLength)
     go true e = let k = every-number c ws r e in record { tabled = more r (k .tabled); not-zero = k .not-zero }
     go false e = let q : unsound ≡ r = cc in record { tabled = rw (← q) first; not-zero = λ z. omega arith }
 
-asked-known : (hs ws qs candidate buffer : List ℕ) (budget : ℕ) → askedAs (askAnswer hs ws qs candidate buffer budget) ≡ headed hs (askedAs (ask (headerOf hs) ws qs candidate buffer budget))
+asked-known : (hs ws qs candidate : List ℕ) (lent : Lent) (budget : ℕ) → askedAs (askAnswer hs ws qs candidate lent budget) ≡ headed hs (askedAs (ask (headerOf hs) ws qs candidate lent budget))
 unfolding askAnswer
-asked-known hs ws qs candidate buffer budget = go (eqb (length hs) headerLength)
+asked-known hs ws qs candidate lent budget = go (eqb (length hs) headerLength)
   where
-    go : (b : Bool) → askedAs (cond b (ask (headerOf hs) ws qs candidate buffer budget) (asked.Refused unsound)) ≡ demand b (Refused unsound) (askedAs (ask (headerOf hs) ws qs candidate buffer budget))
+    go : (b : Bool) → askedAs (cond b (ask (headerOf hs) ws qs candidate lent budget) (asked.Refused unsound)) ≡ demand b (Refused unsound) (askedAs (ask (headerOf hs) ws qs candidate lent budget))
     go true = refl
     go false = refl
 
+unsound-asked : (lent : Lent) → listed unsound (askedNumbers lent) ≡ true
+unfolding listed
+unsound-asked (list buffer) = refl
+unsound-asked none = refl
+
 all-known : (j : Job) (hs ws : List ℕ) → AllKnown (numbersOf j) (answerOn j hs ws)
 unfolding countsAnswer encodeAnswer insertAnswer substituteAnswer logAnswer undoAnswer decodeAnswer AllKnown listed
-all-known (asks qs candidate buffer budget) hs ws =
-    λ r e. known (library.asks (headerOf hs) qs candidate buffer budget) hs ws askNumbers refl (λ r e. e) r (sym (asked-known hs ws qs candidate buffer budget) ∙ e)
+all-known (asks qs candidate lent budget) hs ws =
+    λ r e. known (library.asks (headerOf hs) qs candidate lent budget) hs ws (askedNumbers lent) (unsound-asked lent) (λ r e. e) r (sym (asked-known hs ws qs candidate lent budget) ∙ e)
 all-known (counts out) hs ws = known (library.counts (headerOf hs) out) hs ws writeNumbers refl (λ r e. e)
 all-known (encodes out) hs ws = known (library.encodes (headerOf hs) out) hs ws writeNumbers refl (λ r e. e)
 all-known (inserts relation cells) hs ws = known (library.inserts (headerOf hs) relation cells) hs ws insertNumbers refl (λ r e. e)
@@ -87,7 +92,7 @@ words-kept c hs ws = go (eqb (length hs) headerLength)
 
 all-kept : (j : Job) (hs ws : List ℕ) → (numberOn j hs ws ≡ 0 → ⊥) → (headerLeft j hs ws ≡ hs) × (wordsLeft j hs ws ≡ ws)
 unfolding insertAnswer insertHeader insertWords substituteAnswer substituteWords logAnswer logWords undoAnswer undoWords decodeAnswer decodeHeader decodeWords
-all-kept (asks qs candidate buffer budget) hs ws some = (refl, refl)
+all-kept (asks qs candidate lent budget) hs ws some = (refl, refl)
 all-kept (counts out) hs ws some = (refl, refl)
 all-kept (encodes out) hs ws some = (refl, refl)
 all-kept (inserts relation cells) hs ws some =
@@ -107,11 +112,11 @@ out-kept hs a new old = go (eqb (length hs) headerLength)
 
 -- the working list changes only after a verdict and after 46
 buffer-kept :
-    (hs ws qs candidate buffer : List ℕ) (budget : ℕ) → (numberOf (askedAs (askAnswer hs ws qs candidate buffer budget)) ≡ 0 → ⊥) →
-    (numberOf (askedAs (askAnswer hs ws qs candidate buffer budget)) ≡ budget-spent → ⊥) → askBuffer hs ws qs candidate buffer ≡ buffer
+    (hs ws qs candidate buffer : List ℕ) (budget : ℕ) → (numberOf (askedAs (askAnswer hs ws qs candidate (list buffer) budget)) ≡ 0 → ⊥) →
+    (numberOf (askedAs (askAnswer hs ws qs candidate (list buffer) budget)) ≡ budget-spent → ⊥) → askBuffer hs ws qs candidate buffer ≡ buffer
 unfolding askAnswer askBuffer ask askedBuffer
 buffer-kept hs ws qs candidate buffer budget =
-    go (eqb (length hs) headerLength) (askable (headerOf hs) ws qs candidate buffer) (within budget (outcomeOf (modelOf (headerOf hs) ws candidate) (formulaOf (headerOf hs .arities) qs))) _
+    go (eqb (length hs) headerLength) (askable (headerOf hs) ws qs candidate (list buffer)) (within budget (outcomeOf (modelOf (headerOf hs) ws candidate) (formulaOf (headerOf hs .arities) qs))) _
   where
     go :
         (b : Bool) (a : Answer) (e : Evaluated) (new : List ℕ) → (numberOf (askedAs (cond b (answeredBy a e) (asked.Refused unsound))) ≡ 0 → ⊥) →
@@ -121,9 +126,15 @@ buffer-kept hs ws qs candidate buffer budget =
     go true (Done n) (evaluated.Verdict t k) new some other = absurd (some refl)
     go true (Done n) evaluated.Spent new some other = absurd (other refl)
 
+list-kept :
+    (hs ws qs candidate : List ℕ) (lent : Lent) (budget : ℕ) → (numberOf (askedAs (askAnswer hs ws qs candidate lent budget)) ≡ 0 → ⊥) →
+    (numberOf (askedAs (askAnswer hs ws qs candidate lent budget)) ≡ budget-spent → ⊥) → listLeft hs ws qs candidate lent ≡ listGiven lent
+list-kept hs ws qs candidate (list buffer) budget some other = buffer-kept hs ws qs candidate buffer budget some other
+list-kept hs ws qs candidate none budget some other = refl
+
 all-out : (j : Job) (hs ws : List ℕ) → (numberOn j hs ws ≡ 0 → ⊥) → (numberOn j hs ws ≡ budget-spent → ⊥) → outLeft j hs ws ≡ outGiven j
 unfolding countsAnswer countsWords encodeAnswer encodeBytes countedWords encodedBytes logAnswer logLog loggedLog
-all-out (asks qs candidate buffer budget) hs ws some other = buffer-kept hs ws qs candidate buffer budget some other
+all-out (asks qs candidate lent budget) hs ws some other = list-kept hs ws qs candidate lent budget some other
 all-out (counts out) hs ws some other = out-kept hs (counted (headerOf hs) ws out) _ out some
 all-out (encodes out) hs ws some other = out-kept hs (encoded (headerOf hs) ws out) _ out some
 all-out (inserts relation cells) hs ws some other = refl
@@ -134,7 +145,7 @@ all-out (decodes card used) hs ws some other = refl
 
 all-used : (j : Job) (hs ws : List ℕ) → (numberOn j hs ws ≡ 0 → ⊥) → usedLeft j hs ws ≡ usedGiven j
 unfolding logAnswer logUsed loggedUsed undoAnswer undoUsed undoneUsed decodeAnswer decodeUsed
-all-used (asks qs candidate buffer budget) hs ws some = refl
+all-used (asks qs candidate lent budget) hs ws some = refl
 all-used (counts out) hs ws some = refl
 all-used (encodes out) hs ws some = refl
 all-used (inserts relation cells) hs ws some = refl

@@ -18,7 +18,7 @@ use Rattle.instance.specs.Run.{fillAnswer, fillWords, filledWords}
 use Rattle.instance.proofs.Run.{Follows, follows-answer, follows-next}
 use Rattle.answer.specs.declared.asked.Asked.{Asked}
 use Rattle.answer.specs.declared.asked.Asked.the-variants as asked
-use Rattle.answer.specs.Ask.{ask}
+use Rattle.answer.specs.Ask.{Lent, ask}
 use Rattle.answer.specs.Numbers.{askedAs, askedNumber, verdictOf, costOf}
 use Rattle.answer.proofs.RerunLaws.{not-refused, verdict-asked, demand-three}
 use Rattle.calls.specs.Calls.{asks}
@@ -41,9 +41,9 @@ module _ (hs : List ℕ) (ten : length hs ≡ headerLength) where
   fill-answer plainly m c ws = headed-yes hs ten (fillAnswer (headerOf hs) (fillOf plainly m c) ws)
   fill-answer (withLog log used) m c ws = headed-yes hs ten (fillAnswer (headerOf hs) (fillOf (withLog log used) m c) ws)
 
-  ask-is : (ws qs candidate buffer : List ℕ) (budget : ℕ) → askAnswer hs ws qs candidate buffer budget ≡ ask (headerOf hs) ws qs candidate buffer budget
+  ask-is : (ws qs candidate : List ℕ) (lent : Lent) (budget : ℕ) → askAnswer hs ws qs candidate lent budget ≡ ask (headerOf hs) ws qs candidate lent budget
   unfolding askAnswer
-  ask-is ws qs candidate buffer budget = kept-yes hs ten (ask (headerOf hs) ws qs candidate buffer budget) (asked.Refused unsound)
+  ask-is ws qs candidate lent budget = kept-yes hs ten (ask (headerOf hs) ws qs candidate lent budget) (asked.Refused unsound)
 
   abbrev of : List ℕ → Instance
   of ws = record { header = hs; words = ws }
@@ -69,21 +69,21 @@ module _ (hs : List ℕ) (ten : length hs ≡ headerLength) where
   fills-seen (calls c ∷ ss) first ws b g q = ap (fillsSeen ss) (q .0) ∙ fills-seen ss first ws b g (rw (q .0) at (q .1))
 
 -- a question that gets a verdict has a header of ten words
-has-ten : (hs ws qs candidate buffer : List ℕ) (budget : ℕ) (t : Truth) (n : ℕ) → askAnswer hs ws qs candidate buffer budget ≡ asked.Verdict t n → length hs ≡ headerLength
+has-ten : (hs ws qs candidate : List ℕ) (lent : Lent) (budget : ℕ) (t : Truth) (n : ℕ) → askAnswer hs ws qs candidate lent budget ≡ asked.Verdict t n → length hs ≡ headerLength
 unfolding askAnswer
-has-ten hs ws qs candidate buffer budget t n e = go (eqb (length hs) headerLength) refl
+has-ten hs ws qs candidate lent budget t n e = go (eqb (length hs) headerLength) refl
   where
     go : (b : Bool) → eqb (length hs) headerLength ≡ b → length hs ≡ headerLength
     go true is = eqb-true (length hs) headerLength is
     go false is = absurd (not-refused (rw is at e))
 
 -- a question is not refused with 0
-not-zero : (hs ws qs candidate buffer : List ℕ) (budget : ℕ) → askAnswer hs ws qs candidate buffer budget ≡ asked.Refused 0 → ⊥
+not-zero : (hs ws qs candidate : List ℕ) (lent : Lent) (budget : ℕ) → askAnswer hs ws qs candidate lent budget ≡ asked.Refused 0 → ⊥
 unfolding askAnswer
-not-zero hs ws qs candidate buffer budget e = go (eqb (length hs) headerLength) refl
+not-zero hs ws qs candidate lent budget e = go (eqb (length hs) headerLength) refl
   where
     go : (b : Bool) → eqb (length hs) headerLength ≡ b → ⊥
-    go true is = every-number (asks (headerOf hs) qs candidate buffer budget) ws 0 (ap askedAs (rw is at e)) .not-zero refl
+    go true is = every-number (asks (headerOf hs) qs candidate lent budget) ws 0 (ap askedAs (rw is at e)) .not-zero refl
     go false is = let z : _≡_ {A = ℕ} 41 0 = cc (rw is at e) in omega arith
 
 -- a verdict that is kept, as its number
@@ -92,23 +92,23 @@ rank-kept unknown some = absurd (some refl)
 rank-kept alike some = refl
 
 pub exported-demand-three : ExportedDemandThree
-exported-demand-three p qs candidate buffer budget ss buffer′ budget′ truth cost truth′ cost′ quiet longer larger zero = go (askAnswer (p .header) (p .words) qs candidate buffer budget) refl
+exported-demand-three p qs candidate lent budget ss lent′ budget′ truth cost truth′ cost′ quiet longer larger zero = go (askAnswer (p .header) (p .words) qs candidate lent budget) refl
   where
     verdict :
-        (t : Truth) (n : ℕ) → askAnswer (p .header) (p .words) qs candidate buffer budget ≡ asked.Verdict t n →
-        ExportedRerun p qs candidate ss (askAnswer (p .header) (p .words) qs candidate buffer budget)
-        (askAnswer (instanceAfter ss p .header) (instanceAfter ss p .words) qs (modelAfter p candidate ss .candidate) buffer′ budget′) truth cost truth′ cost′
+        (t : Truth) (n : ℕ) → askAnswer (p .header) (p .words) qs candidate lent budget ≡ asked.Verdict t n →
+        ExportedRerun p qs candidate ss (askAnswer (p .header) (p .words) qs candidate lent budget)
+        (askAnswer (instanceAfter ss p .header) (instanceAfter ss p .words) qs (modelAfter p candidate ss .candidate) lent′ budget′) truth cost truth′ cost′
     verdict t n e =
         let hs = p .header in
         let ws = p .words in
-        let ten = has-ten hs ws qs candidate buffer budget t n e in
-        let asks : ask (headerOf hs) ws qs candidate buffer budget ≡ asked.Verdict t n = sym (ask-is hs ten ws qs candidate buffer budget) ∙ e in
-        let d = demand-three (headerOf hs) ws qs candidate buffer budget (fillsAmong ss) buffer′ budget′ longer larger t n asks in
-        let sound = verdict-asked (headerOf hs) ws qs candidate buffer budget t n asks .0 .is-sound in
+        let ten = has-ten hs ws qs candidate lent budget t n e in
+        let asks : ask (headerOf hs) ws qs candidate lent budget ≡ asked.Verdict t n = sym (ask-is hs ten ws qs candidate lent budget) ∙ e in
+        let d = demand-three (headerOf hs) ws qs candidate lent budget (fillsAmong ss) lent′ budget′ longer larger t n asks in
+        let sound = verdict-asked (headerOf hs) ws qs candidate lent budget t n asks .0 .is-sound in
         let left = instance-after hs ten ss ws quiet in
         let b =
-        ap (λ (x : Instance). askAnswer (x .header) (x .words) qs (modelAfter p candidate ss .candidate) buffer′ budget′) left ∙
-        ask-is hs ten (filledWords (headerOf hs) (fillsAmong ss) ws) qs (modelAfter p candidate ss .candidate) buffer′ budget′ ∙ d .answers
+        ap (λ (x : Instance). askAnswer (x .header) (x .words) qs (modelAfter p candidate ss .candidate) lent′ budget′) left ∙
+        ask-is hs ten (filledWords (headerOf hs) (fillsAmong ss) ws) qs (modelAfter p candidate ss .candidate) lent′ budget′ ∙ d .answers
         in
         record {
           answered = fills-seen hs ten ss ws ws (start p candidate) (record { is-sound = sound; holds = refl; long = refl; others = refl }) quiet;
@@ -124,10 +124,10 @@ exported-demand-three p qs candidate buffer budget ss buffer′ budget′ truth 
         }
 
     go :
-        (a : Asked) → askAnswer (p .header) (p .words) qs candidate buffer budget ≡ a →
-        ExportedRerun p qs candidate ss (askAnswer (p .header) (p .words) qs candidate buffer budget)
-        (askAnswer (instanceAfter ss p .header) (instanceAfter ss p .words) qs (modelAfter p candidate ss .candidate) buffer′ budget′) truth cost truth′ cost′
+        (a : Asked) → askAnswer (p .header) (p .words) qs candidate lent budget ≡ a →
+        ExportedRerun p qs candidate ss (askAnswer (p .header) (p .words) qs candidate lent budget)
+        (askAnswer (instanceAfter ss p .header) (instanceAfter ss p .words) qs (modelAfter p candidate ss .candidate) lent′ budget′) truth cost truth′ cost′
     go (asked.Verdict t n) e = verdict t n e
     go (asked.Refused r) e =
         let none : r ≡ 0 = sym (ap askedNumber e) ∙ zero in
-        absurd (not-zero (p .header) (p .words) qs candidate buffer budget (e ∙ ap asked.Refused none))
+        absurd (not-zero (p .header) (p .words) qs candidate lent budget (e ∙ ap asked.Refused none))

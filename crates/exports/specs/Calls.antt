@@ -13,7 +13,7 @@ use Rattle.card.specs.Encode.{encoded, encodedBytes}
 use Rattle.calculus.specs.Refusal.{unsound}
 use Rattle.answer.specs.declared.asked.Asked.{Asked}
 use Rattle.answer.specs.declared.asked.Asked.the-variants as asked
-use Rattle.answer.specs.Ask.{ask, askedBuffer}
+use Rattle.answer.specs.Ask.{Lent, ask, askedBuffer}
 use Rattle.exports.specs.Words.{headed, ifHeaded, headerOf, headerWords}
 
 module _ (card hs ws : List ℕ) where
@@ -87,9 +87,10 @@ module _ (hs ws out : List ℕ) where
   unfoldable pub encodeBytes : List ℕ
   encodeBytes = ifHeaded hs (encodedBytes (headerOf hs) ws out) out
 
-module _ (hs ws qs candidate buffer : List ℕ) where
-  unfoldable pub askAnswer : ℕ → Asked
-  askAnswer budget = ifHeaded hs (ask (headerOf hs) ws qs candidate buffer budget) (asked.Refused unsound)
+-- by `plotask_ask` if a list is lent, by `plotask_ask_unlisted` if none is
+module _ (hs ws qs candidate : List ℕ) where
+  unfoldable pub askAnswer : Lent → ℕ → Asked
+  askAnswer lent budget = ifHeaded hs (ask (headerOf hs) ws qs candidate lent budget) (asked.Refused unsound)
 
-  unfoldable pub askBuffer : List ℕ
-  askBuffer = ifHeaded hs (askedBuffer (headerOf hs) ws qs candidate buffer) buffer
+  unfoldable pub askBuffer : List ℕ → List ℕ
+  askBuffer buffer = ifHeaded hs (askedBuffer (headerOf hs) ws qs candidate buffer) buffer

@@ -6,13 +6,14 @@ use mathlib.Core.List.{List, [], _∷_}
 use Rattle.calculus.specs.declared.answer.Answer.{Answer}
 use Rattle.calculus.specs.declared.answer.Answer.the-variants.{Done, Refused}
 use Rattle.calculus.specs.Refusal.{unsound, budget-spent}
-use Rattle.calls.specs.Numbers.{insertNumbers, fillNumbers, logNumbers, undoNumbers, writeNumbers, readNumbers, askNumbers}
+use Rattle.calls.specs.Numbers.{insertNumbers, fillNumbers, logNumbers, undoNumbers, writeNumbers, readNumbers, askedNumbers}
+use Rattle.answer.specs.Ask.{Lent, list, none}
 use Rattle.exports.specs.Calls.{countsWords, encodeBytes, askBuffer, logLog, logUsed, undoUsed, decodeUsed}
 use Rattle.exports.specs.Steps.{Job, asks, counts, encodes, inserts, substitutes, logs, undoes, decodes, answerOn, numberOn, headerLeft, wordsLeft}
 use Rattle.calculus.specs.Listed.{listed}
 
 abbrev pub numbersOf : Job → List ℕ
-numbersOf (asks qs candidate buffer budget) = askNumbers
+numbersOf (asks qs candidate lent budget) = askedNumbers lent
 numbersOf (counts out) = writeNumbers
 numbersOf (encodes out) = writeNumbers
 numbersOf (inserts relation cells) = insertNumbers
@@ -25,9 +26,18 @@ abbrev pub isDone : Answer → Bool
 isDone (Done n) = true
 isDone (Refused r) = false
 
+-- the words of a list that is lent, and what a question leaves of them
+abbrev pub listGiven : Lent → List ℕ
+listGiven (list buffer) = buffer
+listGiven none = []
+
+abbrev pub listLeft : (hs ws qs candidate : List ℕ) → Lent → List ℕ
+listLeft hs ws qs candidate (list buffer) = askBuffer hs ws qs candidate buffer
+listLeft hs ws qs candidate none = []
+
 -- what else a call is lent, before the call and after it: the words of the census, the bytes of the card, the working list, the log
 abbrev pub outGiven : Job → List ℕ
-outGiven (asks qs candidate buffer budget) = buffer
+outGiven (asks qs candidate lent budget) = listGiven lent
 outGiven (counts out) = out
 outGiven (encodes out) = out
 outGiven (inserts relation cells) = []
@@ -37,7 +47,7 @@ outGiven (undoes log used) = log
 outGiven (decodes card used) = []
 
 abbrev pub outLeft : Job → List ℕ → List ℕ → List ℕ
-outLeft (asks qs candidate buffer budget) hs ws = askBuffer hs ws qs candidate buffer
+outLeft (asks qs candidate lent budget) hs ws = listLeft hs ws qs candidate lent
 outLeft (counts out) hs ws = countsWords hs ws out
 outLeft (encodes out) hs ws = encodeBytes hs ws out
 outLeft (inserts relation cells) hs ws = []
@@ -48,7 +58,7 @@ outLeft (decodes card used) hs ws = []
 
 -- the log's words in use, before the call and after it; 0 for a call that is not lent them
 abbrev pub usedGiven : Job → ℕ
-usedGiven (asks qs candidate buffer budget) = 0
+usedGiven (asks qs candidate lent budget) = 0
 usedGiven (counts out) = 0
 usedGiven (encodes out) = 0
 usedGiven (inserts relation cells) = 0
@@ -58,7 +68,7 @@ usedGiven (undoes log used) = used
 usedGiven (decodes card used) = used
 
 abbrev pub usedLeft : Job → List ℕ → List ℕ → ℕ
-usedLeft (asks qs candidate buffer budget) hs ws = 0
+usedLeft (asks qs candidate lent budget) hs ws = 0
 usedLeft (counts out) hs ws = 0
 usedLeft (encodes out) hs ws = 0
 usedLeft (inserts relation cells) hs ws = 0

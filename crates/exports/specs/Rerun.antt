@@ -1,10 +1,10 @@
--- Demand 3 for the exported calls, as C sees it: run A by `plotask_ask`, a list of steps with fills by `plotask_substitute` and
--- `plotask_substitute_logged` among them, run B by `plotask_ask`.
+-- Demand 3 for the exported calls, as C sees it: run A by `plotask_ask` or `plotask_ask_unlisted`, a list of steps with fills by `plotask_substitute` and
+-- `plotask_substitute_logged` among them, run B by the same call as run A.
 use Prim.Native.Nat.{ℕ, _≤_}
 use mathlib.Core.Path.{_≡_}
 use mathlib.Core.Bool.{true}
 use mathlib.Core.List.{List, _++_}
-use lib.ListN.{length, drop}
+use lib.ListN.{drop}
 use Rattle.calculus.specs.declared.truth.Truth.the-variants.{Unknown}
 use Rattle.calculus.specs.Kleene.{rank}
 use Rattle.calculus.specs.Order.{ofBool}
@@ -13,6 +13,8 @@ use Rattle.instance.specs.Rows.{wordsOf}
 use Rattle.instance.specs.Run.{modelOf}
 use Rattle.query.specs.Tree.{formulaOf}
 use Rattle.answer.specs.declared.asked.Asked.{Asked}
+use Rattle.answer.specs.Ask.{Lent}
+use Rattle.answer.specs.Ways.{NoShorter}
 use Rattle.answer.specs.Numbers.{askedNumber, verdictOf, costOf}
 use Rattle.exports.specs.Words.{headerOf}
 use Rattle.exports.specs.Calls.{askAnswer}
@@ -42,12 +44,12 @@ pub record ExportedRerun (p : Instance) (qs candidate : List ℕ) (ss : List Ste
   pub two-valued :
       plain (modelAfter p candidate ss) ≡ true → verdictOf b truth′ ≡ rank (ofBool (saysYes (modelAfter p candidate ss) (formulaOf (headerOf (p .header) .arities) qs)))
 
--- Every header, plot, question, candidate, allowance, working list and list of steps; B's allowance and list may be larger. Run A got a verdict if
--- it returned 0.
+-- Every header, plot, question, candidate, allowance, working list or none, and list of steps; B's allowance and list may be larger. Run A got a verdict if it
+-- returned 0.
 abbrev pub ExportedDemandThree : Type 0
 ExportedDemandThree =
-    (p : Instance) (qs candidate buffer : List ℕ) (budget : ℕ) (ss : List Step) (buffer′ : List ℕ) (budget′ truth cost truth′ cost′ : ℕ) →
-    WriteNoWord ss p → length buffer ≤ length buffer′ → budget ≤ budget′ →
-    askedNumber (askAnswer (p .header) (p .words) qs candidate buffer budget) ≡ 0 →
-    ExportedRerun p qs candidate ss (askAnswer (p .header) (p .words) qs candidate buffer budget)
-    (askAnswer (instanceAfter ss p .header) (instanceAfter ss p .words) qs (modelAfter p candidate ss .candidate) buffer′ budget′) truth cost truth′ cost′
+    (p : Instance) (qs candidate : List ℕ) (lent : Lent) (budget : ℕ) (ss : List Step) (lent′ : Lent) (budget′ truth cost truth′ cost′ : ℕ) →
+    WriteNoWord ss p → NoShorter lent lent′ → budget ≤ budget′ →
+    askedNumber (askAnswer (p .header) (p .words) qs candidate lent budget) ≡ 0 →
+    ExportedRerun p qs candidate ss (askAnswer (p .header) (p .words) qs candidate lent budget)
+    (askAnswer (instanceAfter ss p .header) (instanceAfter ss p .words) qs (modelAfter p candidate ss .candidate) lent′ budget′) truth cost truth′ cost′

@@ -7,6 +7,7 @@ use Rattle.calculus.specs.declared.answer.Answer.{Answer}
 use Rattle.calculus.specs.Answer.{numberOf, valueOf}
 use Rattle.calculus.specs.Fill.{Logging, unlogged, intoLog}
 use Rattle.calculus.specs.Model.{Fill, Model, answerOf, next}
+use Rattle.answer.specs.Ask.{Lent}
 use Rattle.answer.specs.Numbers.{askedAs}
 use Rattle.exports.specs.Calls.{decodeAnswer, decodeHeader, decodeWords, insertAnswer, insertHeader, insertWords}
 use Rattle.exports.specs.Calls.{substituteAnswer, substituteWords, logAnswer, logWords, undoAnswer, undoWords, countsAnswer, encodeAnswer, askAnswer}
@@ -17,22 +18,22 @@ pub record Instance : Type 0 where
   pub words : List ℕ
 
 -- a slice that is lent to a call: the run's own, or another one that holds the given words
-pub data Lent : Type 0 where
-  own : Lent
-  another : List ℕ → Lent
+pub data Slice : Type 0 where
+  own : Slice
+  another : List ℕ → Slice
 
-abbrev pub given : Lent → List ℕ → List ℕ
+abbrev pub given : Slice → List ℕ → List ℕ
 given own ws = ws
 given (another other) ws = other
 
 -- what is left of the run's own slice, if `new` is left of the slice that was lent
-abbrev pub left : Lent → List ℕ → List ℕ → List ℕ
+abbrev pub left : Slice → List ℕ → List ℕ → List ℕ
 left own new ws = new
 left (another other) new ws = ws
 
 -- the calls, each with its own arguments; `used` is the value of the log's words in use before the call
 pub data Job : Type 0 where
-  asks : (query candidate buffer : List ℕ) → (budget : ℕ) → Job
+  asks : (query candidate : List ℕ) → Lent → (budget : ℕ) → Job
   counts encodes : (out : List ℕ) → Job
   inserts : (relation : ℕ) → (cells : List ℕ) → Job
   substitutes : (mark cell : ℕ) → Job
@@ -42,7 +43,7 @@ pub data Job : Type 0 where
 
 -- the answer of a call, and the number that it returns
 abbrev pub answerOn : Job → List ℕ → List ℕ → Answer
-answerOn (asks qs candidate buffer budget) hs ws = askedAs (askAnswer hs ws qs candidate buffer budget)
+answerOn (asks qs candidate lent budget) hs ws = askedAs (askAnswer hs ws qs candidate lent budget)
 answerOn (counts out) hs ws = countsAnswer hs ws out
 answerOn (encodes out) hs ws = encodeAnswer hs ws out
 answerOn (inserts relation cells) hs ws = insertAnswer hs ws relation cells
@@ -56,7 +57,7 @@ numberOn j hs ws = numberOf (answerOn j hs ws)
 
 -- what it leaves of the header and of the plot; a slice that it only reads keeps its content
 abbrev pub headerLeft : Job → List ℕ → List ℕ → List ℕ
-headerLeft (asks qs candidate buffer budget) hs ws = hs
+headerLeft (asks qs candidate lent budget) hs ws = hs
 headerLeft (counts out) hs ws = hs
 headerLeft (encodes out) hs ws = hs
 headerLeft (inserts relation cells) hs ws = insertHeader hs ws relation cells
@@ -66,7 +67,7 @@ headerLeft (undoes log used) hs ws = hs
 headerLeft (decodes card used) hs ws = decodeHeader card hs ws
 
 abbrev pub wordsLeft : Job → List ℕ → List ℕ → List ℕ
-wordsLeft (asks qs candidate buffer budget) hs ws = ws
+wordsLeft (asks qs candidate lent budget) hs ws = ws
 wordsLeft (counts out) hs ws = ws
 wordsLeft (encodes out) hs ws = ws
 wordsLeft (inserts relation cells) hs ws = insertWords hs ws relation cells
@@ -76,8 +77,8 @@ wordsLeft (undoes log used) hs ws = undoWords hs ws log used
 wordsLeft (decodes card used) hs ws = decodeWords card hs ws
 
 pub record Call : Type 0 where
-  pub header : Lent
-  pub instance : Lent
+  pub header : Slice
+  pub instance : Slice
   pub job : Job
 
 abbrev pub number : Call → Instance → ℕ

@@ -1,6 +1,7 @@
 // The calls for a host in C, on numbers and slices: each returns 0 if it is accepted, otherwise the number of the refusal.
 ghost use mathlib.Core.Path.{_≡_};
 ghost use Rattle.calculus.specs.Answer.{numberOf, valueOf};
+ghost use Rattle.answer.specs.Ask.{list, none};
 ghost use Rattle.answer.specs.Numbers.{askedNumber, verdictOf, costOf};
 ghost use Rattle.exports.specs.Calls.{decodeAnswer, decodeHeader, decodeWords, decodeUsed};
 ghost use Rattle.exports.specs.Calls.{insertAnswer, insertHeader, insertWords};
@@ -10,6 +11,7 @@ ghost use Rattle.exports.specs.Calls.{askAnswer, askBuffer};
 
 mod words;
 
+use answer::unlisted::ask_unlisted;
 use calculus::refusal::UNSOUND;
 use words::HEADER;
 use words::asked_number;
@@ -198,10 +200,10 @@ pub extern "C" fn plotask_ask(
     truth: &mut u32,
     cost: &mut u32,
 ) -> u32
-    ensures number { λ r. ⌜ r ≡ askedNumber (askAnswer (now (header .entry)) (now (instance .entry)) (now (query .entry)) (now (candidate .entry)) (now (buffer .entry)) budget) ⌝ }
+    ensures number { λ r. ⌜ r ≡ askedNumber (askAnswer (now (header .entry)) (now (instance .entry)) (now (query .entry)) (now (candidate .entry)) (list (now (buffer .entry))) budget) ⌝ }
     ensures buffer { λ r. ⌜ now (buffer .exit) ≡ askBuffer (now (header .entry)) (now (instance .entry)) (now (query .entry)) (now (candidate .entry)) (now (buffer .entry)) ⌝ }
-    ensures truth { λ r. ⌜ now (truth .exit) ≡ verdictOf (askAnswer (now (header .entry)) (now (instance .entry)) (now (query .entry)) (now (candidate .entry)) (now (buffer .entry)) budget) (now (truth .entry)) ⌝ }
-    ensures cost { λ r. ⌜ now (cost .exit) ≡ costOf (askAnswer (now (header .entry)) (now (instance .entry)) (now (query .entry)) (now (candidate .entry)) (now (buffer .entry)) budget) (now (cost .entry)) ⌝ }
+    ensures truth { λ r. ⌜ now (truth .exit) ≡ verdictOf (askAnswer (now (header .entry)) (now (instance .entry)) (now (query .entry)) (now (candidate .entry)) (list (now (buffer .entry))) budget) (now (truth .entry)) ⌝ }
+    ensures cost { λ r. ⌜ now (cost .exit) ≡ costOf (askAnswer (now (header .entry)) (now (instance .entry)) (now (query .entry)) (now (candidate .entry)) (list (now (buffer .entry))) budget) (now (cost .entry)) ⌝ }
 {
     if header.len() != HEADER {
         return UNSOUND;
@@ -214,6 +216,30 @@ pub extern "C" fn plotask_ask(
         buffer,
         budget,
     );
+    *truth = verdict(asked, *truth);
+    *cost = cost_of(asked, *cost);
+    asked_number(asked)
+}
+
+// The same with no working list.
+#[no_mangle]
+pub extern "C" fn plotask_ask_unlisted(
+    header: &[u32],
+    instance: &[u32],
+    query: &[u32],
+    candidate: &[u32],
+    budget: u32,
+    truth: &mut u32,
+    cost: &mut u32,
+) -> u32
+    ensures number { λ r. ⌜ r ≡ askedNumber (askAnswer (now (header .entry)) (now (instance .entry)) (now (query .entry)) (now (candidate .entry)) none budget) ⌝ }
+    ensures truth { λ r. ⌜ now (truth .exit) ≡ verdictOf (askAnswer (now (header .entry)) (now (instance .entry)) (now (query .entry)) (now (candidate .entry)) none budget) (now (truth .entry)) ⌝ }
+    ensures cost { λ r. ⌜ now (cost .exit) ≡ costOf (askAnswer (now (header .entry)) (now (instance .entry)) (now (query .entry)) (now (candidate .entry)) none budget) (now (cost .entry)) ⌝ }
+{
+    if header.len() != HEADER {
+        return UNSOUND;
+    }
+    let asked = ask_unlisted(read_header(header), instance, query, candidate, budget);
     *truth = verdict(asked, *truth);
     *cost = cost_of(asked, *cost);
     asked_number(asked)

@@ -10,18 +10,18 @@ use lib.Dec.{leb, eqb}
 use Rattle.instance.specs.declared.header.Header.{Header}
 use Rattle.instance.specs.Sound.{sound}
 use Rattle.query.specs.Words.{rightLength, nodeWords, maxNodes}
-use Rattle.answer.specs.Ask.{askable, ask}
+use Rattle.answer.specs.Ask.{Lent, admitted, askable, ask}
 use Rattle.parse.specs.Parse.{isRead}
 use Rattle.parse.specs.Number.{readNumber, readNumbers, numbersOf}
 use Rattle.parse.proofs.Each.{each-length, each-fewer}
 use Rattle.line.specs.Line.{lookedAt}
 
-module _ (h : Header) (ws candidate buffer : List ℕ) (budget : ℕ) where
-  wrong-length : (qs qs′ : List ℕ) → rightLength qs ≡ false → rightLength qs′ ≡ false → ask h ws qs candidate buffer budget ≡ ask h ws qs′ candidate buffer budget
-  unfolding ask askable
+module _ (h : Header) (ws candidate : List ℕ) (lent : Lent) (budget : ℕ) where
+  wrong-length : (qs qs′ : List ℕ) → rightLength qs ≡ false → rightLength qs′ ≡ false → ask h ws qs candidate lent budget ≡ ask h ws qs′ candidate lent budget
+  unfolding ask askable admitted
   wrong-length qs qs′ e e′ = go (sound h ws) refl
     where
-      go : (b : Bool) → sound h ws ≡ b → ask h ws qs candidate buffer budget ≡ ask h ws qs′ candidate buffer budget
+      go : (b : Bool) → sound h ws ≡ b → ask h ws qs candidate lent budget ≡ ask h ws qs′ candidate lent budget
       go true s = rw (s, e, e′)
       go false s = rw s
 
@@ -35,10 +35,10 @@ module _ (h : Header) (ws candidate buffer : List ℕ) (budget : ℕ) where
       go false = refl
 
   pub first-words : (count shown : ℕ) (bs : List ℕ) → shown ≡ min count lookedAt → isRead (readNumbers 4 count bs) ≡ true
-      → ask h ws (numbersOf 4 shown bs) candidate buffer budget ≡ ask h ws (numbersOf 4 count bs) candidate buffer budget
+      → ask h ws (numbersOf 4 shown bs) candidate lent budget ≡ ask h ws (numbersOf 4 count bs) candidate lent budget
   first-words count shown bs is e = rw is (go (leb count lookedAt) refl)
     where
-      go : (b : Bool) → leb count lookedAt ≡ b → ask h ws (numbersOf 4 (min count lookedAt) bs) candidate buffer budget ≡ ask h ws (numbersOf 4 count bs) candidate buffer budget
+      go : (b : Bool) → leb count lookedAt ≡ b → ask h ws (numbersOf 4 (min count lookedAt) bs) candidate lent budget ≡ ask h ws (numbersOf 4 count bs) candidate lent budget
       go true t =
           let same : min count lookedAt ≡ count = omega (arith, leb-true count lookedAt t) in
           rw same

@@ -15,7 +15,7 @@ use Rattle.parse.specs.Parse.{Parsed}
 use Rattle.card.specs.Decode.{Decoded, decoded}
 use Rattle.answer.specs.declared.asked.Asked.{Asked}
 use Rattle.answer.specs.declared.asked.Asked.the-variants.{Verdict, Refused}
-use Rattle.answer.specs.Ask.{ask}
+use Rattle.answer.specs.Ask.{list, ask}
 use Rattle.query.specs.Words.{nodeWords, maxNodes}
 use Rattle.line.specs.Fields.{Fields, readInput}
 use Rattle.line.specs.Text.{verdictLine, refusedLine, maxLine}
@@ -30,7 +30,7 @@ lookedAt = (maxNodes + 1) * nodeWords
 
 -- the answer to the question about a plot
 abbrev pub askedInstance : Fields → Header → List ℕ → Asked
-askedInstance f h ws = ask h ws (f .words) (f .candidate) blank (f .budget)
+askedInstance f h ws = ask h ws (f .words) (f .candidate) (list blank) (f .budget)
 
 -- goes on only if the card is accepted
 abbrev pub ifRead : Answer → Asked → Asked

@@ -3,6 +3,7 @@ ghost use Prim.Native.Nat.{_≤_};
 use super::question::NONE;
 use super::question::flat;
 use answer::ask::ask;
+use answer::unlisted::ask_unlisted;
 use instance::header::Header;
 use substitute::substitute;
 use worked::plots::one_sheet;
@@ -13,7 +14,7 @@ const SOME: u32 = 6;
 
 const EVERY: u32 = 7;
 
-// Asks a question, and shows the answer and the working list afterwards.
+// Asks a question, and shows the answer and the working list afterwards; then asks it without a list.
 fn listed(
     name: &[u8],
     header: Header,
@@ -26,6 +27,8 @@ fn listed(
     let answer = ask(header, plot, query, candidate, list, budget);
     show::asked(name, answer);
     show::words(list);
+    let again = ask_unlisted(header, plot, query, candidate, budget);
+    show::asked(b"  without a list", again);
 }
 
 // The same, with a list that is longer than any plot here needs.

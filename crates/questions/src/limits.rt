@@ -3,6 +3,7 @@ ghost use mathlib.Core.Path.{_≡_};
 ghost use Prim.Native.Nat.{_≤_};
 ghost use lib.ListN.{length};
 use answer::ask::ask;
+use answer::unlisted::ask_unlisted;
 use worked::plots::one_sheet;
 use worked::show;
 
@@ -26,7 +27,7 @@ fn chain(n: usize, last: [u32; 3]) -> [u32; 808]
     query
 }
 
-// Asks that question about a sheet of one column, and shows the answer.
+// Asks that question about a sheet of one column, by both ways, and shows the answers.
 fn chained(
     name: &[u8],
     n: usize,
@@ -48,6 +49,8 @@ fn chained(
         budget,
     );
     show::asked(name, answer);
+    let again = ask_unlisted(one_sheet(1, used), plot, &query[..n * 8 + 8], &[], budget);
+    show::asked(b"  without a list", again);
 }
 
 // x0 = x0

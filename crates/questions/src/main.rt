@@ -30,4 +30,5 @@ fn main() {
     rerunning::words_in_use();
     rerunning::second_refused();
     rerunning::refused();
+    rerunning::unlisted();
 }

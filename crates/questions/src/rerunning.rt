@@ -1,4 +1,5 @@
 // Run A, fills, run B: shows both runs' answers, and the plot, the candidate, A's list, B's list, the answers to the fills and the log afterwards.
+use answer::way::Way;
 use instance::header::Header;
 use rerun::rerun::rerun;
 use worked::plots::one_sheet;
@@ -15,6 +16,7 @@ const ROWS: [u32; 6] = [0, 1_000_001, 0, 8, 1_000_001, 5];
 
 // Reruns a question; run A has a list of three words, and there is place for the answers to four fills.
 fn shown(
+    way: Way,
     name: &[u8],
     header: Header,
     rows: [u32; 6],
@@ -33,6 +35,7 @@ fn shown(
     let mut answers = [9u32; 12];
     let mut in_use = used;
     let reran = rerun(
+        way,
         header,
         &mut plot,
         query,
@@ -57,10 +60,11 @@ fn shown(
 }
 
 // Reruns a question on the rows (m1) and (8); run B has as long a list and as large an allowance as run A.
-fn one(name: &[u8], query: &[u32], cell: u32, fills: &[u32], budget: u32) {
+fn one(way: Way, name: &[u8], query: &[u32], cell: u32, fills: &[u32], budget: u32) {
     let mut log = [9u32; 3];
     let mut list2 = [9u32; 3];
     shown(
+        way,
         name,
         one_sheet(1, 4),
         ROWS,
@@ -77,7 +81,7 @@ fn one(name: &[u8], query: &[u32], cell: u32, fills: &[u32], budget: u32) {
 
 // Asks whether the cell is in the sheet, with an allowance that suffices if both rows are counted.
 fn stands(name: &[u8], cell: u32, fills: &[u32]) {
-    one(name, &STANDS, cell, fills, 3);
+    one(Way::Listed, name, &STANDS, cell, fills, 3);
 }
 
 fn by_eight(name: &[u8], cell: u32) {
@@ -86,7 +90,14 @@ fn by_eight(name: &[u8], cell: u32) {
 
 // Reading 10; candidates with and without the mark that is filled; one whose row is the second before the fill and the first after it.
 pub fn settled() {
-    one(b"every x: x = 7, m1 by 8", &ALL_SEVEN, 0, &[1, 8, 0], 100);
+    one(
+        Way::Listed,
+        b"every x: x = 7, m1 by 8",
+        &ALL_SEVEN,
+        0,
+        &[1, 8, 0],
+        100,
+    );
     by_eight(b"m1 in the sheet, m1 by 8", 1_000_001);
     by_eight(b"m2 in the sheet, m1 by 8", 1_000_002);
     by_eight(b"5 in the sheet, m1 by 8", 5);
@@ -111,6 +122,7 @@ pub fn both_kinds() {
     let mut log = [9u32; 6];
     let mut list2 = [9u32; 3];
     shown(
+        Way::Listed,
         b"m2 in the sheet, m2 by m3, m1 by 8 refused, m3 by m1, m1 by 8 without the log",
         one_sheet(1, 6),
         [0, 1_000_001, 0, 1_000_002, 0, 1_000_001],
@@ -126,9 +138,10 @@ pub fn both_kinds() {
 }
 
 // A logged fill of m1 by 8, with m1 as the candidate.
-fn by_eight_logged(name: &[u8], used: usize, list2: &mut [u32], budget2: u32) {
+fn by_eight_logged(way: Way, name: &[u8], used: usize, list2: &mut [u32], budget2: u32) {
     let mut log = [9u32; 3];
     shown(
+        way,
         name,
         one_sheet(1, 4),
         ROWS,
@@ -146,22 +159,55 @@ fn by_eight_logged(name: &[u8], used: usize, list2: &mut [u32], budget2: u32) {
 // A logged fill that is made, and one that the log has no room for since more words are in use than it has.
 pub fn words_in_use() {
     let mut list2 = [9u32; 3];
-    by_eight_logged(b"m1 by 8 in a fresh log", 0, &mut list2, 3);
-    by_eight_logged(b"m1 by 8, 4 words in use of 3", 4, &mut list2, 3);
+    by_eight_logged(Way::Listed, b"m1 by 8 in a fresh log", 0, &mut list2, 3);
+    by_eight_logged(
+        Way::Listed,
+        b"m1 by 8, 4 words in use of 3",
+        4,
+        &mut list2,
+        3,
+    );
 }
 
 // Run B has a list or an allowance that is smaller than run A's; the fills are made all the same.
 pub fn second_refused() {
     let mut short = [9u32];
     let mut list2 = [9u32; 3];
-    by_eight_logged(b"a list of 1 word for run B", 0, &mut short, 3);
-    by_eight_logged(b"a budget of 1 for run B", 0, &mut list2, 1);
+    by_eight_logged(Way::Listed, b"a list of 1 word for run B", 0, &mut short, 3);
+    by_eight_logged(Way::Listed, b"a budget of 1 for run B", 0, &mut list2, 1);
 }
 
 // 44, and refusals of run A; under 46 only A's list is written.
 pub fn refused() {
     let many = [1u32, 8, 0, 1, 8, 0, 1, 8, 0, 1, 8, 0, 1, 8, 0];
     stands(b"no place for five answers", 5, &many);
-    one(b"no question", &[], 5, &[1, 8, 0], 3);
-    one(b"a budget of 2", &STANDS, 5, &[1, 8, 0], 2);
+    one(Way::Listed, b"no question", &[], 5, &[1, 8, 0], 3);
+    one(Way::Listed, b"a budget of 2", &STANDS, 5, &[1, 8, 0], 2);
+}
+
+// Both runs without a list: no list is written, and run B is not refused for a list that is too short.
+pub fn unlisted() {
+    one(
+        Way::Unlisted,
+        b"every x: x = 7, m1 by 8, without a list",
+        &ALL_SEVEN,
+        0,
+        &[1, 8, 0],
+        100,
+    );
+    let mut short = [9u32];
+    by_eight_logged(
+        Way::Unlisted,
+        b"m1 in the sheet, m1 by 8, without a list",
+        0,
+        &mut short,
+        3,
+    );
+    by_eight_logged(
+        Way::Unlisted,
+        b"a budget of 1 for run B, without a list",
+        0,
+        &mut short,
+        1,
+    );
 }

@@ -17,13 +17,14 @@ use Rattle.instance.proofs.Run.{fills-follow-model}
 use Rattle.query.proofs.Passed as passed
 use Rattle.answer.specs.declared.asked.Asked.{Asked}
 use Rattle.answer.specs.declared.asked.Asked.the-variants as asked
-use Rattle.answer.specs.Ask.{ask, askedBuffer}
+use Rattle.answer.specs.Ask.{ask}
+use Rattle.answer.specs.Ways.{lentBy, leftBy}
 use Rattle.answer.proofs.Told.{Of, tells-verdict, ask-outcome}
 use Rattle.answer.proofs.RerunLaws.{verdict-asked, not-refused, demand-three}
 use Rattle.rerun.specs.declared.reran.Reran.{Reran}
 use Rattle.rerun.specs.declared.reran.Reran.the-variants.{Refused}
 use Rattle.rerun.specs.Fills.{Filled, filledWith, fillLeaves, fillsTold, accountsTold, fedAll, stored}
-use Rattle.rerun.specs.Rerun.{bothRuns, firstOf, secondOf, Given, wanted, start, end, modelWords, runA, runB, hasPlace, begun, reran}
+use Rattle.rerun.specs.Rerun.{bothRuns, firstOf, secondOf, Given, wanted, start, end, modelWords, runA, runB, hasAnswers, begun, reran}
 use Rattle.rerun.specs.Rerun.{reranWords, reranCandidate, reranAnswers, reranLog, reranUsed, reranBuffer, reranBuffer2, Claim, TellsRuns, Reruns}
 use Rattle.rerun.proofs.ModelLaws.{Kept, fed-run, model-kept, words-kept}
 
@@ -53,8 +54,8 @@ module _ (g : Given) (ws : List ℕ) where
   told : {r : Reran} → r ≡ reran g ws → TellsRuns g ws r
   unfolding reran
   told e = record {
-    first = tells-verdict _ (ap firstOf e) (first-of (hasPlace g ws) (runA g ws) (runB g ws) (ask-outcome (g .header) ws (g .query) (g .candidate) (g .buffer) (g .budget)));
-    second = tells-verdict _ (ap secondOf e) (second-of (hasPlace g ws) (runA g ws) (runB g ws) (ask-outcome (g .header) _ (g .query) _ (g .buffer2) (g .budget2)));
+    first = tells-verdict _ (ap firstOf e) (first-of (hasAnswers g ws) (runA g ws) (runB g ws) (ask-outcome (g .header) ws (g .query) (g .candidate) (lentBy (g .way) (g .buffer)) (g .budget)));
+    second = tells-verdict _ (ap secondOf e) (second-of (hasAnswers g ws) (runA g ws) (runB g ws) (ask-outcome (g .header) _ (g .query) _ (lentBy (g .way) (g .buffer2)) (g .budget2)));
   }
 
   pub no-place : length (g .answers) < length (g .fills) →
@@ -77,7 +78,7 @@ module _ (g : Given) (ws : List ℕ) where
 
   pub refused :
       length (g .fills) ≤ length (g .answers) → (r : ℕ) → asked.Refused r ≡ runA g ws →
-      (buffer : List ℕ) → buffer ≡ askedBuffer (g .header) ws (g .query) (g .candidate) (g .buffer) →
+      (buffer : List ℕ) → buffer ≡ leftBy (g .way) (g .header) ws (g .query) (g .candidate) (g .buffer) →
       Reruns g ws (Refused r) ws (g .candidate) buffer (g .answers) (g .log) (g .used) (g .buffer2)
   unfolding begun reran reranWords reranCandidate reranAnswers reranLog reranUsed reranBuffer reranBuffer2
   refused l r e buffer is-listed =
@@ -99,24 +100,24 @@ module _ (g : Given) (ws : List ℕ) where
   -- a question that got a verdict passed its check
   pub few-cells : (t : Truth) (n : ℕ) → asked.Verdict t n ≡ runA g ws → length (g .candidate) ≤ maxColumns
   few-cells t n e =
-      let a = verdict-asked (g .header) ws (g .query) (g .candidate) (g .buffer) (g .budget) t n (sym e) .0 in
+      let a = verdict-asked (g .header) ws (g .query) (g .candidate) (lentBy (g .way) (g .buffer)) (g .budget) t n (sym e) .0 in
       passed.few-cells (g .header .relations) (g .header .arities) (g .query) (g .candidate) (a .right) (a .scopes) (a .passes)
 
   -- both runs, run B on what the fills left
   module _
       (l : length (g .fills) ≤ length (g .answers)) (t : Truth) (n : ℕ) (e : asked.Verdict t n ≡ runA g ws)
       (buffer ws′ candidate′ out′ log′ : List ℕ) (used′ : ℕ) (buffer2 : List ℕ) (b : Asked)
-      (is-buffer : buffer ≡ askedBuffer (g .header) ws (g .query) (g .candidate) (g .buffer))
+      (is-buffer : buffer ≡ leftBy (g .way) (g .header) ws (g .query) (g .candidate) (g .buffer))
       (is-left : filledWith ws′ candidate′ log′ used′ ≡ afterFills (fillLeaves (g .header)) (wanted g ws) (filledWith ws (g .candidate) (g .log) (g .used)))
       (is-stored : out′ ≡ stored (fillsTold (g .header) (wanted g ws) (filledWith ws (g .candidate) (g .log) (g .used))) (g .answers))
-      (is-asked : b ≡ ask (g .header) ws′ (g .query) candidate′ (g .buffer2) (g .budget2))
-      (is-buffer2 : buffer2 ≡ askedBuffer (g .header) ws′ (g .query) candidate′ (g .buffer2))
+      (is-asked : b ≡ ask (g .header) ws′ (g .query) candidate′ (lentBy (g .way) (g .buffer2)) (g .budget2))
+      (is-buffer2 : buffer2 ≡ leftBy (g .way) (g .header) ws′ (g .query) candidate′ (g .buffer2))
     where
       abbrev before : Filled
       before = filledWith ws (g .candidate) (g .log) (g .used)
 
       is-sound : sound (g .header) ws ≡ true
-      is-sound = verdict-asked (g .header) ws (g .query) (g .candidate) (g .buffer) (g .budget) t n (sym e) .0 .is-sound
+      is-sound = verdict-asked (g .header) ws (g .query) (g .candidate) (lentBy (g .way) (g .buffer)) (g .budget) t n (sym e) .0 .is-sound
 
       kept : (fillsTold (g .header) (wanted g ws) before ≡ accountsTold (wanted g ws) (start g ws)) × Kept (g .header) ws (afterFills (fillLeaves (g .header)) (wanted g ws) before) (end g ws)
       kept = model-kept (g .header) ws (g .candidate) (g .log) (g .used) (wanted g ws) is-sound
@@ -142,8 +143,8 @@ module _ (g : Given) (ws : List ℕ) where
 
       claimed : Claim g ws (bothRuns (asked.Verdict t n) b)
       claimed l′ longer larger u k v =
-          let d = demand-three (g .header) ws (g .query) (g .candidate) (g .buffer) (g .budget) fs (g .buffer2) (g .budget2) longer larger u k v in
-          let is-second : b ≡ ask (g .header) (filledWords (g .header) fs ws) (g .query) (run fs (modelOf (g .header) ws (g .candidate)) .candidate) (g .buffer2) (g .budget2) =
+          let d = demand-three (g .header) ws (g .query) (g .candidate) (lentBy (g .way) (g .buffer)) (g .budget) fs (lentBy (g .way) (g .buffer2)) (g .budget2) longer larger u k v in
+          let is-second : b ≡ ask (g .header) (filledWords (g .header) fs ws) (g .query) (run fs (modelOf (g .header) ws (g .candidate)) .candidate) (lentBy (g .way) (g .buffer2)) (g .budget2) =
           rw (is-asked, words-fed, model-candidate, model-fed) refl
           in
           (first-both t n b ∙ e ∙ v, rw (second-both t n b, is-second) d)

@@ -17,7 +17,9 @@ use Rattle.instance.specs.Rows.{wordsOf}
 use Rattle.instance.specs.Run.{modelOf}
 use Rattle.answer.specs.declared.asked.Asked.{Asked}
 use Rattle.answer.specs.declared.asked.Asked.the-variants as asked
-use Rattle.answer.specs.Ask.{ask, askedBuffer}
+use Rattle.answer.specs.Ask.{ask}
+use Rattle.answer.specs.Ways.{NoShorter, lentBy, leftBy}
+use Rattle.answer.specs.declared.way.Way.{Way}
 use Rattle.query.specs.Tree.{formulaOf}
 use Rattle.answer.specs.Numbers.{TellsVerdict}
 use Rattle.answer.specs.Rerun.{Rerun}
@@ -48,8 +50,10 @@ abbrev pub goesOn : Asked → Answer
 goesOn (asked.Verdict t n) = answer.Done 0
 goesOn (asked.Refused r) = answer.Refused r
 
--- what a rerun is given besides the instance's words: run A's buffer and budget are `buffer` and `budget`, run B's are `buffer2` and `budget2`
+-- what a rerun is given besides the instance's words: both runs ask by the same way; run A's buffer and budget are `buffer` and `budget`, run B's are
+-- `buffer2` and `budget2`
 pub record Given : Type 0 where
+  pub way : Way
   pub header : Header
   pub query : List ℕ
   pub candidate : List ℕ
@@ -62,8 +66,9 @@ pub record Given : Type 0 where
   pub buffer2 : List ℕ
   pub budget2 : ℕ
 
-abbrev pub given : Header → (qs candidate buffer : List ℕ) → (budget : ℕ) → (fills answers log : List ℕ) → (used : ℕ) → (buffer2 : List ℕ) → (budget2 : ℕ) → Given
-given h qs candidate buffer budget fills answers log used buffer2 budget2 = record {
+abbrev pub given : Way → Header → (qs candidate buffer : List ℕ) → (budget : ℕ) → (fills answers log : List ℕ) → (used : ℕ) → (buffer2 : List ℕ) → (budget2 : ℕ) → Given
+given way h qs candidate buffer budget fills answers log used buffer2 budget2 = record {
+  way = way;
   header = h;
   query = qs;
   candidate = candidate;
@@ -93,22 +98,22 @@ module _ (g : Given) (ws : List ℕ) where
   modelWords = wordsOf (end .model .rows) ++ drop (g .header .used) ws
 
   abbrev pub runA : Asked
-  runA = ask (g .header) ws (g .query) (g .candidate) (g .buffer) (g .budget)
+  runA = ask (g .header) ws (g .query) (g .candidate) (lentBy (g .way) (g .buffer)) (g .budget)
 
   -- "B asks with the book's candidate"
   abbrev pub runB : Asked
-  runB = ask (g .header) modelWords (g .query) (end .model .candidate) (g .buffer2) (g .budget2)
+  runB = ask (g .header) modelWords (g .query) (end .model .candidate) (lentBy (g .way) (g .buffer2)) (g .budget2)
 
   -- the slice for the answers is at least as long as the slice of the fills
-  abbrev pub hasPlace : Bool
-  hasPlace = leb (length (g .fills)) (length (g .answers))
+  abbrev pub hasAnswers : Bool
+  hasAnswers = leb (length (g .fills)) (length (g .answers))
 
   -- 44 before anything is asked, then the refusals of run A
   unfoldable pub begun : Answer
-  begun = demand hasPlace (answer.Refused output-too-short) (goesOn runA)
+  begun = demand hasAnswers (answer.Refused output-too-short) (goesOn runA)
 
   unfoldable pub reran : Reran
-  reran = cond hasPlace (bothRuns runA runB) (Refused output-too-short)
+  reran = cond hasAnswers (bothRuns runA runB) (Refused output-too-short)
 
   -- what is left of the instance's words, the candidate, the slice for the answers, the log with its words in use, and the buffers
   unfoldable pub reranWords : List ℕ
@@ -127,16 +132,16 @@ module _ (g : Given) (ws : List ℕ) where
   reranUsed = after begun (end .used) (g .used)
 
   unfoldable pub reranBuffer : List ℕ
-  reranBuffer = cond hasPlace (askedBuffer (g .header) ws (g .query) (g .candidate) (g .buffer)) (g .buffer)
+  reranBuffer = cond hasAnswers (leftBy (g .way) (g .header) ws (g .query) (g .candidate) (g .buffer)) (g .buffer)
 
   unfoldable pub reranBuffer2 : List ℕ
-  reranBuffer2 = after begun (askedBuffer (g .header) modelWords (g .query) (end .model .candidate) (g .buffer2)) (g .buffer2)
+  reranBuffer2 = after begun (leftBy (g .way) (g .header) modelWords (g .query) (end .model .candidate) (g .buffer2)) (g .buffer2)
 
   -- demand 3 for the answer, if there is room for the fills' answers, run B's buffer and budget are no smaller than run A's, and run A gets a verdict:
   -- r has it, and B is not refused, keeps it if it is true or false, costs no more, and is the verdict of two-valued logic if no null is left
   abbrev pub Claim : Reran → Type 0
   Claim r =
-      length (g .fills) ≤ length (g .answers) → length (g .buffer) ≤ length (g .buffer2) → g .budget ≤ g .budget2 →
+      length (g .fills) ≤ length (g .answers) → NoShorter (lentBy (g .way) (g .buffer)) (lentBy (g .way) (g .buffer2)) → g .budget ≤ g .budget2 →
       (t : Truth) (n : ℕ) → runA ≡ asked.Verdict t n →
       (firstOf r ≡ asked.Verdict t n) × Rerun (g .header) ws (g .query) (g .candidate) (fedAll wanted start) t n (secondOf r)
 

@@ -2,7 +2,7 @@
 use mathlib.Core.Path.{sym, ap, _∙_}
 use Rattle.answer.specs.declared.asked.Asked.{Asked}
 use Rattle.answer.specs.declared.asked.Asked.the-variants.{Refused}
-use Rattle.answer.specs.Ask.{ask, askedBuffer}
+use Rattle.answer.specs.Ask.{list, ask, askedBuffer}
 use Rattle.answer.specs.Numbers.{askedNumber, verdictOf, costOf}
 use Rattle.exports.specs.Calls.{askAnswer, askBuffer}
 use Rattle.exports.proofs.Headed.{kept-no, left}
@@ -45,7 +45,7 @@ returns-2 c =
     let ten = tested .if1 .left in
     let is = read .read-header .ensures in
     let made = c .before .before .before .before .before .before .before .ask .ensures in
-    let a = left hs ten is (λ h. ask h (args .instance .now) (args .query .now) (args .candidate .now) (args .buffer .now) (args .budget)) (Refused 41) (made .0) in (
+    let a = left hs ten is (λ h. ask h (args .instance .now) (args .query .now) (args .candidate .now) (list (args .buffer .now)) (args .budget)) (Refused 41) (made .0) in (
       c .asked-number .ensures ∙ ap askedNumber a,
       (
         left hs ten is (λ h. askedBuffer h (args .instance .now) (args .query .now) (args .candidate .now) (args .buffer .now)) _ (made .1 .0),

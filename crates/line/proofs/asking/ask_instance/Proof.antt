@@ -12,6 +12,7 @@ use Rattle.parse.specs.Number.{readNumber, readNumbers, numbersOf}
 use Rattle.parse.proofs.Each.{each-fewer}
 use Rattle.parse.proofs.Numbers.{numbers-front}
 use Rattle.line.specs.declared.fields.Places.{Places}
+use Rattle.answer.specs.Ask.{list}
 use Rattle.line.specs.Line.{blank}
 use Rattle.line.proofs.Shown.{first-words}
 use borrow.Author.Needs.{needs}
@@ -94,7 +95,7 @@ returns c =
     let listed = c .before .before .before .before .before .before in
     let b = first listed in
     c .before .ask .ensures .0 ∙ rw (words listed, cells listed)
-    (first-words (start b .args .header) (start b .args .instance .now) (numbersOf 3 (places b .arity) (drop (places b .cells) (input b))) blank (places b .budget) (places b .count) (count b) (drop (places b .words) (input b)) (b .before .looked-at .ensures) (start b .pre .words-read))
+    (first-words (start b .args .header) (start b .args .instance .now) (numbersOf 3 (places b .arity) (drop (places b .cells) (input b))) (list blank) (places b .budget) (places b .count) (count b) (drop (places b .words) (input b)) (b .before .looked-at .ensures) (start b .pre .words-read))
 
 pub ask-instance-spec : {M : Type 1} → statement M
 ask-instance-spec =

@@ -33,6 +33,33 @@ ask-requires c κs = search needs
 asked-requires : tie.Need-asked-requires
 asked-requires c κs = search needs
 
+one-sheet-requires-2 : tie.Need-one-sheet-requires-2
+one-sheet-requires-2 c κs = search needs
+
+mul-query-2 : tie.Need-mul-query-2
+mul-query-2 c = search needs
+
+add-query-2 : tie.Need-add-query-2
+add-query-2 c = search needs
+
+array-share-prefix-query-2 : tie.Need-array-share-prefix-query-2
+array-share-prefix-query-2 c = search needs
+
+slice-aggregate-ask-unlisted : tie.Need-slice-aggregate-ask-unlisted
+slice-aggregate-ask-unlisted c = sym (length-take-le _ _ (omega arith))
+
+slice-aggregate-ask-unlisted-2 : tie.Need-slice-aggregate-ask-unlisted-2
+slice-aggregate-ask-unlisted-2 c = search needs
+
+ask-unlisted-requires : tie.Need-ask-unlisted-requires
+ask-unlisted-requires c κs = search needs
+
+slice-aggregate-asked : tie.Need-slice-aggregate-asked
+slice-aggregate-asked c = search needs
+
+asked-requires-2 : tie.Need-asked-requires-2
+asked-requires-2 c κs = search needs
+
 same-length : tie.Need-same-length
 same-length c = search needs
 
@@ -52,5 +79,14 @@ chained-spec =
     slice-aggregate-ask-2
     ask-requires
     asked-requires
+    one-sheet-requires-2
+    mul-query-2
+    add-query-2
+    array-share-prefix-query-2
+    slice-aggregate-ask-unlisted
+    slice-aggregate-ask-unlisted-2
+    ask-unlisted-requires
+    slice-aggregate-asked
+    asked-requires-2
     same-length
     returns)

@@ -14,7 +14,7 @@ use Rattle.rerun.proofs.rerun.rerun.Tie as tie
 -- what the call is given
 module _ (c : tie.Start) where
   abbrev g : Given
-  g = given (c .args .header) (c .args .query .now) (c .args .candidate .now) (c .args .buffer .now) (c .args .budget) (c .args .fills .now) (c .args .answers .now) (c .args .log .now) (c .args .used .now) (c .args .buffer2 .now) (c .args .budget2)
+  g = given (c .args .way) (c .args .header) (c .args .query .now) (c .args .candidate .now) (c .args .buffer .now) (c .args .budget) (c .args .fills .now) (c .args .answers .now) (c .args .log .now) (c .args .used .now) (c .args .buffer2 .now) (c .args .budget2)
 
   abbrev ws : List ℕ
   ws = c .args .instance .now
@@ -28,10 +28,10 @@ module _ (c : tie.After-truth-a) where
   verdict = Verdict (c .truth-a .given .0 .0) (c .truth-a .given .0 .1 .0)
 
   is-verdict : verdict ≡ runA (g start) (ws start)
-  is-verdict = sym (c .truth-a .given .1) ∙ c .before .before .before .before .ask .ensures .0
+  is-verdict = sym (c .truth-a .given .1) ∙ c .before .before .before .before .ask-by .ensures .0
 
 -- run B was asked
-module _ (c : tie.After-ask2) where
+module _ (c : tie.After-ask-by2) where
   abbrev made : tie.After-fill-all
   made = c .before .before .before .before .before .before .before .before .before .before .before .before
 
@@ -39,20 +39,20 @@ module _ (c : tie.After-ask2) where
   first = made .before .before .before .before .before .before .before
 
   ended :
-      (b : Asked) → c .ask2 .result ≡ b →
+      (b : Asked) → c .ask-by2 .result ≡ b →
       Reruns (g (start first)) (ws (start first)) (bothRuns (verdict first) b)
-      (made .fill-all .last .1 .0) (made .fill-all .last .1 .1 .0) (first .before .before .before .before .ask .last .1 .1 .1 .1 .0) (made .fill-all .last .1 .1 .1 .1 .1 .1 .0) (made .fill-all .last .1 .1 .1 .0) (made .fill-all .result)
-      (c .ask2 .last .1 .1 .1 .1 .0)
+      (made .fill-all .last .1 .0) (made .fill-all .last .1 .1 .0) (first .before .before .before .before .ask-by .last .1 .1 .1 .1 .1 .0) (made .fill-all .last .1 .1 .1 .1 .1 .1 .0) (made .fill-all .last .1 .1 .1 .0) (made .fill-all .result)
+      (c .ask-by2 .last .1 .1 .1 .1 .1 .0)
   ended b is =
       let told = made .fill-all .ensures in
       both-asked (g (start first)) (ws (start first)) (first .before .before .before .before .before .before .before .before .if1 .left) _ _ (is-verdict first)
-      _ _ _ _ _ _ _ b (first .before .before .before .before .ask .ensures .1 .0) (told .0) (told .1) (sym is ∙ c .ask2 .ensures .0) (c .ask2 .ensures .1 .0)
+      _ _ _ _ _ _ _ b (first .before .before .before .before .ask-by .ensures .1 .0) (told .0) (told .1) (sym is ∙ c .ask-by2 .ensures .0) (c .ask-by2 .ensures .1 .0)
 
 returns : tie.Need-returns
 returns c = no-place (g (c .before .before .before .before .before .before .before .before .before)) (ws (c .before .before .before .before .before .before .before .before .before)) (c .if1 .taken)
 
-ask-requires : tie.Need-ask-requires
-ask-requires c κs = search needs
+ask-by-requires : tie.Need-ask-by-requires
+ask-by-requires c κs = search needs
 
 enum-known-why-a : tie.Need-enum-known-why-a
 enum-known-why-a c = search needs
@@ -66,8 +66,8 @@ fill-all-requires c κs =
     let few = few-cells (g (start b)) (ws (start b)) _ _ (is-verdict b) in
     (omega arith, b .before .before .before .before .before .before .before .before .if1 .left)
 
-ask-requires-2 : tie.Need-ask-requires-2
-ask-requires-2 c κs = search needs
+ask-by-requires-2 : tie.Need-ask-by-requires-2
+ask-by-requires-2 c κs = search needs
 
 enum-known-why-b : tie.Need-enum-known-why-b
 enum-known-why-b c = search needs
@@ -88,7 +88,7 @@ returns-2 : tie.Need-returns-2
 returns-2 c =
     let asked = c .before .before .before .before .before in
     let s = asked .before .before .before .before .before .before .before .before .before .before .before .before .before in
-    refused (g s) (ws s) (asked .before .before .before .before .if1 .left) _ (sym (c .before .why-a .given .1) ∙ asked .ask .ensures .0) _ (asked .ask .ensures .1 .0)
+    refused (g s) (ws s) (asked .before .before .before .before .if1 .left) _ (sym (c .before .why-a .given .1) ∙ asked .ask-by .ensures .0) _ (asked .ask-by .ensures .1 .0)
 
 same-length-4 : tie.Need-same-length-4
 same-length-4 c = search needs
@@ -137,11 +137,11 @@ rerun-spec =
     tie.close
     (tie.spec
     returns
-    ask-requires
+    ask-by-requires
     enum-known-why-a
     enum-known-truth-a
     fill-all-requires
-    ask-requires-2
+    ask-by-requires-2
     enum-known-why-b
     enum-known-truth-b
     same-length
