@@ -135,6 +135,18 @@ static void many_values(uint32_t rows)
     ask_nothing(&now);
 }
 
+static void every_of_few_values(uint32_t rows)
+{
+    few_values(rows);
+    ask_values(&now);
+}
+
+static void every_of_many_values(uint32_t rows)
+{
+    many_values(rows);
+    ask_values(&now);
+}
+
 /* The rows of a quarter, a half, and a full plot with room for one more row. */
 static const uint32_t SHARES[] = {FULL_ROWS / 4, FULL_ROWS / 2, FULL_ROWS - 1};
 
@@ -160,6 +172,8 @@ static void growth_table(void)
     puts("|---|---|---|---|---|---|");
     growth_row("ask, one row, no match; 16 different values", few_values, ask);
     growth_row("ask, no row asked; all values different", many_values, ask);
+    growth_row("ask unlisted, for every value an equality; 16 different values", every_of_few_values, ask_unlisted);
+    growth_row("ask unlisted, for every value an equality; all values different", every_of_many_values, ask_unlisted);
     growth_row("decode", prepare_calls, decode);
     growth_row("encode", prepare_calls, encode);
     growth_row("substitute", prepare_calls, substitute);
@@ -210,33 +224,42 @@ static void look_table(void)
     look_row("two nested quantifiers over 64 values, with equalities alone", ask_pairs);
 }
 
-static void stack_row(const char *name, work *piece)
+static void stack_row(const char *name, const char *detail, work *piece)
 {
     must_do(piece);
-    printf("| %s | %zu |\n", name, stack_of(piece));
+    printf("| %s%s | %zu |\n", name, detail, stack_of(piece));
 }
 
-static void chain_row(const char *name, uint32_t kind, uint32_t nodes)
+/* A way of asking. */
+struct way {
+    const char *name;
+    work *ask;
+};
+
+static const struct way listed = {"ask", ask}, unlisted = {"ask unlisted", ask_unlisted};
+
+static void chain_row(const struct way *way, const char *detail, uint32_t kind, uint32_t nodes)
 {
     ask_chain(&now, kind, nodes);
-    stack_row(name, ask);
+    stack_row(way->name, detail, way->ask);
 }
 
-/* Over a row of one null, so that each quantifier has one value, and the deepest node has to unify. */
-static void chain_rows(void)
+static void chain_rows(const struct way *way)
 {
-    make_plot(&now, PLOTASK_COLUMNS, 1, 1);
-    for (uint32_t i = 1; i <= PLOTASK_COLUMNS; i++)
-        now.plot[i] = PLOTASK_MARK(1);
+    make_null_row(&now);
     ask_nothing(&now);
-    stack_row("ask, 1 node, two terms that are equal", ask);
-    chain_row("ask, 1 node, a row of six columns", PLOTASK_NOT, 1);
-    chain_row("ask, 2 nodes", PLOTASK_NOT, 2);
-    chain_row("ask, 100 nodes, a chain of not", PLOTASK_NOT, PLOTASK_NODES);
-    chain_row("ask, 100 nodes, a chain of some", PLOTASK_SOME, PLOTASK_NODES);
-    chain_row("ask, 100 nodes, a chain of every", PLOTASK_EVERY, PLOTASK_NODES);
+    stack_row(way->name, ", 1 node, two terms that are equal", way->ask);
+    chain_row(way, ", 1 node, a row of six columns", PLOTASK_NOT, 1);
+    chain_row(way, ", 2 nodes", PLOTASK_NOT, 2);
+    chain_row(way, ", 100 nodes, a chain of not", PLOTASK_NOT, PLOTASK_NODES);
+    chain_row(way, ", 100 nodes, a chain of some", PLOTASK_SOME, PLOTASK_NODES);
+    chain_row(way, ", 100 nodes, a chain of every", PLOTASK_EVERY, PLOTASK_NODES);
     ask_and_chain(&now, PLOTASK_NODES / 2 - 1);
-    stack_row("ask, 99 nodes, a chain of and", ask);
+    stack_row(way->name, ", 99 nodes, a chain of and", way->ask);
+    many_values(FULL_ROWS);
+    stack_row(way->name, ", 1 node; 3,510 different values", way->ask);
+    ask_values(&now);
+    stack_row(way->name, ", 2 nodes, every; 3,510 different values", way->ask);
 }
 
 static void stack_table(void)
@@ -245,16 +268,15 @@ static void stack_table(void)
     puts("| call | stack, bytes |");
     puts("|---|---|");
     prepare_calls(FULL_ROWS - 1);
-    stack_row("decode", decode);
-    stack_row("encode", encode);
-    stack_row("insert", insert);
-    stack_row("substitute", substitute);
-    stack_row("logged fill", substitute_logged);
-    stack_row("undo", undo);
-    stack_row("null counts", null_counts);
-    chain_rows();
-    many_values(FULL_ROWS);
-    stack_row("ask, 1 node; 3,510 different values", ask);
+    stack_row("decode", "", decode);
+    stack_row("encode", "", encode);
+    stack_row("insert", "", insert);
+    stack_row("substitute", "", substitute);
+    stack_row("logged fill", "", substitute_logged);
+    stack_row("undo", "", undo);
+    stack_row("null counts", "", null_counts);
+    chain_rows(&listed);
+    chain_rows(&unlisted);
 }
 
 int main(void)

@@ -1,7 +1,7 @@
 # Times and stack of the library's calls. A file directly in bench/ is a program; the folders hold what programs share.
 MEASURED := $(call objects,c-aligned,bench/baseline bench/measure bench/work tests/reference)
 ALIGNED := target/c-aligned/bin
-TABLES := $(ALIGNED)/bench $(ALIGNED)/row_test
+TABLES := $(ALIGNED)/bench $(ALIGNED)/row_test $(ALIGNED)/unlisted
 
 # times as ratios to C, and the stack: the tables of docs/BENCHMARKS.md
 bench: $(TABLES)

@@ -14,6 +14,7 @@
  */
 #define CALLS(prefix)                                                        \
     __typeof__(plotask_ask) prefix##plotask_ask;                             \
+    __typeof__(plotask_ask_unlisted) prefix##plotask_ask_unlisted;           \
     __typeof__(plotask_decode) prefix##plotask_decode;                       \
     __typeof__(plotask_encode) prefix##plotask_encode;                       \
     __typeof__(plotask_substitute) prefix##plotask_substitute;               \
@@ -26,11 +27,13 @@ CALLS(control_);
 CALLS(other_);
 CALLS(other_control_);
 
-/* Such a build lacks these two: they are then null. */
+/* Such a build lacks the two calls with a log, and builds after it may lack the unlisted ask: they are then null. */
 #pragma weak other_plotask_substitute_logged
 #pragma weak other_plotask_undo
+#pragma weak other_plotask_ask_unlisted
 #pragma weak other_control_plotask_substitute_logged
 #pragma weak other_control_plotask_undo
+#pragma weak other_control_plotask_ask_unlisted
 
 static const struct build this = BUILD(), control = BUILD(control_);
 static const struct build other = BUILD(other_), other_control = BUILD(other_control_);
@@ -64,25 +67,10 @@ static void by_other_control(void)
     by(&other_control);
 }
 
-/*
- * Gives every cell a constant of its own, out of four buckets of the library's hash table (crates/domain/src/chain.rt):
- * its worst case.
- */
-static void share_buckets(struct sample *sample)
+/* As many buckets as every cell needs for a constant of its own: the worst case of the listing. */
+static void share_four_buckets(struct sample *sample)
 {
-    uint32_t constant = 0;
-
-    for (uint32_t at = 0; at < sample->header.used; at += 1 + PLOTASK_COLUMNS)
-        for (uint32_t column = 1; column <= PLOTASK_COLUMNS; column++) {
-            while (constant * 2654435761u >> 22 >= 4)
-                constant++;
-            sample->plot[at + column] = constant++;
-        }
-}
-
-static void ask_absent_row(struct sample *sample)
-{
-    ask_row(sample, 999000);
+    share_buckets(sample, 4, PLOTASK_CELLS);
 }
 
 static void ask_first_columns(struct sample *sample)
@@ -100,7 +88,7 @@ static const struct {
     {"no row asked; 3,510 different values", PLOTASK_COLUMNS, FULL_ROWS, PLOTASK_CELLS, NULL, ask_nothing, ask},
     {"one row, no match; 3,510 different values", PLOTASK_COLUMNS, FULL_ROWS, PLOTASK_CELLS, NULL, ask_absent_row, ask},
     {"no row asked; 3,510 different values, chosen to share four buckets", PLOTASK_COLUMNS, FULL_ROWS, PLOTASK_CELLS,
-     share_buckets, ask_nothing, ask},
+     share_four_buckets, ask_nothing, ask},
     {"no row asked; 16 different values", PLOTASK_COLUMNS, FULL_ROWS, FEW_VALUES, NULL, ask_nothing, ask},
     {"one row, no match; 16 different values", PLOTASK_COLUMNS, FULL_ROWS, FEW_VALUES, NULL, ask_absent_row, ask},
     {"one row, match in the first row; 16 different values", PLOTASK_COLUMNS, FULL_ROWS, FEW_VALUES, NULL,
@@ -117,6 +105,14 @@ static const struct {
     {"one row, no match, refused with 46 for a budget of 100; 4,096 words in rows of one cell, 16 different values", 1,
      PLOTASK_WORDS / 2, FEW_VALUES, NULL, ask_absent_row, ask_refused},
     {"two nested quantifiers over 64 rows of one cell; 64 different values", 1, 64, 64, NULL, ask_pairs, ask},
+    {"no list: one row, no match; 16 different values", PLOTASK_COLUMNS, FULL_ROWS, FEW_VALUES, NULL, ask_absent_row,
+     ask_unlisted},
+    {"no list: for every value an equality; 16 different values", PLOTASK_COLUMNS, FULL_ROWS, FEW_VALUES, NULL,
+     ask_values, ask_unlisted},
+    {"no list: for every value an equality; 3,510 different values", PLOTASK_COLUMNS, FULL_ROWS, PLOTASK_CELLS, NULL,
+     ask_values, ask_unlisted},
+    {"no list: two nested quantifiers over 64 rows of one cell; 64 different values", 1, 64, 64, NULL, ask_pairs,
+     ask_unlisted},
 };
 
 /* The other calls: how many rows of six columns the plot has. */
@@ -135,6 +131,14 @@ static const struct {
 
 enum { BUILDS = 4 };
 static work *const by_build[BUILDS] = {by_this, by_control, by_other, by_other_control};
+
+/* Whether the other build has the calls that a piece of work makes. */
+static int other_has(work *call)
+{
+    if (call == ask_unlisted)
+        return other.ask_unlisted != NULL;
+    return call != logged_and_undone || (other.substitute_logged != NULL && other.undo != NULL);
+}
 
 /* Times the chosen call of all builds, in turn, and prints a row of the table. */
 static void table_row(const char *asked, const char *name)
@@ -156,7 +160,8 @@ static void query_rows(void)
             queries[i].change(&now);
         queries[i].query(&now);
         timed = queries[i].call;
-        table_row("", queries[i].name);
+        if (other_has(timed))
+            table_row("", queries[i].name);
     }
 }
 
@@ -180,7 +185,7 @@ static void call_rows(void)
         build = &this;
         prepare_calls(calls[i].rows);
         timed = calls[i].call;
-        if (timed != logged_and_undone || (other.substitute_logged != NULL && other.undo != NULL))
+        if (other_has(timed))
             table_row("", calls[i].name);
     }
 }

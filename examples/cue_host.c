@@ -26,6 +26,15 @@ static const uint32_t to_hire[4][PLOTASK_NODE_WORDS] = {
     {PLOTASK_STANDS, STORE, PLOTASK_VARIABLE(0)},
 };
 
+/* "Some lamp hangs and is not in the store." The lamp is one of the plot's values; there is no candidate. */
+static const uint32_t any_to_hire[5][PLOTASK_NODE_WORDS] = {
+    {PLOTASK_SOME, 0, 1},
+    {PLOTASK_AND, 2, 3},
+    {PLOTASK_STANDS, HUNG, PLOTASK_VARIABLE(0)},
+    {PLOTASK_NOT, 4},
+    {PLOTASK_STANDS, STORE, PLOTASK_VARIABLE(0)},
+};
+
 static const char *reason(uint32_t refusal)
 {
     switch (refusal) {
@@ -53,16 +62,34 @@ static int refused(uint32_t refusal)
     return 1;
 }
 
-static void ask_to_hire(uint32_t lamp, uint32_t allowance)
+static void print_answer(uint32_t refusal, uint32_t truth, uint32_t looks)
 {
     static const char *const names[] = {"false", "unknown", "true"};
-    uint32_t truth, looks;
+
+    if (!refused(refusal))
+        printf("%s, %u looks\n", names[truth], (unsigned)looks);
+}
+
+static void ask_to_hire(uint32_t lamp, uint32_t allowance)
+{
+    uint32_t truth = 0, looks = 0;
 
     printf("hire %u, with %u looks: ", (unsigned)lamp, (unsigned)allowance);
     uint32_t refusal = plotask_ask(PLOTASK_HEADER(&header), plot, PLOTASK_WORDS, &to_hire[0][0], 4 * PLOTASK_NODE_WORDS,
                                    &lamp, 1, list, PLOTASK_CELLS, allowance, &truth, &looks);
-    if (!refused(refusal))
-        printf("%s, %u looks\n", names[truth], (unsigned)looks);
+    print_answer(refusal, truth, looks);
+}
+
+/* A question for times at which the working list's memory is lent to something else. */
+static void ask_any_to_hire(uint32_t allowance)
+{
+    const uint32_t no_candidate = 0;
+    uint32_t truth = 0, looks = 0;
+
+    printf("hire any lamp, with %u looks and no list: ", (unsigned)allowance);
+    uint32_t refusal = plotask_ask_unlisted(PLOTASK_HEADER(&header), plot, PLOTASK_WORDS, &any_to_hire[0][0],
+                                            5 * PLOTASK_NODE_WORDS, &no_candidate, 0, allowance, &truth, &looks);
+    print_answer(refusal, truth, looks);
 }
 
 static void fill(uint32_t mark, uint32_t lamp)
@@ -98,7 +125,7 @@ static void take_back(void)
 int main(void)
 {
     const uint32_t lamp = 202;
-    uint8_t written[PLOTASK_CARD_BYTES];
+    uint8_t *written = (uint8_t *)list;
     uint32_t bytes;
 
     if (refused(plotask_decode(card, sizeof card, PLOTASK_HEADER(&header), plot, PLOTASK_WORDS, &fill_log_used)))
@@ -129,8 +156,10 @@ int main(void)
     ask_to_hire(201, 4);
     ask_to_hire(202, 4);
 
-    if (refused(plotask_encode(PLOTASK_HEADER(&header), plot, PLOTASK_WORDS, written, sizeof written, &bytes)))
+    /* The card takes the working list's memory. Until it has been sent, the host asks without the list. */
+    if (refused(plotask_encode(PLOTASK_HEADER(&header), plot, PLOTASK_WORDS, written, sizeof list, &bytes)))
         return 1;
     printf("card written: %u bytes\n", (unsigned)bytes);
+    ask_any_to_hire(100);
     return 0;
 }

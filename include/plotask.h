@@ -32,7 +32,7 @@
  * - It may be given any number, and a slice of any length and content, and it always ends. There is nothing to test
  *   first.
  * - A refused call changes nothing that it was lent, with one exception: the working list of a question that is refused
- *   with 46 has the plot's values at its start.
+ *   with 46 has the plot's values at its start. If a question is asked without a list, there is no exception.
  * - An accepted call changes only what is named under "Writes". All other elements of a slice keep their content.
  * - A slice is a pointer and a length. The length counts elements: words for uint32_t, bytes for uint8_t.
  * - The host has to make sure of what no call can test: a pointer is not null, is aligned for its type, and points to
@@ -41,8 +41,8 @@
  *   with anything else that is lent to the same call, even if the call would write none of it: the host inserts a row
  *   from cells of its own, not from a part of the plot, and its log shares no word with plot, header or log_used.
  * - It allocates nothing, keeps nothing after it returns, and has no variables of its own. Calls on different plots,
- *   each with its own log, may run at the same time, and so may calls that only read the same plot, each question with
- *   its own working list.
+ *   each with its own log, may run at the same time, and so may calls that only read the same plot: each question with
+ *   its own working list, or with none.
  *
  * CELLS AND ROWS
  *
@@ -95,17 +95,22 @@
  * working list is free: it may hold a card (at most PLOTASK_CARD_BYTES), as (uint8_t *)list with 4 bytes for each word,
  * or the 200 words of a census.
  *
+ * Only plotask_ask needs the working list. A host that asks by plotask_ask_unlisted alone can leave it out, or lend its
+ * memory to something else for as long as it likes: plot, question, header and candidate are 19,648 bytes.
+ *
  *   log             for each fill 2 words, and 1 word for each cell that it fills; a fill writes at most 3,512 words
  *                   (PLOTASK_ENTRY_WORDS), 14,048 bytes
  *
- * The log is beside these 36,032 bytes, and only logged fills and undos need it. It cannot share memory with the
- * working list, since it has to be kept between questions. Beside the largest arrays above, 40 KiB have room for a log
- * of 1,232 words.
+ * The log is beside all these, and only logged fills and undos need it. It cannot share memory with the working list of
+ * a host that lends one, since it has to be kept between questions. Beside the largest arrays above, 40 KiB have room
+ * for a log of 1,232 words; if the working list is left out, of 5,328 words.
  *
  * STACK, in bytes below the caller's own frame, as measured by `make bench` (docs/BENCHMARKS.md):
  *
- *   ask            3,240 for a question of 1 node (a row of six columns; 2,904 for two terms), and 224 more for each
- *                  level below it; 25,416 for 100 nodes in one chain
+ *   ask            3,520 for a question of 1 node, and for any of up to 4 levels, where the tests of plot and question
+ *                  go deepest; at most 208 more for each further level; 23,480 for 100 nodes in one chain
+ *   ask unlisted   2,960 for the same questions; at most 208 more for each further level; 22,920 for 100 nodes in one
+ *                  chain
  *   null counts      976
  *   insert           256
  *   encode           240
@@ -410,13 +415,15 @@ uint32_t plotask_encode(const uint32_t *header, size_t header_words, const uint3
  *
  * Looks do not measure time: "row stands" also passes over the rows of other sheets that come before the row at which
  * its count ends. The time that a question may take grows with its looks and with the words in use, at most with their
- * product. What a look takes is measured in docs/BENCHMARKS.md.
+ * product; for plotask_ask_unlisted this holds of the time besides its pass over the plot. What a look takes is
+ * measured in docs/BENCHMARKS.md.
  *
  *   header, header_words        PLOTASK_CONST_HEADER(&header) or PLOTASK_HEADER(&header)
  *   plot, plot_words            the plot
  *   query, query_words          the question, 8 words for each node
  *   candidate, candidate_cells  the candidate row, 0 to 6 cells; it may hold values and marks that the plot lacks
  *   list, list_words            the working list, at least as many words as the plot has cells; its content is not read
+ *                               (plotask_ask_unlisted needs none)
  *   budget                      the allowance: the most looks that the question may take, 0 to 4,294,967,295
  *   truth                       gets the verdict (enum plotask_truth)
  *   cost                        gets the looks
@@ -430,6 +437,45 @@ uint32_t plotask_encode(const uint32_t *header, size_t header_words, const uint3
 uint32_t plotask_ask(const uint32_t *header, size_t header_words, const uint32_t *plot, size_t plot_words,
                      const uint32_t *query, size_t query_words, const uint32_t *candidate, size_t candidate_cells,
                      uint32_t *list, size_t list_words, uint32_t budget, uint32_t *truth, uint32_t *cost);
+
+/*
+ * A question with no working list (ask unlisted): for a host that has no memory to lend for one. It answers as
+ * plotask_ask does with a list that is long enough: the same verdict, the same looks, and the same refusal, so that a
+ * host may change from one to the other between any two questions. The list is the only difference: there is none to
+ * be too short, so 45 never occurs, and none that gets the plot's values.
+ *
+ * It finds the plot's values in the plot itself, by walking the rows and passing over any cell that occurred earlier.
+ *
+ * Time. A question without "some" and "every" needs no values, and there is no search for them. For any other, one pass
+ * over the plot finds where each value first occurs. Each time a "some" or "every" is asked, it goes from one value to
+ * the next and steps over the words between them, up to 32 at a time: at most one step for each word in use, and at
+ * most 129 steps in a plot of one value. The pass is quick for up to some hundreds of different values. In the worst
+ * case, with thousands of them, each cell is searched for among the words before it: that takes at most as many tests
+ * of a word as the plot's cells times its words in use.
+ *
+ * Measured on full plots (docs/BENCHMARKS.md), beside plotask_ask: a question without "some" and "every" takes about
+ * half as long. With them, and with up to 205 different values, it takes 1.06 to 1.9 times as long, or less than that
+ * if many values share a bucket of the library's hash. With 3,510 different values the pass alone takes about 2
+ * milliseconds, where plotask_ask takes 28 microseconds for a question of one "every".
+ *
+ * Which to choose: this call if there is no memory for the list, and for questions without "some" and "every", since
+ * plotask_ask lists the plot's values for these too; plotask_ask if there is memory and the plot may have thousands of
+ * different values.
+ *
+ *   header, header_words        PLOTASK_CONST_HEADER(&header) or PLOTASK_HEADER(&header)
+ *   plot, plot_words            the plot
+ *   query, query_words          the question, 8 words for each node, as for plotask_ask
+ *   candidate, candidate_cells  the candidate row, 0 to 6 cells; it may hold values and marks that the plot lacks
+ *   budget                      the allowance: the most looks that the question may take, 0 to 4,294,967,295
+ *   truth                       gets the verdict (enum plotask_truth)
+ *   cost                        gets the looks
+ *
+ * Writes: truth and cost, if it is accepted; otherwise nothing.
+ * Refuses: 41, 21, 26; then the nodes by number, as plotask_ask; then 46.
+ */
+uint32_t plotask_ask_unlisted(const uint32_t *header, size_t header_words, const uint32_t *plot, size_t plot_words,
+                              const uint32_t *query, size_t query_words, const uint32_t *candidate,
+                              size_t candidate_cells, uint32_t budget, uint32_t *truth, uint32_t *cost);
 
 #ifdef __cplusplus
 }

@@ -1,8 +1,10 @@
 /*
  * The program plotask against the reference: feed program [seed [runs]]. The program gets random input bytes through a
- * pipe, in pieces of many sizes; its line has to be the reference's, byte by byte.
+ * pipe, in pieces of many sizes; its line has to be the reference's, byte by byte. It asks with a working list, and the
+ * line has to be the same without one, by the reference and by the library's calls.
  */
 #include "generators/generate.h"
+#include "plotask.h"
 #include "support/arguments.h"
 #include "support/checks.h"
 #include "support/program.h"
@@ -39,7 +41,7 @@ static size_t next_piece(void *context)
 
 static void print_difference(const struct any_input *input, const char *expected, const char *got)
 {
-    printf("expected %sgot %s\ninput, %zu bytes:", expected, got, input->length);
+    printf("expected %sthe program printed %s\ninput, %zu bytes:", expected, got, input->length);
     for (size_t i = 0; i < input->length; i++)
         printf(" %02x", input->bytes[i]);
     printf("\n");
@@ -56,23 +58,34 @@ static void count_hit(struct hits *hits, const struct any_input *input, const ch
     hits->over_limit += input->length == MOST_INPUT + 1;
 }
 
-/* One run of the program; false if it differs from the reference. */
+/* The line without the program: by the reference as the program asks, and with no list by the reference and library. */
+enum { LINES = 3 };
+
+static void expected_lines(const struct any_input *input, char lines[LINES][LINE_BYTES])
+{
+    ref_line(input->bytes, input->length, lines[0]);
+    line_by(ref_decode, ref_ask_unlisted, input->bytes, input->length, lines[1]);
+    line_by(plotask_decode, plotask_ask_unlisted, input->bytes, input->length, lines[2]);
+}
+
+/* One run of the program; false if its line is not as expected. */
 static bool run(const char *program, uint64_t seed, uint64_t number, struct hits *hits)
 {
     static struct any_input input;
     struct random random = random_of_round(seed, number);
     struct pieces pieces = {&random, 0};
-    char expected[LINE_BYTES];
+    char expected[LINES][LINE_BYTES];
     char got[2 * LINE_BYTES];
     make_input(&random, &input);
-    ref_line(input.bytes, input.length, expected);
+    expected_lines(&input, expected);
     pieces.largest = one_in(&random, 4) ? INPUT_ROOM : one_in(&random, 4) ? 3 : 1 + below(&random, 5000);
     bool ended = run_program(program, input.bytes, input.length, next_piece, &pieces, got, sizeof got);
-    if (!ended || strcmp(expected, got) != 0) {
-        printf("seed %" PRIu64 ", run %" PRIu64 ": ", seed, number);
-        print_difference(&input, expected, got);
-        return false;
-    }
+    for (size_t i = 0; i < LINES; i++)
+        if (!ended || strcmp(expected[i], got) != 0) {
+            printf("seed %" PRIu64 ", run %" PRIu64 ": ", seed, number);
+            print_difference(&input, expected[i], got);
+            return false;
+        }
     count_hit(hits, &input, got);
     return true;
 }

@@ -17,13 +17,18 @@ struct Answer {
     uint32_t refusal, truth, cost;
 };
 
+// Asks with a working list and without one, which has to be the same.
 Answer ask(const plotask_header &header, const uint32_t *plot, const uint32_t *query, size_t query_words)
 {
     const uint32_t candidate[] = {201};
     uint32_t list[4];
-    Answer answer = {0, 9, 9};
+    Answer answer = {0, 9, 9}, unlisted = {0, 9, 9};
     answer.refusal = plotask_ask(PLOTASK_CONST_HEADER(&header), plot, 4, query, query_words, candidate, 1, list, 4, 100,
                                  &answer.truth, &answer.cost);
+    unlisted.refusal = plotask_ask_unlisted(PLOTASK_CONST_HEADER(&header), plot, 4, query, query_words, candidate, 1,
+                                            100, &unlisted.truth, &unlisted.cost);
+    expect(unlisted.refusal == answer.refusal && unlisted.truth == answer.truth && unlisted.cost == answer.cost,
+           "the answer without a working list is another");
     return answer;
 }
 

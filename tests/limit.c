@@ -1,7 +1,9 @@
 /*
- * Costs at the limit of 32 bits, asked of the library alone: the reference would take too long, but the costs can be
- * added up by hand. Relation 0 has 2,046 rows, 2,043 times (0) and then three times (1); the plot's values are these
- * two. "Stands in relation 0" costs 1 and the rows up to and including the first identical one, or all of them:
+ * Queries at the limits, asked of the library alone, with a working list and without one.
+ *
+ * Costs at the limit of 32 bits: the reference would take too long, but the costs can be added up by hand. Relation 0
+ * has 2,046 rows, 2,043 times (0) and then three times (1); the plot's values are these two. "Stands in relation 0"
+ * costs 1 and the rows up to and including the first identical one, or all of them:
  *
  *   0                                                             1 + 1 = 2
  *   1                                                             1 + 2,044 = 2,045
@@ -25,8 +27,20 @@
 
 enum { ROWS = 2046, ROWS_OF_0 = 2043, X = FIRST_VARIABLE };
 
-static uint32_t query[MOST_NODES][NODE_WORDS];
+static uint32_t query[MOST_NODES + 1][NODE_WORDS];
 static uint32_t node_count;
+
+/* The plot that is asked. A query may be asked with another length of header or plot than these have. */
+static uint32_t header[HEADER_WORDS + 1];
+static size_t header_length;
+static uint32_t words[MOST_WORDS];
+static size_t length;
+
+static void start_query(void)
+{
+    memset(query, 0, sizeof query);
+    node_count = 0;
+}
 
 static void add_node(uint32_t kind, uint32_t first, uint32_t second)
 {
@@ -36,11 +50,66 @@ static void add_node(uint32_t kind, uint32_t first, uint32_t second)
     node_count++;
 }
 
-/* Both parts, after a number of equalities. */
-static void make_query(size_t equalities)
+static void add_row(uint32_t relation, uint32_t first, uint32_t step)
 {
-    memset(query, 0, sizeof query);
-    node_count = 0;
+    words[length++] = relation;
+    for (uint32_t column = 0; column < arity_of(header, relation); column++)
+        words[length++] = first + column * step;
+    header_add_row(header, relation);
+}
+
+static void start_plot(uint32_t relations, const uint32_t *arities)
+{
+    header_start(header, relations, arities);
+    header_length = HEADER_WORDS;
+    length = 0;
+}
+
+struct answer {
+    uint32_t number;
+    uint32_t truth;
+    uint32_t cost;
+};
+
+/* What no call writes. */
+static const struct answer unwritten = {99, 99, 99};
+
+static bool is_answer(const struct answer *given, const struct answer *expected)
+{
+    return given->number == expected->number && given->truth == expected->truth && given->cost == expected->cost;
+}
+
+/* Checks that the query, with no candidate, has this answer by both ways. A refused one writes no truth and no cost. */
+static void check_answer(const char *name, uint32_t budget, const struct answer *expected)
+{
+    static uint32_t list[PLOTASK_CELLS];
+    const uint32_t none[1] = {0};
+    struct answer listed = unwritten, unlisted = unwritten;
+    listed.number = plotask_ask(header, header_length, words, length, query[0], node_count * NODE_WORDS, none, 0, list,
+                                PLOTASK_CELLS, budget, &listed.truth, &listed.cost);
+    unlisted.number = plotask_ask_unlisted(header, header_length, words, length, query[0], node_count * NODE_WORDS,
+                                           none, 0, budget, &unlisted.truth, &unlisted.cost);
+    const struct answer *const given[] = {&listed, &unlisted};
+    for (size_t i = 0; i < 2; i++)
+        if (!check(is_answer(given[i], expected)))
+            printf("%s, %s a list: number %" PRIu32 ", truth %" PRIu32 ", cost %" PRIu32 "\n", name,
+                   i == 0 ? "with" : "without", given[i]->number, given[i]->truth, given[i]->cost);
+}
+
+static void check_truth(const char *name, uint32_t budget, uint32_t truth, uint32_t cost)
+{
+    check_answer(name, budget, &(const struct answer){0, truth, cost});
+}
+
+static void check_refusal(const char *name, uint32_t budget, uint32_t number)
+{
+    check_answer(name, budget, &(const struct answer){number, unwritten.truth, unwritten.cost});
+}
+
+/* Both parts, after a number of equalities. */
+static void make_costly_query(size_t equalities)
+{
+    start_query();
     for (size_t i = 0; i < equalities; i++) {
         add_node(AND, node_count + 1, node_count + 2);
         add_node(EQUAL, 5, 5);
@@ -61,31 +130,95 @@ static void make_query(size_t equalities)
     add_node(ROW_STANDS, 0, X);
 }
 
-/* Checks that the library returns this number and, if it is 0, true with this cost. */
-static void check_ask(size_t equalities, uint32_t budget, uint32_t number, uint32_t cost)
+static void check_costs(void)
 {
-    static uint32_t words[2 * ROWS];
-    static uint32_t list[ROWS];
     const uint32_t arity = 1;
-    const uint32_t no_candidate[1] = {0};
-    uint32_t header[HEADER_WORDS];
-    uint32_t truth_given = 0;
-    uint32_t cost_given = 0;
+    start_plot(1, &arity);
     for (uint32_t row = 0; row < ROWS; row++)
-        words[2 * row + 1] = row >= ROWS_OF_0;
-    header_of_rows(header, 1, &arity, words, 2 * ROWS);
-    make_query(equalities);
-    uint32_t given = plotask_ask(header, HEADER_WORDS, words, 2 * ROWS, query[0], node_count * NODE_WORDS, no_candidate,
-                                 0, list, ROWS, budget, &truth_given, &cost_given);
-    if (!check(given == number && (number != 0 || (truth_given == TRUTH_TRUE && cost_given == cost))))
-        printf("%zu equalities, budget %" PRIu32 ": number %" PRIu32 ", truth %" PRIu32 ", cost %" PRIu32 "\n",
-               equalities, budget, given, truth_given, cost_given);
+        add_row(0, row >= ROWS_OF_0, 0);
+    make_costly_query(1);
+    check_truth("the highest cost", UINT32_MAX, TRUTH_TRUE, UINT32_MAX);
+    make_costly_query(2);
+    check_refusal("one more than the highest cost", UINT32_MAX, 46);
+    check_refusal("one more than the highest cost, budget 0", 0, 46);
+}
+
+/* A quantifier over the values above an equality of each value and a term. */
+static void make_value_query(uint32_t kind, uint32_t term)
+{
+    start_query();
+    add_node(kind, 0, 1);
+    add_node(EQUAL, X, term);
+}
+
+/* 4,096 words with as many cells as there can be, all of them different: 584 rows of six and two of three. */
+static void check_most_values(void)
+{
+    static const uint32_t arities[] = {6, 3};
+    uint32_t values = 0;
+    start_plot(2, arities);
+    while (length < MOST_WORDS - 8) {
+        add_row(0, 100 * values, 100);
+        values += 6;
+    }
+    for (; length < MOST_WORDS; values += 3)
+        add_row(1, 100 * values, 100);
+    check(length == MOST_WORDS && values == PLOTASK_CELLS);
+    make_value_query(EVERY, X);
+    check_truth("3,510 values", values, TRUTH_TRUE, values);
+    check_refusal("3,510 values, one too many for the budget", values - 1, 46);
+    make_value_query(SOME, words[length - 1]);
+    check_truth("the last of 3,510 values", values, TRUTH_TRUE, values);
+    make_value_query(SOME, words[length - 1] + 1);
+    check_truth("none of 3,510 values", values, TRUTH_FALSE, values);
+}
+
+/* 100 nodes in one chain, over the plot as it is: each quantifier stops at its first value. */
+static void check_most_nodes(void)
+{
+    start_query();
+    while (node_count < MOST_NODES - 1)
+        add_node(SOME, node_count % VARIABLES, node_count + 1);
+    add_node(EQUAL, X, X);
+    check_truth("100 nodes", 1, TRUTH_TRUE, 1);
+    query[MOST_NODES - 1][0] = SOME;
+    query[MOST_NODES - 1][1] = 0;
+    query[MOST_NODES - 1][2] = MOST_NODES;
+    add_node(EQUAL, X, X);
+    check_refusal("101 nodes", 1, 21);
+}
+
+/* Lengths of the header and of the plot that do not fit, and slices of no words. */
+static void check_lengths(void)
+{
+    size_t used = length;
+    make_value_query(EVERY, X);
+    header_length = HEADER_WORDS - 1;
+    check_refusal("a header of 9 words", UINT32_MAX, 41);
+    header_length = HEADER_WORDS + 1;
+    check_refusal("a header of 11 words", UINT32_MAX, 41);
+    header_length = 0;
+    check_refusal("a header of no words", UINT32_MAX, 41);
+    header_length = HEADER_WORDS;
+    length = used - 1;
+    check_refusal("a plot that lacks its last word", UINT32_MAX, 41);
+    length = 0;
+    check_refusal("a plot of no words, for a header with words in use", UINT32_MAX, 41);
+    header[HEADER_USED] = 0;
+    check_truth("a plot of no words", 0, TRUTH_TRUE, 0);
+    make_value_query(SOME, X);
+    check_truth("a plot of no words, some value", 0, TRUTH_FALSE, 0);
+    make_value_query(SOME, X + 1);
+    check_refusal("a variable of the candidate, which has no cells", UINT32_MAX, 24);
+    node_count = 0;
+    check_refusal("a query of no words", UINT32_MAX, 21);
 }
 
 int main(void)
 {
-    check_ask(1, UINT32_MAX, 0, UINT32_MAX);
-    check_ask(2, UINT32_MAX, 46, 0);
-    check_ask(2, 0, 46, 0);
+    check_costs();
+    check_most_values();
+    check_most_nodes();
+    check_lengths();
     return finish_checks();
 }

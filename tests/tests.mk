@@ -14,7 +14,8 @@ SANITIZED := target/c-sanitized/bin
 # every test, the differential one with sanitizers too; the last line is the total
 c-test: lib $(PROGRAM) $(HOSTS) $(TESTS:%=$(BIN)/%) $(SANITIZED)/differential
 	@{ $(MAKE) -s --no-print-directory example verdicts && \
-	$(LIMIT) $(BIN)/header && $(LIMIT) $(BIN)/readings && $(LIMIT) $(BIN)/limit && \
+	$(LIMIT) $(BIN)/header && $(LIMIT) $(BIN)/readings && $(LIMIT) $(BIN)/unlisted && $(LIMIT) $(BIN)/limit && \
+	$(LIMIT) $(BIN)/stack && \
 	$(LIMIT) $(BIN)/differential $(SEED) $(ROUNDS) && \
 	$(LIMIT) $(SANITIZED)/differential $(SEED) $(SANITIZED_ROUNDS) && \
 	$(LIMIT) $(BIN)/feed $(PROGRAM) $(SEED) $(RUNS); } > target/c/tests.log || { cat target/c/tests.log; exit 1; }
@@ -27,11 +28,12 @@ verdicts: $(BIN)/verdicts $(PROGRAM)
 	$< docs/VERDICTS.md $(PROGRAM)
 
 # what each program is linked with, besides its own object
-$(BIN)/differential $(BIN)/readings: $(call objects,c,$(COMPARED)) $(LIBRARY)
-$(BIN)/feed: $(call objects,c,tests/generators tests/reference tests/support)
+$(BIN)/differential $(BIN)/readings $(BIN)/unlisted: $(call objects,c,$(COMPARED)) $(LIBRARY)
+$(BIN)/feed: $(call objects,c,tests/generators tests/reference tests/support) $(LIBRARY)
 $(BIN)/header: $(call objects,c,tests/support) $(LIBRARY)
 $(BIN)/limit: $(call objects,c,tests/reference tests/support) $(LIBRARY)
-$(BIN)/verdicts: $(call objects,c,tests/page tests/support)
+$(BIN)/stack: $(call objects,c,bench/baseline bench/measure bench/work tests/reference tests/support) $(LIBRARY)
+$(BIN)/verdicts: $(call objects,c,tests/page tests/reference tests/support) $(LIBRARY)
 $(SANITIZED)/differential: $(call objects,c-sanitized,$(COMPARED)) $(LIBRARY)
 
 LINK = $(CC)

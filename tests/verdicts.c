@@ -1,5 +1,10 @@
-/* Puts each block of docs/VERDICTS.md through plotask and compares the line: verdicts page program. */
+/*
+ * Puts each block of docs/VERDICTS.md through plotask and compares the line: verdicts page program. The program asks
+ * with a working list; the library is asked without one, and its line has to be the same.
+ */
 #include "page/block.h"
+#include "plotask.h"
+#include "reference/reference.h"
 #include "support/checks.h"
 #include "support/program.h"
 
@@ -32,6 +37,7 @@ static bool student_is_right(const struct block *block)
 static bool holds(const char *program, const struct block *block, unsigned at)
 {
     char line[64];
+    char unlisted[LINE_BYTES];
 
     if (!run(program, block, line, sizeof line)) {
         printf("line %u: %s did not run, or printed no line\n", at, program);
@@ -39,6 +45,13 @@ static bool holds(const char *program, const struct block *block, unsigned at)
     }
     if (strcmp(line, block->plotask) != 0) {
         printf("line %u: the page says '%s', plotask prints '%s'\n", at, block->plotask, line);
+        return false;
+    }
+    line_by(plotask_decode, plotask_ask_unlisted, block->input, block->input_bytes, unlisted);
+    unlisted[strcspn(unlisted, "\n")] = '\0';
+    if (strcmp(unlisted, block->plotask) != 0) {
+        printf("line %u: the page says '%s', and '%s' is the line without a working list\n", at, block->plotask,
+               unlisted);
         return false;
     }
     if (student_is_right(block)) {

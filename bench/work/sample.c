@@ -25,6 +25,13 @@ void make_plot(struct sample *sample, uint32_t columns, uint32_t rows, uint32_t 
     }
 }
 
+void make_null_row(struct sample *sample)
+{
+    make_plot(sample, PLOTASK_COLUMNS, 1, 1);
+    for (uint32_t column = 1; column <= PLOTASK_COLUMNS; column++)
+        sample->plot[column] = PLOTASK_MARK(1);
+}
+
 void null_every_row(struct sample *sample)
 {
     uint32_t columns = sample->header.arities[0], row = 0;
@@ -34,6 +41,27 @@ void null_every_row(struct sample *sample)
             sample->plot[at + 1 + column] = column;
         sample->plot[at + columns] = PLOTASK_MARK(1 + row % PLOTASK_MARKS);
     }
+}
+
+void make_sparse(struct sample *sample)
+{
+    make_plot(sample, PLOTASK_COLUMNS, FULL_ROWS, 1);
+    for (uint32_t row = 5; row <= FULL_ROWS; row += 5)
+        sample->plot[row * (1 + PLOTASK_COLUMNS) - 1] = row;
+}
+
+void share_buckets(struct sample *sample, uint32_t buckets, uint32_t values)
+{
+    uint32_t constant = 0, left = values;
+
+    for (uint32_t at = 0; at < sample->header.used; at += 1 + PLOTASK_COLUMNS)
+        for (uint32_t column = 1; column <= PLOTASK_COLUMNS; column++) {
+            while (constant * 2654435761u >> 22 >= buckets)
+                constant++;
+            sample->plot[at + column] = constant;
+            constant = --left > 0 ? constant + 1 : 0;
+            left = left > 0 ? left : values;
+        }
 }
 
 void add_node(struct sample *sample, uint32_t kind, uint32_t first, uint32_t second)
@@ -71,6 +99,11 @@ void ask_row(struct sample *sample, uint32_t first)
     add_row_node(sample, 0, 1);
 }
 
+void ask_absent_row(struct sample *sample)
+{
+    ask_row(sample, 999000);
+}
+
 /* Nodes of one kind, each with a row on its left and the next on its right, and a row at the end. */
 static void add_chain_of_rows(struct sample *sample, uint32_t kind, uint32_t levels, uint32_t variable, uint32_t step)
 {
@@ -103,6 +136,21 @@ void ask_absent(struct sample *sample)
     add_node(sample, PLOTASK_EVERY, 0, 1);
     add_node(sample, PLOTASK_NOT, 2, 0);
     add_row_node(sample, 0, 0);
+}
+
+void ask_values(struct sample *sample)
+{
+    sample->query_words = 0;
+    add_node(sample, PLOTASK_EVERY, 0, 1);
+    add_node(sample, PLOTASK_EQUAL, PLOTASK_VARIABLE(0), PLOTASK_VARIABLE(0));
+}
+
+void ask_first_values(struct sample *sample)
+{
+    sample->query_words = 0;
+    add_node(sample, PLOTASK_EVERY, 0, 1);
+    add_node(sample, PLOTASK_SOME, 1, 2);
+    add_node(sample, PLOTASK_EQUAL, PLOTASK_VARIABLE(1), PLOTASK_VARIABLE(1));
 }
 
 void ask_pairs(struct sample *sample)

@@ -22,8 +22,23 @@ uint32_t *add_row(struct sample *sample, uint32_t relation);
 /* A plot of one relation. Each cell gets its index among the cells, modulo `values`. */
 void make_plot(struct sample *sample, uint32_t columns, uint32_t rows, uint32_t values);
 
+/*
+ * A plot whose only row is null 1 in each of six columns: each quantifier has one value, and the row of a chain, below,
+ * has to be unified with this one.
+ */
+void make_null_row(struct sample *sample);
+
 /* Puts nulls 1 to 200, in turn, in the last column of every row, and the columns' own numbers before them. */
 void null_every_row(struct sample *sample);
+
+/* A full plot of zeros, with a constant of its own in the last cell of every fifth row: one new value in 35 words. */
+void make_sparse(struct sample *sample);
+
+/*
+ * Gives the cells of a plot of six columns `values` different constants, in turn, out of the first few of the 1,024
+ * buckets of the library's hash (crates/domain/src/chain.rt). A bucket has at least 970 constants.
+ */
+void share_buckets(struct sample *sample, uint32_t buckets, uint32_t values);
 
 /* Appends a node to the query; the words that are not given are 0. */
 void add_node(struct sample *sample, uint32_t kind, uint32_t first, uint32_t second);
@@ -37,6 +52,9 @@ void ask_nothing(struct sample *sample);
 /* the candidate, which is first, first + 1 and so on, stands in relation 0 */
 void ask_row(struct sample *sample, uint32_t first);
 
+/* the candidate, which no plot here has, stands in relation 0 */
+void ask_absent_row(struct sample *sample);
+
 /* the candidate stands in relation 0, asked ROW_TESTS times and joined by the kind, "and" or "or" */
 void ask_row_often(struct sample *sample, uint32_t kind);
 
@@ -45,6 +63,12 @@ void ask_first_row(struct sample *sample);
 
 /* every v0: not (v0, .., v0) stands in relation 0 */
 void ask_absent(struct sample *sample);
+
+/* every v0: v0 = v0 */
+void ask_values(struct sample *sample);
+
+/* every v0: some v1: v1 = v1, where "some" stops at the first value */
+void ask_first_values(struct sample *sample);
 
 /* every v0: every v1: v0 = v1 or not v0 = v1 */
 void ask_pairs(struct sample *sample);

@@ -34,6 +34,12 @@ void ask(void)
     refusal = ask_nodes(now.query, now.query_words, UINT32_MAX);
 }
 
+void ask_unlisted(void)
+{
+    refusal = build->ask_unlisted(PLOTASK_HEADER(&now.header), now.plot, PLOTASK_WORDS, now.query, now.query_words,
+                                  now.candidate, now.candidate_cells, UINT32_MAX, &truth, &count);
+}
+
 void ask_refused(void)
 {
     refusal = ask_nodes(now.query, now.query_words, 100) != PLOTASK_BUDGET_SPENT;

@@ -11,6 +11,7 @@ extern struct sample now;
 /* The calls of one build of the library, whose symbols have a prefix. */
 struct build {
     __typeof__(plotask_ask) *ask;
+    __typeof__(plotask_ask_unlisted) *ask_unlisted;
     __typeof__(plotask_decode) *decode;
     __typeof__(plotask_encode) *encode;
     __typeof__(plotask_substitute) *substitute;
@@ -20,11 +21,11 @@ struct build {
     __typeof__(plotask_insert) *insert;
 };
 
-#define BUILD(prefix)                                                                                    \
-    {                                                                                                    \
-        prefix##plotask_ask, prefix##plotask_decode, prefix##plotask_encode, prefix##plotask_substitute, \
-            prefix##plotask_substitute_logged, prefix##plotask_undo, prefix##plotask_null_counts,        \
-            prefix##plotask_insert                                                                       \
+#define BUILD(prefix)                                                                                      \
+    {                                                                                                      \
+        prefix##plotask_ask, prefix##plotask_ask_unlisted, prefix##plotask_decode, prefix##plotask_encode, \
+            prefix##plotask_substitute, prefix##plotask_substitute_logged, prefix##plotask_undo,           \
+            prefix##plotask_null_counts, prefix##plotask_insert                                            \
     }
 
 /* The build that does the library's work: the one without a prefix, until another is chosen. */
@@ -42,6 +43,9 @@ work ask_refused;
 
 /* `0 = 0`, and the last node of the query by itself, whatever else the query asks. */
 work ask_zero, ask_last_node;
+
+/* The same query as ask, with no working list. */
+work ask_unlisted;
 
 work ask, ask_scanning, ask_hashing, ask_reference;
 work decode, decode_by_hand, decode_reference;

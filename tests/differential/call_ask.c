@@ -1,3 +1,4 @@
+#include "all_values.h"
 #include "calls.h"
 #include "one_row.h"
 
@@ -66,15 +67,12 @@ void try_ask(struct random *random, const struct palette *palette, struct any_pl
     uint32_t truth;
     uint32_t foreseen = 0;
     size_t cells = count_cells(plot);
-    size_t values = count_values(plot);
-    bool endless = values >= 8 && one_in(random, 10);
+    bool endless = count_values(plot) >= 8 && one_in(random, 10);
     make_candidate(random, palette, &candidate);
     if (endless)
         make_endless_query(random, &query);
-    else if (plot->header[HEADER_USED] > 0 && one_in(random, 8))
-        make_row_query(random, palette, plot, &candidate, &query);
     else
-        make_query(random, palette, plot->header, values, candidate.length, &query);
+        make_any_query(random, palette, plot, &candidate, &query);
     if (!endless && one_in(random, 3))
         for (size_t damages = 1 + one_in(random, 5); damages > 0; damages--)
             damage_query(random, &query);
@@ -84,7 +82,9 @@ void try_ask(struct random *random, const struct palette *palette, struct any_pl
     asked.query_length = query.length;
     asked.candidate_length = candidate.length;
     asked.list_length = any_list_length(random, cells);
-    asked.budget = any_budget(random, lent, &query, &candidate, one_in(random, 300) ? MOST_FORESEEN : 3000);
+    enum value_query value_query = value_query_of(&query);
+    uint32_t most = value_query != NO_VALUE_QUERY ? MOST_WORDS : one_in(random, 300) ? MOST_FORESEEN : 3000;
+    asked.budget = any_budget(random, lent, &query, &candidate, most);
     asked.number = both_ask(lent, &query, &candidate, asked.list_length, asked.budget, &truth, &asked.cost);
     if (asked.number == 46 && asked.budget < MOST_FORESEEN)
         foresee(lent, &query, &candidate, asked.budget + 1, &foreseen);
@@ -93,4 +93,6 @@ void try_ask(struct random *random, const struct palette *palette, struct any_pl
     note_asked(lent, &asked, cells, foreseen);
     if (asks_one_row(&query) && (asked.number == 0 || asked.number == 46))
         note_one_row(lent, &query, &candidate, asked.number, asked.budget);
+    if (value_query != NO_VALUE_QUERY && asked.number == 0)
+        check_values(lent, value_query, &candidate, asked.cost);
 }

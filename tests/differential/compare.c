@@ -238,29 +238,98 @@ uint32_t both_encode(struct any_plot *plot, struct any_card *card, uint32_t *cou
     return number;
 }
 
-uint32_t both_ask(struct any_plot *plot, const struct any_query *query, const struct any_cells *candidate,
-                  size_t list_length, uint32_t budget, uint32_t *truth, uint32_t *cost)
+/* What a way of asking returned and wrote. */
+struct answer {
+    uint32_t number;
+    uint32_t truth;
+    uint32_t cost;
+};
+
+/* Where, among what is lent, the slices are that both ways of asking take, and these as arguments of a call. */
+enum { LENT_HEADER, LENT_PLOT, LENT_QUERY, LENT_CANDIDATE };
+
+#define LIBRARY_QUERY(lent)                                                                   \
+    LIBRARY(&(lent)[LENT_HEADER]), LIBRARY(&(lent)[LENT_PLOT]), LIBRARY(&(lent)[LENT_QUERY]), \
+        LIBRARY(&(lent)[LENT_CANDIDATE])
+#define REFERENCE_QUERY(lent)                                                                       \
+    REFERENCE(&(lent)[LENT_HEADER]), REFERENCE(&(lent)[LENT_PLOT]), REFERENCE(&(lent)[LENT_QUERY]), \
+        REFERENCE(&(lent)[LENT_CANDIDATE])
+
+/* Begins a query by one way, and returns what is lent so far: these slices. */
+static const struct lent *begin_ask(enum call way, const struct any_plot *plot, const struct any_query *query,
+                                    const struct any_cells *candidate, uint32_t budget)
+{
+    begin(way, budget, 0, 0);
+    lend_header(plot);
+    lend_plot(plot);
+    lend(lend_words("query", query->words, query->length));
+    lend(lend_words("candidate", candidate->cells, candidate->length));
+    return now.lent;
+}
+
+static struct answer answer_of(uint32_t number, const struct lent *truth, const struct lent *cost)
+{
+    struct answer answer = {number, 0, 0};
+    copy_back(truth, &answer.truth);
+    copy_back(cost, &answer.cost);
+    if (number == 0)
+        tally.truths[answer.truth]++;
+    return answer;
+}
+
+static struct answer both_ask_listed(const struct any_plot *plot, const struct any_query *query,
+                                     const struct any_cells *candidate, size_t list_length, uint32_t budget)
 {
     static uint32_t arbitrary[PLOT_ROOM];
     struct random random = {list_length};
     for (size_t i = 0; i < list_length; i++)
         arbitrary[i] = odd_number(&random, (uint32_t)i);
-    begin(ASK, budget, 0, 0);
-    struct lent *h = lend_header(plot);
-    struct lent *p = lend_plot(plot);
-    struct lent *q = lend(lend_words("query", query->words, query->length));
-    struct lent *c = lend(lend_words("candidate", candidate->cells, candidate->length));
+    const struct lent *asked = begin_ask(ASK, plot, query, candidate, budget);
     struct lent *l = lend(lend_words("list", arbitrary, list_length));
     struct lent *t = lend_result("truth");
     struct lent *n = lend_result("cost");
-    uint32_t number =
-        end(plotask_ask(LIBRARY(h), LIBRARY(p), LIBRARY(q), LIBRARY(c), LIBRARY(l), budget, t->library, n->library),
-            ref_ask(REFERENCE(h), REFERENCE(p), REFERENCE(q), REFERENCE(c), REFERENCE(l), budget, t->reference,
-                    n->reference));
-    copy_back(t, truth);
-    copy_back(n, cost);
-    if (number == 0)
-        tally.truths[*truth]++;
+    uint32_t number = end(plotask_ask(LIBRARY_QUERY(asked), LIBRARY(l), budget, t->library, n->library),
+                          ref_ask(REFERENCE_QUERY(asked), REFERENCE(l), budget, t->reference, n->reference));
+    struct answer answer = answer_of(number, t, n);
     take_all_back();
-    return number;
+    return answer;
+}
+
+/* Fails unless the unlisted way answers as the listed one does with a list that is long enough. */
+static void compare_ways(const struct answer *listed, const struct answer *unlisted)
+{
+    if (unlisted->number != listed->number)
+        fail("the ways of asking return different numbers");
+    if (unlisted->truth != listed->truth || unlisted->cost != listed->cost)
+        fail("the ways of asking write different results");
+}
+
+static void both_ask_unlisted(const struct any_plot *plot, const struct any_query *query,
+                              const struct any_cells *candidate, uint32_t budget, const struct answer *listed)
+{
+    const struct lent *asked = begin_ask(ASK_UNLISTED, plot, query, candidate, budget);
+    struct lent *t = lend_result("truth");
+    struct lent *n = lend_result("cost");
+    uint32_t number = end(plotask_ask_unlisted(LIBRARY_QUERY(asked), budget, t->library, n->library),
+                          ref_ask_unlisted(REFERENCE_QUERY(asked), budget, t->reference, n->reference));
+    struct answer unlisted = answer_of(number, t, n);
+    compare_ways(listed, &unlisted);
+    take_all_back();
+}
+
+uint32_t both_ask(struct any_plot *plot, const struct any_query *query, const struct any_cells *candidate,
+                  size_t list_length, uint32_t budget, uint32_t *truth, uint32_t *cost)
+{
+    struct answer listed = both_ask_listed(plot, query, candidate, list_length, budget);
+    struct answer expected = listed;
+    if (listed.number == 45) {
+        expected = both_ask_listed(plot, query, candidate, count_cells(plot), budget);
+        if (expected.number != 0 && expected.number != 46)
+            fail("a query that lacked only a longer working list is refused with one");
+        note(expected.number == 0 ? ANSWERED_WITHOUT_LIST : SPENT_WITHOUT_LIST);
+    }
+    both_ask_unlisted(plot, query, candidate, budget, &expected);
+    *truth = listed.truth;
+    *cost = listed.cost;
+    return listed.number;
 }

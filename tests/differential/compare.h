@@ -19,7 +19,11 @@ uint32_t both_undo(struct any_plot *plot, struct any_log *log, uint32_t *count);
 uint32_t both_null_counts(struct any_plot *plot, const uint32_t *output, size_t output_length);
 /* The card is the lent output before, and the written card after. */
 uint32_t both_encode(struct any_plot *plot, struct any_card *card, uint32_t *count);
-/* The working list starts with arbitrary content. */
+/*
+ * Asks with a working list, which starts with arbitrary content, and without one. The two ways have to agree; if the
+ * list is too short, the unlisted one has to agree with a further ask that has a list long enough. What is returned and
+ * written is what the given length of the list leads to.
+ */
 uint32_t both_ask(struct any_plot *plot, const struct any_query *query, const struct any_cells *candidate,
                   size_t list_length, uint32_t budget, uint32_t *truth, uint32_t *cost);
 

@@ -6,8 +6,8 @@
 
 struct tally tally;
 
-static const char *const call_names[CALLS] = {"decode", "insert",      "substitute", "substitute_logged",
-                                              "undo",   "null_counts", "encode",     "ask"};
+static const char *const call_names[CALLS] = {"decode",      "insert", "substitute", "substitute_logged", "undo",
+                                              "null_counts", "encode", "ask",        "ask_unlisted"};
 
 /* Acceptance and the refusals that each call can return, ended by a second 0. */
 static const uint32_t possible[CALLS][CODES] = {
@@ -19,6 +19,7 @@ static const uint32_t possible[CALLS][CODES] = {
     [NULL_COUNTS] = {0, 41, 44},
     [ENCODE] = {0, 41, 44},
     [ASK] = {0, 41, 21, 22, 23, 24, 25, 26, 45, 46},
+    [ASK_UNLISTED] = {0, 41, 21, 22, 23, 24, 25, 26, 46},
 };
 
 static const char *const case_texts[NAMED_CASES] = {

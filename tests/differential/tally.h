@@ -8,7 +8,7 @@
 #include <stddef.h>
 #include <stdint.h>
 
-enum call { DECODE, INSERT, SUBSTITUTE, SUBSTITUTE_LOGGED, UNDO, NULL_COUNTS, ENCODE, ASK, CALLS };
+enum call { DECODE, INSERT, SUBSTITUTE, SUBSTITUTE_LOGGED, UNDO, NULL_COUNTS, ENCODE, ASK, ASK_UNLISTED, CALLS };
 
 /* Room for every number that a call may return. */
 enum { CODES = 64 };
@@ -58,6 +58,8 @@ enum { CODES = 64 };
     CASE(CANDIDATE_OF_SIX, "a candidate of 6 cells is accepted")                         \
     CASE(LIST_FITS, "the working list has just the plot's cells")                        \
     CASE(LIST_SHORT_BY_ONE, "the working list lacks one word")                           \
+    CASE(ANSWERED_WITHOUT_LIST, "the list is too short: answered without it")            \
+    CASE(SPENT_WITHOUT_LIST, "the list is too short: refused with 46 without it")        \
     CASE(COST_IS_BUDGET, "the cost is the budget")                                       \
     CASE(COST_OVER_BY_ONE, "the cost is one more than the budget")                       \
     CASE(LARGEST_BUDGET, "the budget is 4,294,967,295")                                  \
@@ -71,6 +73,14 @@ enum { CODES = 64 };
     CASE(NO_IDENTICAL, "one row asked: identical to none, one before the last unifies")  \
     CASE(BELOW_ALL_ROWS, "one row asked: accepted, though all rows exceed the budget")   \
     CASE(BEYOND_BUDGET, "one row asked: the identical one exceeds the budget by one")    \
+    CASE(RELATION_NUMBER_FIRST, "all values asked: one was a relation's number")         \
+    CASE(RELATION_NUMBER_ONLY, "all values asked: a relation's number is none")          \
+    CASE(LAST_OF_4096_WORDS, "all values asked: word 4,096 is one of them")              \
+    CASE(MANY_IN_4096_WORDS, "all values asked: 2,000 or more in 4,096 words")           \
+    CASE(MANY_IN_ONE_BUCKET, "all values asked: 200 or more of one bucket of a hash")    \
+    CASE(RELATION_NUMBER_FOUND, "one value asked: it was a relation's number")           \
+    CASE(LAST_VALUE_FOUND, "one value asked: the last of 100 or more")                   \
+    CASE(VALUES_IN_VALUES, "all values asked for each: 10 or more")                      \
     CASE(CARD_DECODED_AGAIN, "an encoded card decodes to the same plot")                 \
     CASE(KEPT_TRUE, "true is kept over substitutions")                                   \
     CASE(KEPT_FALSE, "false is kept over substitutions")                                 \

@@ -169,10 +169,7 @@ void try_two_runs(struct random *random, const struct palette *palette, struct a
     struct any_cells candidate_left;
     struct run a;
     make_candidate(random, palette, &candidate);
-    if (plot->header[HEADER_USED] > 0 && one_in(random, 6))
-        make_row_query(random, palette, plot, &candidate, &query);
-    else
-        make_query(random, palette, plot->header, count_values(plot), candidate.length, &query);
+    make_any_query(random, palette, plot, &candidate, &query);
     if (foresee(plot, &query, &candidate, 3000, &a.cost) != 0)
         return;
     a.budget = a.cost + (one_in(random, 3) ? below(random, 1000) : 0);

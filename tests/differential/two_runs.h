@@ -1,4 +1,4 @@
-/* Demand 3 on one plot: ask, a list of substitutions, logged or not, ask again. */
+/* Demand 3 on one plot: ask, a list of substitutions, logged or not, ask again; each time by both ways of asking. */
 #ifndef TWO_RUNS_H
 #define TWO_RUNS_H
 

@@ -50,7 +50,10 @@ struct any_input {
     size_t length;
 };
 
-/* The cells that a plot, its queries and its substitutions draw from: few, so that equal cells meet, or all if wide. */
+/*
+ * The cells that a plot, its queries and its substitutions draw from: few, so that equal cells meet, or all if wide. In
+ * some palettes every constant is also the number of a relation.
+ */
 struct palette {
     bool wide;
     uint32_t constants[6];
@@ -73,6 +76,11 @@ void damage_plot(struct random *random, struct any_plot *plot);
 /* The number of cells of an undamaged plot, and of its values. */
 size_t count_cells(const struct any_plot *plot);
 size_t count_values(const struct any_plot *plot);
+/* Writes the index, among the words, of the first cell of each value, and returns the number of values. */
+size_t first_places(const struct any_plot *plot, size_t places[PLOT_ROOM]);
+/* The bucket of a cell in a hash table, so that plots can be made whose values all meet in one. */
+enum { BUCKETS = 1024 };
+uint32_t bucket_of(uint32_t cell);
 
 /* A log for an undamaged plot: fresh, or of entries that can be undone, also ones that no substitution writes. */
 void make_log(struct random *random, const struct any_plot *plot, struct any_log *log);
@@ -111,6 +119,23 @@ void make_query(struct random *random, const struct palette *palette, const uint
  * relation, or differs from one in a cell.
  */
 void make_row_query(struct random *random, const struct palette *palette, const struct any_plot *plot,
+                    struct any_cells *candidate, struct any_query *query);
+
+/* Queries about the values alone, which cost 1 for each value that they come to. */
+enum value_query {
+    ALL_VALUES,
+    VALUES_UP_TO_ONE,  /* up to and including the candidate's first cell, or all if that is none of them */
+    VALUES_UP_TO_EACH, /* for each value, up to and including itself */
+    NO_VALUE_QUERY
+};
+
+/* One of these, for a plot that has rows, with its candidate. */
+void make_value_query(struct random *random, const struct any_plot *plot, struct any_cells *candidate,
+                      struct any_query *query);
+enum value_query value_query_of(const struct any_query *query);
+
+/* A query of any of these kinds; the candidate is changed if the query has one of its own. */
+void make_any_query(struct random *random, const struct palette *palette, const struct any_plot *plot,
                     struct any_cells *candidate, struct any_query *query);
 void damage_query(struct random *random, struct any_query *query);
 /* A query whose cost is above 2^32 if the plot has 8 values or more. */

@@ -6,12 +6,15 @@ struct palette make_palette(struct random *random)
     static const uint32_t edge_constants[] = {0, 1, 7, 201, CONSTANTS - 2, CONSTANTS - 1};
     static const uint32_t edge_nulls[] = {1, 2, 3, 100, NULLS - 1, NULLS};
     struct palette palette = {.wide = one_in(random, 8)};
+    bool relation_numbers = one_in(random, 4);
     palette.constant_count = below(random, 7);
     palette.null_count = below(random, 5);
     if (palette.constant_count + palette.null_count == 0)
         palette.constant_count = 1;
     for (size_t i = 0; i < 6; i++) {
         palette.constants[i] = one_in(random, 2) ? edge_constants[below(random, 6)] : below(random, CONSTANTS);
+        if (relation_numbers)
+            palette.constants[i] = below(random, MOST_RELATIONS);
         palette.nulls[i] = one_in(random, 2) ? edge_nulls[below(random, 6)] : 1 + below(random, NULLS);
     }
     return palette;

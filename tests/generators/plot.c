@@ -17,7 +17,7 @@ static size_t any_size(struct random *random)
 {
     switch (below(random, 40)) {
     case 0:
-        return MOST_WORDS - below(random, 12);
+        return MOST_WORDS - below(random, 4);
     case 1:
         return one_in(random, 2) ? MOST_WORDS : MOST_WORDS + 1 + one_in(random, 4);
     case 2:
@@ -65,14 +65,25 @@ static void add_row(struct random *random, const struct palette *palette, struct
     header_add_row(plot->header, relation);
 }
 
-/* Gives every cell a constant of its own, at even steps. */
+uint32_t bucket_of(uint32_t cell)
+{
+    return cell * 2654435761u >> 22;
+}
+
+/* Gives every cell a constant of its own: at even steps, or out of one bucket, which has fewer than 1,000 constants. */
 static void spread_constants(struct random *random, struct any_plot *plot)
 {
-    uint32_t step = 1 + below(random, 240);
-    uint32_t constant = below(random, 1000);
+    bool one_bucket = one_in(random, 3);
+    uint32_t step = one_bucket ? 1 : 1 + below(random, 240);
+    uint32_t constant = below(random, one_in(random, 2) ? MOST_RELATIONS : 1000);
+    uint32_t bucket = bucket_of(constant);
     for (size_t at = 0; at < plot->header[HEADER_USED]; at += 1 + arity_at(plot, at))
-        for (size_t column = 1; column <= arity_at(plot, at); column++, constant += step)
+        for (size_t column = 1; column <= arity_at(plot, at); column++) {
             plot->words[at + column] = constant;
+            do
+                constant = (constant + step) % CONSTANTS;
+            while (one_bucket && bucket_of(constant) != bucket);
+        }
 }
 
 void make_plot(struct random *random, const struct palette *palette, struct any_plot *plot)
@@ -90,7 +101,7 @@ void make_plot(struct random *random, const struct palette *palette, struct any_
         last_row = used;
         used = plot->header[HEADER_USED];
     }
-    if (one_in(random, 15))
+    if (one_in(random, used > 1000 ? 2 : 15))
         spread_constants(random, plot);
     plot->length = used + slacks[below(random, 6)];
     if (one_in(random, 8) && used <= MOST_WORDS)
@@ -133,18 +144,24 @@ size_t count_cells(const struct any_plot *plot)
     return cells;
 }
 
-size_t count_values(const struct any_plot *plot)
+size_t first_places(const struct any_plot *plot, size_t places[PLOT_ROOM])
 {
     static bool seen[CONSTANTS + NULLS + 1];
-    size_t used = plot->header[HEADER_USED];
     size_t count = 0;
-    for (size_t at = 0; at < used; at += 1 + arity_at(plot, at))
+    for (size_t at = 0; at < plot->header[HEADER_USED]; at += 1 + arity_at(plot, at))
         for (size_t column = 1; column <= arity_at(plot, at); column++) {
-            count += !seen[plot->words[at + column]];
-            seen[plot->words[at + column]] = true;
+            uint32_t cell = plot->words[at + column];
+            if (!seen[cell])
+                places[count++] = at + column;
+            seen[cell] = true;
         }
-    for (size_t at = 0; at < used; at += 1 + arity_at(plot, at))
-        for (size_t column = 1; column <= arity_at(plot, at); column++)
-            seen[plot->words[at + column]] = false;
+    for (size_t i = 0; i < count; i++)
+        seen[plot->words[places[i]]] = false;
     return count;
+}
+
+size_t count_values(const struct any_plot *plot)
+{
+    static size_t places[PLOT_ROOM];
+    return first_places(plot, places);
 }

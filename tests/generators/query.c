@@ -168,6 +168,57 @@ void make_row_query(struct random *random, const struct palette *palette, const 
     }
 }
 
+enum { V0 = FIRST_VARIABLE, V1, V2 };
+
+static const struct {
+    size_t nodes;
+    uint32_t words[3][NODE_WORDS];
+} value_queries[NO_VALUE_QUERY] = {
+    [ALL_VALUES] = {2, {{EVERY, 1, 1}, {EQUAL, V1, V1}}},
+    [VALUES_UP_TO_ONE] = {2, {{SOME, 1, 1}, {EQUAL, V1, V0}}},
+    [VALUES_UP_TO_EACH] = {3, {{EVERY, 1, 1}, {SOME, 2, 2}, {EQUAL, V2, V1}}},
+};
+
+/* A cell to find among a plot's values: its last word, any word, or the number of a relation, which may be no value. */
+static uint32_t cell_to_find(struct random *random, const struct any_plot *plot)
+{
+    size_t used = plot->header[HEADER_USED];
+    if (one_in(random, 3))
+        return below(random, plot->header[HEADER_RELATIONS]);
+    return plot->words[one_in(random, 3) ? used - 1 : below(random, used)];
+}
+
+void make_value_query(struct random *random, const struct any_plot *plot, struct any_cells *candidate,
+                      struct any_query *query)
+{
+    size_t choice = below(random, count_values(plot) < 60 ? NO_VALUE_QUERY : VALUES_UP_TO_EACH);
+    candidate->length = 1;
+    candidate->cells[0] = cell_to_find(random, plot);
+    query->length = value_queries[choice].nodes * NODE_WORDS;
+    memcpy(query->words, value_queries[choice].words, query->length * sizeof *query->words);
+}
+
+enum value_query value_query_of(const struct any_query *query)
+{
+    for (size_t i = 0; i < NO_VALUE_QUERY; i++)
+        if (query->length == value_queries[i].nodes * NODE_WORDS &&
+            memcmp(query->words, value_queries[i].words, query->length * sizeof *query->words) == 0)
+            return (enum value_query)i;
+    return NO_VALUE_QUERY;
+}
+
+void make_any_query(struct random *random, const struct palette *palette, const struct any_plot *plot,
+                    struct any_cells *candidate, struct any_query *query)
+{
+    size_t values = count_values(plot);
+    if (values > 0 && one_in(random, 8))
+        make_row_query(random, palette, plot, candidate, query);
+    else if (values > 0 && (one_in(random, 8) || (values > 100 && !one_in(random, 4))))
+        make_value_query(random, plot, candidate, query);
+    else
+        make_query(random, palette, plot->header, values, candidate->length, query);
+}
+
 void make_endless_query(struct random *random, struct any_query *query)
 {
     uint32_t *words = query->words;

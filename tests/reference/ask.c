@@ -6,11 +6,19 @@
 static struct plot plot;
 static struct query query;
 
-/* One query being asked: what it ranges over, and its cost so far. */
+/* How far a walk over the plot's values has come. */
+struct walk {
+    size_t at; /* the index of the next value in the list or, without a list, of the row to go on with */
+    uint32_t column;
+};
+
+/* One query being asked: where its values come from, and its cost so far. */
 struct asking {
     const uint32_t *candidate;
-    const uint32_t *values;
-    size_t value_count;
+    /* Moves a walk, which starts as zeros, past its next value, and writes that; false if there is no further value. */
+    bool (*next_value)(const struct asking *asking, struct walk *walk, uint32_t *value);
+    const uint32_t *list;
+    size_t listed;
     uint64_t cost;
     uint64_t budget;
 };
@@ -137,11 +145,10 @@ static enum truth over_values(struct asking *asking, const struct junction *junc
                               const struct binding *bindings)
 {
     struct binding binding = {node->variable, 0, bindings};
+    struct walk walk = {0, 0};
     enum truth truth = junction->start;
-    for (size_t i = 0; i < asking->value_count && truth != junction->stop && !is_spent(asking); i++) {
-        binding.cell = asking->values[i];
+    while (truth != junction->stop && !is_spent(asking) && asking->next_value(asking, &walk, &binding.cell))
         truth = junction->join(truth, truth_of(asking, node->left, &binding));
-    }
     return truth;
 }
 
@@ -172,22 +179,86 @@ static enum truth truth_of(struct asking *asking, const struct node *node, const
     return TRUTH_UNKNOWN;
 }
 
+static bool next_listed(const struct asking *asking, struct walk *walk, uint32_t *value)
+{
+    if (walk->at == asking->listed)
+        return false;
+    *value = asking->list[walk->at++];
+    return true;
+}
+
+/* Whether the cell of a row and column stood earlier: in a row before it, or in a column before it of the same row. */
+static bool stood_earlier(size_t row, uint32_t column)
+{
+    uint32_t cell = plot.rows[row].cells[column];
+    for (uint32_t i = 0; i < column; i++)
+        if (plot.rows[row].cells[i] == cell)
+            return true;
+    for (size_t earlier = 0; earlier < row; earlier++)
+        for (uint32_t i = 0; i < plot.arities[plot.rows[earlier].relation]; i++)
+            if (plot.rows[earlier].cells[i] == cell)
+                return true;
+    return false;
+}
+
+/* "By walking the rows and passing over any cell that stood earlier." */
+static bool next_in_rows(const struct asking *asking, struct walk *walk, uint32_t *value)
+{
+    (void)asking;
+    for (; walk->at < plot.row_count; walk->at++, walk->column = 0) {
+        const struct row *row = &plot.rows[walk->at];
+        while (walk->column < plot.arities[row->relation]) {
+            uint32_t column = walk->column++;
+            if (!stood_earlier(walk->at, column)) {
+                *value = row->cells[column];
+                return true;
+            }
+        }
+    }
+    return false;
+}
+
+/* Takes plot and query apart: returns 0, or the first refusal that both ways of asking have. */
+static uint32_t take_apart(const uint32_t *header, size_t header_length, const uint32_t *words, size_t length,
+                           const uint32_t *query_words, size_t query_length, const uint32_t *candidate,
+                           size_t candidate_length)
+{
+    uint32_t refusal = plot_take_apart(&plot, header, header_length, words, length);
+    return refusal != 0 ? refusal
+                        : query_take_apart(&query, &plot, query_words, query_length, candidate, candidate_length);
+}
+
+static uint32_t answer(struct asking *asking, uint32_t *truth, uint32_t *cost)
+{
+    enum truth of_query = truth_of(asking, &query.nodes[0], NULL);
+    if (is_spent(asking))
+        return 46;
+    *truth = of_query;
+    *cost = (uint32_t)asking->cost;
+    return 0;
+}
+
 uint32_t ref_ask(const uint32_t *header, size_t header_length, const uint32_t *words, size_t length,
                  const uint32_t *query_words, size_t query_length, const uint32_t *candidate, size_t candidate_length,
                  uint32_t *list, size_t list_length, uint32_t budget, uint32_t *truth, uint32_t *cost)
 {
-    if (plot_take_apart(&plot, header, header_length, words, length) != 0)
-        return 41;
-    uint32_t refusal = query_take_apart(&query, &plot, query_words, query_length, candidate, candidate_length);
+    struct asking asking = {.candidate = candidate, .next_value = next_listed, .list = list, .budget = budget};
+    uint32_t refusal =
+        take_apart(header, header_length, words, length, query_words, query_length, candidate, candidate_length);
     if (refusal != 0)
         return refusal;
     if (list_length < plot_cells(&plot))
         return 45;
-    struct asking asking = {candidate, list, plot_values(&plot, list), 0, budget};
-    enum truth answer = truth_of(&asking, &query.nodes[0], NULL);
-    if (is_spent(&asking))
-        return 46;
-    *truth = answer;
-    *cost = (uint32_t)asking.cost;
-    return 0;
+    asking.listed = plot_values(&plot, list);
+    return answer(&asking, truth, cost);
+}
+
+uint32_t ref_ask_unlisted(const uint32_t *header, size_t header_length, const uint32_t *words, size_t length,
+                          const uint32_t *query_words, size_t query_length, const uint32_t *candidate,
+                          size_t candidate_length, uint32_t budget, uint32_t *truth, uint32_t *cost)
+{
+    struct asking asking = {.candidate = candidate, .next_value = next_in_rows, .budget = budget};
+    uint32_t refusal =
+        take_apart(header, header_length, words, length, query_words, query_length, candidate, candidate_length);
+    return refusal != 0 ? refusal : answer(&asking, truth, cost);
 }

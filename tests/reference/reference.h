@@ -1,7 +1,7 @@
 /*
- * A second implementation of document 01, and of requests 1 and 2 of document 02, written from these documents alone.
- * The tests compare the library with it; the two share no code. Each call is named after the library's, returns 0 or
- * the number of a refusal, and takes a slice as a pointer and a length.
+ * A second implementation of document 01, and of document 02's log, charge for a row and asking with no working list,
+ * written from these documents alone. The tests compare the library with it; the two share no code. Each call is named
+ * after the library's, returns 0 or the number of a refusal, and takes a slice as a pointer and a length.
  *
  * Names are the field's. Document 01 says head, sheet and column count for header, relation and arity; inked value and
  * mark for constant and null; question, verdict, looks and allowance for query, truth, cost and budget; reading,
@@ -38,9 +38,15 @@ uint32_t ref_null_counts(const uint32_t *header, size_t header_length, const uin
 uint32_t ref_ask(const uint32_t *header, size_t header_length, const uint32_t *words, size_t length,
                  const uint32_t *query, size_t query_length, const uint32_t *candidate, size_t candidate_length,
                  uint32_t *list, size_t list_length, uint32_t budget, uint32_t *truth, uint32_t *cost);
+uint32_t ref_ask_unlisted(const uint32_t *header, size_t header_length, const uint32_t *words, size_t length,
+                          const uint32_t *query, size_t query_length, const uint32_t *candidate,
+                          size_t candidate_length, uint32_t budget, uint32_t *truth, uint32_t *cost);
 
 /* The program plotask: the line that it prints for these input bytes, with its line feed. */
 void ref_line(const uint8_t *input, size_t length, char line[LINE_BYTES]);
+/* The same line by the given calls, the library's or the reference's, with no working list. */
+void line_by(__typeof__(ref_decode) *decode, __typeof__(ref_ask_unlisted) *ask, const uint8_t *input, size_t length,
+             char line[LINE_BYTES]);
 
 /* The model of "Run A and run B": A's rows and candidate, and the substitutions made in both, logged or not. */
 struct model {
