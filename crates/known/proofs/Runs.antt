@@ -41,7 +41,7 @@ run-stops k y l z =
     go zero e low z = absurd (omega (arith, z))
     go (suc r) e low z = omega (arith, e, low)
 
--- the flags of a word, from a place on
+-- the flags of the word that holds the flag of place p, from that flag on
 module _ (known : List ℕ) (p : ℕ) (fits : getD known (flagsFrom + p / 32) 0 < 4294967296) where
   abbrev shown : ℕ
   shown = getD known (flagsFrom + p / 32) 0 / 2 ^ (p % 32)

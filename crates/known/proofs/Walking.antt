@@ -18,7 +18,7 @@ pub unpassed-end : (known ws : List ℕ) (i : ℕ) → length ws ≤ i → unpas
 unfolding unpassed
 unpassed-end known ws i l = rw (drop-of-length-le ws {i = i} l) refl
 
--- the word at a place, and those behind it
+-- the word at a place, and those after it
 module _ (known ws : List ℕ) (i : ℕ) (l : i < length ws) where
   at-place : unpassed known i (drop i ws) ≡ cond (flagAt known i) (unpassed known (i + 1) (drop (i + 1) ws)) (getD ws i 0 ∷ unpassed known (i + 1) (drop (i + 1) ws))
   unfolding unpassed
@@ -27,7 +27,7 @@ module _ (known ws : List ℕ) (i : ℕ) (l : i < length ws) where
   pub unpassed-here : flagAt known i ≡ false → unpassed known i (drop i ws) ≡ getD ws i 0 ∷ unpassed known (i + 1) (drop (i + 1) ws)
   unpassed-here e = at-place ∙ rw e refl
 
--- a place is passed over, within the slice or behind it
+-- a place is passed over, within the slice or after its end
 pub unpassed-not : (known ws : List ℕ) (i : ℕ) → flagAt known i ≡ true → unpassed known i (drop i ws) ≡ unpassed known (i + 1) (drop (i + 1) ws)
 unpassed-not known ws i e = go (ltb i (length ws)) refl
   where

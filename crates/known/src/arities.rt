@@ -6,7 +6,7 @@ ghost use lib.ListN.{length, take, drop};
 ghost use Rattle.instance.specs.Header.{arityOf, maxRelations};
 ghost use Rattle.known.specs.Known.{knownWords, flagsFrom, aritiesIn};
 
-// The arities begin behind the counts.
+// The arities come after the counts.
 const ARITIES: usize = 8;
 
 pub fn arity_in(known: &[u32; 144], relation: usize) -> u32

@@ -6,7 +6,7 @@ ghost use lib.ListN.{length};
 ghost use Rattle.instance.specs.Header.{maxWords};
 ghost use Rattle.known.specs.Known.{knownWords, flagAt, gapAt, Gap};
 
-// The flags begin behind the counts and the arities.
+// The flags come after the counts and the arities.
 pub const FLAGS: usize = 16;
 
 // A word whose flags all stand.

@@ -131,7 +131,7 @@ module _ {n : ℕ} {ars ws before known heads : List ℕ} {left i : ℕ} (s : Pa
         rest = rest-next all f more;
       }
 
--- at the end the flags are those of the walk, and none stands behind the words
+-- at the end the flags are those of the walk, and none stands after the words
 pub passing-ends :
     {n : ℕ} {ars ws before known heads : List ℕ} {left i : ℕ} → Passing n ars ws before known heads left i → length ws ≤ i →
     (p : ℕ) → flagAt known p ≡ getD (passes ars [] 0 ws) p false
