@@ -12,3 +12,18 @@ example: $(HOSTS)
 $(HOSTS): target/c/bin/%: examples/%.c $(LIBRARY) target/lib/plotask.h
 	@mkdir -p $(@D)
 	$(CC) -std=c99 -O2 -Wall -Wextra -Wpedantic -Werror -Itarget/lib $< -Ltarget/lib -lplotask -o $@
+
+# the desk, a program of several files in C11, at the terminal with a small plot; another script: make desk SCRIPT=..
+SCRIPT ?= examples/hire.desk
+DESK := target/c/bin/desk
+
+desk: $(DESK)
+	@$(DESK) -i $(SCRIPT)
+
+# the desk knows plotask by its header alone
+target/c/examples/desk/%.o target/c-sanitized/examples/desk/%.o: CPPFLAGS := -Iinclude
+target/c/examples/desk/%.o target/c-sanitized/examples/desk/%.o: CFLAGS += -Wpedantic
+
+$(DESK): $(call objects,c,examples/desk) $(LIBRARY)
+	@mkdir -p $(@D)
+	$(CC) $^ -o $@

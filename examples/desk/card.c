@@ -1,0 +1,135 @@
+#include "refusal.h"
+#include "sheets.h"
+
+#include <string.h>
+
+/* The longest card that a plot has room for, and one byte more. */
+static uint8_t card[PLOTASK_CARD_BYTES + 1];
+
+/* Takes the rest of the line as a file's name, without the blanks around it. */
+static bool take_path(struct line *line, char path[LINE_BYTES])
+{
+    if (at_end(line))
+        return expected(line, line->at, "the name of a file");
+    snprintf(path, LINE_BYTES, "%s", line->text + line->at);
+    size_t length = strlen(path);
+    while (strchr(" \t", path[length - 1]))
+        length--;
+    path[length] = '\0';
+    return true;
+}
+
+/* Reads a file into the card; false if it cannot be read. */
+static bool read_file(const char *path, size_t *bytes)
+{
+    FILE *file = fopen(path, "rb");
+
+    if (!file)
+        return false;
+    *bytes = fread(card, 1, sizeof card, file);
+    bool read = !ferror(file);
+    fclose(file);
+    return read;
+}
+
+static bool write_file(const char *path, size_t bytes)
+{
+    FILE *file = fopen(path, "wb");
+
+    if (!file)
+        return false;
+    bool written = fwrite(card, 1, bytes, file) == bytes;
+    return fclose(file) == 0 && written;
+}
+
+/*
+ * The byte of the card, from 1, at which it is refused, or one past its end. plotask reads from the first byte on: what
+ * ends before that byte is cut short, and what ends there or later is not.
+ */
+static size_t byte_at_fault(size_t bytes, uint32_t refusal)
+{
+    static uint32_t scratch[PLOTASK_WORDS];
+    struct plotask_header header;
+    size_t low = 0, high = bytes + 1, log_used;
+
+    while (low < high) {
+        size_t middle = low + (high - low) / 2;
+        if (middle <= bytes && plotask_decode(card, middle, PLOTASK_HEADER(&header), scratch, PLOTASK_WORDS,
+                                              &log_used) == PLOTASK_CUT_SHORT)
+            low = middle + 1;
+        else
+            high = middle;
+    }
+    return refusal == PLOTASK_BYTES_LEFT_OVER ? low + 1 : low;
+}
+
+/* Whether two plots have sheets with the same column counts. */
+static bool same_sheets(const struct plotask_header *a, const struct plotask_header *b)
+{
+    return a->relations == b->relations && memcmp(a->arities, b->arities, sizeof a->arities) == 0;
+}
+
+/* What was read: the card's sheets by their names, if these still fit. */
+static void say_loaded(struct desk *desk, size_t bytes, bool same)
+{
+    const struct plot *plot = &desk->plot;
+    unsigned rows = 0;
+
+    for (uint32_t i = 0; i < plot->header.relations; i++)
+        rows += count_rows(plot, i);
+    fprintf(desk->out, "a card of %zu bytes read: %u %s%s, %u %s%s\n", bytes, COUNTED(plot->header.relations, "sheet"),
+            COUNTED(rows, "row"));
+    if (!same)
+        fputs("a card has no names: the sheets are s0, s1 and so on, their columns c0, c1\n", desk->out);
+    if (desk->asked_count > 0)
+        fputs("the questions asked of the old plot are not asked again\n", desk->out);
+}
+
+/* load FILE */
+bool load(struct desk *desk, struct line *line)
+{
+    struct plot *plot = &desk->plot;
+    struct plotask_header before = plot->header;
+    char path[LINE_BYTES];
+    size_t bytes, at = next_at(line);
+
+    if (!take_path(line, path))
+        return false;
+    if (!read_file(path, &bytes))
+        return refuse(line, at, 0, "the file cannot be read");
+    if (bytes > PLOTASK_CARD_BYTES)
+        return refuse(line, at, 0, "the card has more than %d bytes, and no plot has room for it",
+                      (int)PLOTASK_CARD_BYTES);
+    uint32_t refusal =
+        plotask_decode(card, bytes, PLOTASK_HEADER(&plot->header), plot->words, PLOTASK_WORDS, &plot->log_used);
+    if (refusal == PLOTASK_NULLS_EXHAUSTED || refusal == PLOTASK_NO_ROOM)
+        return refused(line, at, refusal);
+    if (refusal != PLOTASK_DONE)
+        return refuse(line, at, refusal, "%s, at byte %zu", meaning(refusal), byte_at_fault(bytes, refusal));
+    bool same = same_sheets(&before, &plot->header);
+    if (!same)
+        name_by_number(plot);
+    say_loaded(desk, bytes, same);
+    plot->fill_count = 0;
+    desk->asked_count = 0;
+    return true;
+}
+
+/* save FILE */
+bool save(struct desk *desk, struct line *line)
+{
+    char path[LINE_BYTES];
+    uint32_t bytes;
+    size_t at = next_at(line);
+
+    if (!take_path(line, path))
+        return false;
+    uint32_t refusal = plotask_encode(PLOTASK_HEADER(&desk->plot.header), desk->plot.words, PLOTASK_WORDS, card,
+                                      PLOTASK_CARD_BYTES, &bytes);
+    if (refusal != PLOTASK_DONE)
+        return refused(line, line->start, refusal);
+    if (!write_file(path, bytes))
+        return refuse(line, at, 0, "the file cannot be written");
+    fprintf(desk->out, "a card of %u bytes written\n", (unsigned)bytes);
+    return true;
+}

@@ -1,0 +1,22 @@
+/* A question in words, such as and(in(hangs, v0), not(in(store, v0))), as plotask's nodes. */
+#ifndef QUESTION_H
+#define QUESTION_H
+
+#include "desk.h"
+
+/* The nodes, in the order in which they are written, and where in the line each word of them stands. */
+struct tree {
+    uint32_t words[QUESTION_ROOM];
+    size_t at[QUESTION_ROOM];
+    size_t nodes;
+};
+
+/*
+ * Takes a question. If it has over 100 nodes, it is read up to the first that is too many, and the tree has 101. A name
+ * after some or every gets the number of a variable that the question does not write itself; if there is none, 16.
+ */
+bool take_question(struct line *line, const struct plot *plot, struct tree *tree);
+/* Whether a question is next, and not a name. */
+bool next_is_question(const struct line *line);
+
+#endif

@@ -1,0 +1,238 @@
+#include "asked.h"
+#include "cells.h"
+#include "question.h"
+#include "refusal.h"
+
+#include <string.h>
+
+/* A question as it was typed: with a name, or in words. */
+struct typed {
+    struct tree tree;
+    size_t at;                    /* in the line */
+    const struct question *named; /* null if it is in words */
+};
+
+static struct question *find_question(struct desk *desk, struct word name)
+{
+    for (size_t i = 0; i < desk->question_count; i++)
+        if (word_is(name, desk->questions[i].name))
+            return &desk->questions[i];
+    return NULL;
+}
+
+/* Gives each word of a question from one on, by its kind, a number that cannot be at fault. Children stay. */
+static void make_harmless(uint32_t *words, size_t from, size_t count)
+{
+    for (size_t i = from; i < count; i++) {
+        uint32_t kind = words[i - i % PLOTASK_NODE_WORDS];
+        bool variable = (kind == PLOTASK_SOME || kind == PLOTASK_EVERY) && i % PLOTASK_NODE_WORDS == 1;
+        if (i % PLOTASK_NODE_WORDS > 0 && (kind == PLOTASK_STANDS || kind == PLOTASK_EQUAL || variable))
+            words[i] = 0;
+    }
+}
+
+/*
+ * The word of a question for which it is refused. plotask tests a question from its first word on and returns a number
+ * alone. So the words after one are made harmless: if the question is still refused, the word at fault is not after it.
+ */
+static size_t word_at_fault(const struct plot *plot, const struct asked *asked)
+{
+    static struct asked probe;
+    size_t low = 0, high = asked->word_count - 1;
+
+    while (low < high) {
+        size_t middle = low + (high - low) / 2;
+        probe = *asked;
+        probe.allowance = 0;
+        make_harmless(probe.words, middle + 1, probe.word_count);
+        if (ask_plot(plot, &probe, probe.cells).refusal == asked->answer.refusal)
+            high = middle;
+        else
+            low = middle + 1;
+    }
+    return low;
+}
+
+/* The fault of a word of the question. If this has a name, the line has the name alone, and the word is told. */
+static bool refuse_word(struct line *line, const struct typed *typed, size_t word, uint32_t refusal)
+{
+    if (!typed->named)
+        return refused(line, typed->tree.at[word], refusal);
+    struct line text = {.text = typed->named->text, .at = typed->tree.at[word]};
+    struct word found = take_word(&text);
+    return refuse(line, typed->at, refusal, "%.*s in %s: %s", (int)found.length, found.start, typed->named->name,
+                  meaning(refusal));
+}
+
+static bool refuse_question(const struct plot *plot, struct line *line, const struct typed *typed,
+                            const struct asked *asked)
+{
+    switch (asked->answer.refusal) {
+    case PLOTASK_BAD_QUERY_LENGTH:
+        return refuse_word(line, typed, PLOTASK_QUERY_WORDS, asked->answer.refusal);
+    case PLOTASK_BAD_NODE:
+    case PLOTASK_UNBOUND_VARIABLE:
+    case PLOTASK_NO_SUCH_QUERY_RELATION:
+        return refuse_word(line, typed, word_at_fault(plot, asked), asked->answer.refusal);
+    default:
+        return refused(line, typed->at, asked->answer.refusal);
+    }
+}
+
+/* Takes the name of a question, or a question in words, which is then its label. */
+static bool take_typed(struct desk *desk, struct line *line, struct typed *typed, char label[LINE_BYTES])
+{
+    typed->at = next_at(line);
+    typed->named = NULL;
+    if (next_is_question(line)) {
+        if (!take_question(line, &desk->plot, &typed->tree))
+            return false;
+        snprintf(label, LINE_BYTES, "%.*s", (int)(line->at - typed->at), line->text + typed->at);
+        return true;
+    }
+    typed->named = find_question(desk, take_word(line));
+    if (!typed->named)
+        return expected(line, typed->at, "a question or its name");
+    struct line text = line_of(typed->named->text);
+    if (!take_question(&text, &desk->plot, &typed->tree))
+        return refuse(line, typed->at, 0, "in %s %s", typed->named->name, text.fault.text);
+    snprintf(label, LINE_BYTES, "%s", typed->named->name);
+    return true;
+}
+
+static bool take_options(struct line *line, struct asked *asked, size_t *allowance_at)
+{
+    bool within = false;
+
+    asked->allowance = ALLOWANCE;
+    while (!at_end(line)) {
+        struct word word = take_word(line);
+        if (word_is(word, "unlisted") && !asked->unlisted) {
+            asked->unlisted = true;
+        } else if (word_is(word, "within") && !within) {
+            struct word number = take_word(line);
+            uint64_t allowance;
+            if (!word_number(number, 0, UINT32_MAX, &allowance) || allowance > UINT32_MAX)
+                return expected(line, number.at, "a number of looks, 0 to 4294967295");
+            asked->allowance = (uint32_t)allowance;
+            *allowance_at = number.at;
+            within = true;
+        } else {
+            return expected(line, word.at, "a cell, within, unlisted or the end of the line");
+        }
+    }
+    return true;
+}
+
+static void put_question(struct asked *asked, const struct tree *tree)
+{
+    asked->word_count = tree->nodes * PLOTASK_NODE_WORDS;
+    memcpy(asked->words, tree->words, sizeof asked->words);
+}
+
+/* Refuses a question that no row can be asked: with six cells, the most there can be, every variable of theirs is. */
+static bool test_question(const struct plot *plot, struct line *line, const struct typed *typed)
+{
+    static struct asked asked;
+
+    asked = (struct asked){.cell_count = PLOTASK_CANDIDATE, .unlisted = true};
+    put_question(&asked, &typed->tree);
+    asked.answer = ask_plot(plot, &asked, asked.cells);
+    return asked.answer.refusal == PLOTASK_DONE || asked.answer.refusal == PLOTASK_BUDGET_SPENT ||
+           refuse_question(plot, line, typed, &asked);
+}
+
+/* question NAME: QUESTION */
+bool name_question(struct desk *desk, struct line *line)
+{
+    struct typed typed = {.named = NULL};
+    size_t name_at = next_at(line);
+    char name[NAME_ROOM];
+
+    if (!take_name(line, "a name for the question", name) || !take_sign(line, ':'))
+        return false;
+    typed.at = next_at(line);
+    if (!take_question(line, &desk->plot, &typed.tree))
+        return false;
+    size_t length = line->at - typed.at;
+    if (!test_question(&desk->plot, line, &typed) || !take_end(line))
+        return false;
+    struct question *question = find_question(desk, (struct word){name, strlen(name), name_at});
+    if (!question && desk->question_count == QUESTIONS)
+        return refuse(line, name_at, 0, "the desk has %d questions with names, its most", (int)QUESTIONS);
+    fprintf(desk->out, "%s is %s\n", name, question ? "another question now" : "a question now");
+    forget(desk, name);
+    if (!question)
+        question = &desk->questions[desk->question_count++];
+    snprintf(question->name, sizeof question->name, "%s", name);
+    snprintf(question->text, sizeof question->text, "%.*s", (int)length, line->text + typed.at);
+    return true;
+}
+
+static bool refuse_asked(const struct plot *plot, struct line *line, const struct typed *typed,
+                         const struct asked *asked, const struct cells *row, size_t allowance_at)
+{
+    switch (asked->answer.refusal) {
+    case PLOTASK_BAD_CANDIDATE:
+        return refused(line, row->at[cell_at_fault(plot, row->cells, row->count)], asked->answer.refusal);
+    case PLOTASK_BUDGET_SPENT:
+        return refuse(line, allowance_at, asked->answer.refusal, "%s, %u", meaning(asked->answer.refusal),
+                      (unsigned)asked->allowance);
+    default:
+        return refuse_question(plot, line, typed, asked);
+    }
+}
+
+static void say_answer(FILE *out, const struct answer *answer)
+{
+    static const char *const meanings[] = {[PLOTASK_FALSE] = "however the marks are filled in",
+                                           [PLOTASK_UNKNOWN] = "the rules could not tell",
+                                           [PLOTASK_TRUE] = "however the marks are filled in"};
+
+    print_answer(out, answer);
+    fprintf(out, ": %s\n", meanings[answer->truth]);
+}
+
+/* ask QUESTION CELL.. [within LOOKS] [unlisted], where the question is in words or a name. */
+bool ask(struct desk *desk, struct line *line)
+{
+    static struct asked asked;
+    struct typed typed;
+    struct cells row = {.count = 0};
+
+    asked = (struct asked){.fill_count = desk->plot.fill_count};
+    if (!take_typed(desk, line, &typed, asked.label))
+        return false;
+    size_t allowance_at = typed.at;
+    if (typed.tree.nodes <= PLOTASK_NODES &&
+        (!take_cells(line, false, &row) || !take_options(line, &asked, &allowance_at)))
+        return false;
+    put_question(&asked, &typed.tree);
+    memcpy(asked.cells, row.cells, sizeof asked.cells);
+    asked.cell_count = row.count;
+    asked.answer = ask_plot(&desk->plot, &asked, asked.cells);
+    if (asked.answer.refusal != PLOTASK_DONE)
+        return refuse_asked(&desk->plot, line, &typed, &asked, &row, allowance_at);
+    say_answer(desk->out, &asked.answer);
+    remember(desk, &asked);
+    return true;
+}
+
+/* questions */
+bool questions(struct desk *desk, struct line *line)
+{
+    if (!take_end(line))
+        return false;
+    for (size_t i = 0; i < desk->question_count; i++)
+        fprintf(desk->out, "%s: %s\n", desk->questions[i].name, desk->questions[i].text);
+    for (size_t i = 0; i < desk->asked_count; i++) {
+        fputs("asked: ", desk->out);
+        print_asked(desk->out, &desk->plot, &desk->asked[i]);
+        fputs(": ", desk->out);
+        print_answer(desk->out, &desk->asked[i].answer);
+        fputc('\n', desk->out);
+    }
+    if (desk->question_count + desk->asked_count == 0)
+        fputs("no questions yet\n", desk->out);
+    return true;
+}
