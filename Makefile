@@ -42,7 +42,7 @@ $(PROGRAM): $(CRATES)
 
 CFLAGS := -std=c11 -O2 -Wall -Wextra -Werror
 CXXFLAGS := -std=c++11 -O2 -Wall -Wextra -Wpedantic -Wold-style-cast -Wconversion -Werror
-CPPFLAGS := -D_XOPEN_SOURCE=700 -Iinclude -Itests -Ibench
+CPPFLAGS := -D_XOPEN_SOURCE=700 -Iinclude -Iexamples -Itests -Ibench
 SANITIZE ?= -g -fsanitize=address,undefined -fno-sanitize-recover=all
 # each loop starts on a line of its own, so that its time does not depend on where the linker puts it
 ALIGN ?= -falign-functions=64 -falign-loops=32

@@ -79,7 +79,7 @@ static bool run(const char *program, uint64_t seed, uint64_t number, struct hits
     make_input(&random, &input);
     expected_lines(&input, expected);
     pieces.largest = one_in(&random, 4) ? INPUT_ROOM : one_in(&random, 4) ? 3 : 1 + below(&random, 5000);
-    bool ended = run_program(program, input.bytes, input.length, next_piece, &pieces, got, sizeof got);
+    bool ended = run_program(program, NULL, input.bytes, input.length, next_piece, &pieces, got, sizeof got);
     for (size_t i = 0; i < LINES; i++)
         if (!ended || strcmp(expected[i], got) != 0) {
             printf("seed %" PRIu64 ", run %" PRIu64 ": ", seed, number);

@@ -16,7 +16,7 @@ enum { BLOCKS = 29 };
 /* The line that the program prints for a block, without its line feed; false if it prints none. */
 static bool run(const char *program, const struct block *block, char *line, size_t room)
 {
-    if (!run_program(program, block->input, block->input_bytes, NULL, NULL, line, room))
+    if (!run_program(program, NULL, block->input, block->input_bytes, NULL, NULL, line, room))
         return false;
     size_t length = strlen(line);
     if (length == 0 || line[length - 1] != '\n')

@@ -7,11 +7,11 @@
 static uint8_t card[PLOTASK_CARD_BYTES + 1];
 
 /* Takes the rest of the line as a file's name, without the blanks around it. */
-static bool take_path(struct line *line, char path[LINE_BYTES])
+static bool take_path(struct line *line, char path[LINE_ROOM])
 {
     if (at_end(line))
         return expected(line, line->at, "the name of a file");
-    snprintf(path, LINE_BYTES, "%s", line->text + line->at);
+    snprintf(path, LINE_ROOM, "%s", line->text + line->at);
     size_t length = strlen(path);
     while (strchr(" \t", path[length - 1]))
         length--;
@@ -90,7 +90,7 @@ bool load(struct desk *desk, struct line *line)
 {
     struct plot *plot = &desk->plot;
     struct plotask_header before = plot->header;
-    char path[LINE_BYTES];
+    char path[LINE_ROOM];
     size_t bytes, at = next_at(line);
 
     if (!take_path(line, path))
@@ -118,7 +118,7 @@ bool load(struct desk *desk, struct line *line)
 /* save FILE */
 bool save(struct desk *desk, struct line *line)
 {
-    char path[LINE_BYTES];
+    char path[LINE_ROOM];
     uint32_t bytes;
     size_t at = next_at(line);
 

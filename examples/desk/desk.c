@@ -82,7 +82,7 @@ bool find_command(struct word word)
 }
 
 /* Copies a line as far as a comment, without a carriage return at its end; false if it has a control byte. */
-static bool copy_line(const char *bytes, size_t length, char text[LINE_BYTES], struct line *line)
+static bool copy_line(const char *bytes, size_t length, char text[LINE_ROOM], struct line *line)
 {
     if (length > 0 && bytes[length - 1] == '\r')
         length--;
@@ -131,12 +131,12 @@ static void say_fault(FILE *out, const struct fault *fault)
 
 enum line_end desk_line(struct desk *desk, const char *bytes, size_t length)
 {
-    char text[LINE_BYTES] = "";
+    char text[LINE_ROOM] = "";
     struct line line = line_of(text);
     bool quit = false;
 
-    if (length >= LINE_BYTES) {
-        refuse(&line, LINE_BYTES - 1, 0, "a line has at most %d bytes", LINE_BYTES - 1);
+    if (length >= LINE_ROOM) {
+        refuse(&line, LINE_ROOM - 1, 0, "a line has at most %d bytes", LINE_ROOM - 1);
     } else if (copy_line(bytes, length, text, &line) && run_line(desk, &line, &quit)) {
         return quit ? LINE_QUIT : LINE_DONE;
     }

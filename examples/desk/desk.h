@@ -44,7 +44,7 @@ struct plot {
 
 struct question {
     char name[NAME_ROOM];
-    char text[LINE_BYTES];
+    char text[LINE_ROOM];
 };
 
 struct answer {
@@ -55,7 +55,7 @@ struct answer {
 
 /* A question that was asked, and its last answer. */
 struct asked {
-    char label[LINE_BYTES]; /* its name, or its text if it has none */
+    char label[LINE_ROOM]; /* its name, or its text if it has none */
     uint32_t words[QUESTION_ROOM];
     size_t word_count;
     uint32_t cells[ROW_ROOM]; /* of the row, as they were when it was asked */

@@ -7,8 +7,8 @@
 #include <stdint.h>
 
 enum {
-    LINE_BYTES = 4096, /* a line and its ending 0: every question of 100 nodes fits if it is written without blanks */
-    NAME_BYTES = 16,   /* of a name, at most */
+    LINE_ROOM = 4096, /* a line and its ending 0: every question of 100 nodes fits if it is written without blanks */
+    NAME_BYTES = 16,  /* of a name, at most */
     NAME_ROOM = NAME_BYTES + 1,
     FAULT_BYTES = 256
 };

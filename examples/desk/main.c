@@ -9,13 +9,13 @@ static struct desk desk;
  * Reads a line without its line feed. Of a longer one than the desk takes, the bytes that have room are kept and all
  * are counted. False at the end of the input.
  */
-static bool read_line(FILE *in, char bytes[LINE_BYTES], size_t *length)
+static bool read_line(FILE *in, char bytes[LINE_ROOM], size_t *length)
 {
     int c;
 
     *length = 0;
     while ((c = getc(in)) != EOF && c != '\n') {
-        if (*length < LINE_BYTES)
+        if (*length < LINE_ROOM)
             bytes[*length] = (char)c;
         ++*length;
     }
@@ -25,7 +25,7 @@ static bool read_line(FILE *in, char bytes[LINE_BYTES], size_t *length)
 /* Shows a line of a script as if it were typed: a control byte as '?', and of a line that is too long the start. */
 static void show_line(const char *bytes, size_t length)
 {
-    size_t shown = length < LINE_BYTES ? length : 72;
+    size_t shown = length < LINE_ROOM ? length : 72;
 
     if (shown > 0 && bytes[shown - 1] == '\r')
         shown--;
@@ -38,7 +38,7 @@ static void show_line(const char *bytes, size_t length)
 /* Runs the lines of a script, or those that are typed, up to the end of the input; false if a line ended the desk. */
 static bool run(FILE *in, bool script)
 {
-    char bytes[LINE_BYTES];
+    char bytes[LINE_ROOM];
     size_t length;
 
     for (;;) {

@@ -80,14 +80,14 @@ static bool refuse_question(const struct plot *plot, struct line *line, const st
 }
 
 /* Takes the name of a question, or a question in words, which is then its label. */
-static bool take_typed(struct desk *desk, struct line *line, struct typed *typed, char label[LINE_BYTES])
+static bool take_typed(struct desk *desk, struct line *line, struct typed *typed, char label[LINE_ROOM])
 {
     typed->at = next_at(line);
     typed->named = NULL;
     if (next_is_question(line)) {
         if (!take_question(line, &desk->plot, &typed->tree))
             return false;
-        snprintf(label, LINE_BYTES, "%.*s", (int)(line->at - typed->at), line->text + typed->at);
+        snprintf(label, LINE_ROOM, "%.*s", (int)(line->at - typed->at), line->text + typed->at);
         return true;
     }
     typed->named = find_question(desk, take_word(line));
@@ -96,7 +96,7 @@ static bool take_typed(struct desk *desk, struct line *line, struct typed *typed
     struct line text = line_of(typed->named->text);
     if (!take_question(&text, &desk->plot, &typed->tree))
         return refuse(line, typed->at, 0, "in %s %s", typed->named->name, text.fault.text);
-    snprintf(label, LINE_BYTES, "%s", typed->named->name);
+    snprintf(label, LINE_ROOM, "%s", typed->named->name);
     return true;
 }
 

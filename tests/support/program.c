@@ -15,7 +15,7 @@ static _Noreturn void give_up(const char *what)
     exit(1);
 }
 
-static _Noreturn void become(const char *program, const int in[2], const int out[2])
+static _Noreturn void become(const char *program, const char *argument, const int in[2], const int out[2])
 {
     signal(SIGPIPE, SIG_DFL);
     dup2(in[READ_END], STDIN_FILENO);
@@ -24,7 +24,7 @@ static _Noreturn void become(const char *program, const int in[2], const int out
     close(in[WRITE_END]);
     close(out[READ_END]);
     close(out[WRITE_END]);
-    execl(program, program, (char *)NULL);
+    execl(program, program, argument, (char *)NULL);
     _exit(127);
 }
 
@@ -52,8 +52,8 @@ static void read_output(int from, char *output, size_t room)
     output[length] = '\0';
 }
 
-bool run_program(const char *program, const uint8_t *input, size_t length, piece_size *next_piece, void *context,
-                 char *output, size_t room)
+bool run_program(const char *program, const char *argument, const uint8_t *input, size_t length, piece_size *next_piece,
+                 void *context, char *output, size_t room)
 {
     int in[2];
     int out[2];
@@ -65,7 +65,7 @@ bool run_program(const char *program, const uint8_t *input, size_t length, piece
     if (child < 0)
         give_up("fork");
     if (child == 0)
-        become(program, in, out);
+        become(program, argument, in, out);
     close(in[READ_END]);
     close(out[WRITE_END]);
     write_input(in[WRITE_END], input, length, next_piece, context);

@@ -10,11 +10,11 @@
 typedef size_t piece_size(void *context);
 
 /*
- * Runs a program on input bytes, written to a pipe in pieces (all at once if next_piece is null), and reads its output,
+ * Runs a program, with an argument unless that is null, on input bytes, written to a pipe in pieces (all at once if next_piece is null), and reads its output,
  * cut at room - 1 bytes and ended by 0. Returns whether the program ended by itself with status 0. The program has to
  * read its input before it writes more than a pipe holds.
  */
-bool run_program(const char *program, const uint8_t *input, size_t length, piece_size *next_piece, void *context,
-                 char *output, size_t room);
+bool run_program(const char *program, const char *argument, const uint8_t *input, size_t length, piece_size *next_piece,
+                 void *context, char *output, size_t room);
 
 #endif
