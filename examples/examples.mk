@@ -1,13 +1,16 @@
 # Each file is a program, compiled over target/lib as by a user of the library, in the oldest C that plotask.h takes.
 EXAMPLES := $(notdir $(basename $(wildcard examples/*.c)))
 HOSTS := $(EXAMPLES:%=target/c/bin/%)
+DESK := target/c/bin/desk
 
-# the sample cue host, and what it prints
-example: $(HOSTS)
+# the sample cue host, and what it prints; the desk over its script, and then over what README has one type
+example: $(HOSTS) $(DESK)
 	@for host in $(EXAMPLES); do \
 		target/c/bin/$$host > target/c/$$host.out && diff examples/$$host.out target/c/$$host.out || exit 1; \
 	done
-	@echo "$(words $(EXAMPLES)) passed, 0 failed"
+	@printf 'ask hire 201\nfill m1 201\n' | $(DESK) -i examples/hire.desk > target/c/hire.out && \
+		diff examples/hire.out target/c/hire.out
+	@echo "$(words $(EXAMPLES) hire) passed, 0 failed"
 
 $(HOSTS): target/c/bin/%: examples/%.c $(LIBRARY) target/lib/plotask.h
 	@mkdir -p $(@D)
@@ -15,7 +18,6 @@ $(HOSTS): target/c/bin/%: examples/%.c $(LIBRARY) target/lib/plotask.h
 
 # the desk, a program of several files in C11, at the terminal with a small plot; another script: make desk SCRIPT=..
 SCRIPT ?= examples/hire.desk
-DESK := target/c/bin/desk
 
 desk: $(DESK)
 	@$(DESK) -i $(SCRIPT)

@@ -3,17 +3,26 @@
 SEED ?= 1
 ROUNDS ?= 6000
 SANITIZED_ROUNDS ?= 2500
+DESK_ROUNDS ?= 600
+SANITIZED_DESK_ROUNDS ?= 200
 RUNS ?= 1000
 LIMIT ?= timeout 600
 
 TESTS := $(notdir $(basename $(wildcard tests/*.c tests/*.cpp)))
 COMPARED := tests/differential tests/generators tests/reference tests/support
+TRANSCRIPTS := README.md $(wildcard tests/desk/*.txt)
 BIN := target/c/bin
 SANITIZED := target/c-sanitized/bin
+WITH_SANITIZERS := $(addprefix $(SANITIZED)/,differential desk desk_lines desk_random)
 
-# every test, the differential one with sanitizers too; the last line is the total
-c-test: lib $(PROGRAM) $(HOSTS) $(TESTS:%=$(BIN)/%) $(SANITIZED)/differential
-	@{ $(MAKE) -s --no-print-directory example verdicts && \
+# every test, the differential one and the desk's with sanitizers too; the last line is the total
+c-test: lib $(PROGRAM) $(HOSTS) $(DESK) $(TESTS:%=$(BIN)/%) $(WITH_SANITIZERS)
+	@{ $(MAKE) -s --no-print-directory example desk-start verdicts && \
+	$(LIMIT) $(BIN)/transcripts $(DESK) $(TRANSCRIPTS) && \
+	$(LIMIT) $(BIN)/transcripts $(SANITIZED)/desk $(PAGE) $(TRANSCRIPTS) && \
+	$(LIMIT) $(BIN)/desk_lines && $(LIMIT) $(SANITIZED)/desk_lines && \
+	$(LIMIT) $(BIN)/desk_random $(SEED) $(DESK_ROUNDS) && \
+	$(LIMIT) $(SANITIZED)/desk_random $(SEED) $(SANITIZED_DESK_ROUNDS) && \
 	$(LIMIT) $(BIN)/header && $(LIMIT) $(BIN)/readings && $(LIMIT) $(BIN)/unlisted && $(LIMIT) $(BIN)/limit && \
 	$(LIMIT) $(BIN)/stack && \
 	$(LIMIT) $(BIN)/differential $(SEED) $(ROUNDS) && \
@@ -23,18 +32,42 @@ c-test: lib $(PROGRAM) $(HOSTS) $(TESTS:%=$(BIN)/%) $(SANITIZED)/differential
 	@awk '/^[0-9]+ passed, [0-9]+ failed$$/ { passed += $$1; failed += $$3 } \
 		END { printf "%d passed, %d failed\n", passed, failed }' target/c/tests.log
 
-# every box of docs/VERDICTS.md through the program
-verdicts: $(BIN)/verdicts $(PROGRAM)
-	$< docs/VERDICTS.md $(PROGRAM)
+# how the desk starts: a script with a byte order mark and CR LF, one that is missing, and words that it does not take
+desk-start: $(DESK)
+	@test "$$(printf '\357\273\277sheet a b\r\na 5\r\nquit\r\na 6' | $(DESK) -)" = \
+		"$$(printf '> sheet a b\nsheet 0 is a, with 1 column: b\n> a 5\na has 1 row\n> quit')"
+	@! $(DESK) target/no-such-script 2> /dev/null
+	@for words in -x -i '-i -' 'a b c'; do ! $(DESK) $$words 2> /dev/null < /dev/null || exit 1; done
+	@echo "6 passed, 0 failed"
+
+# every line of the page for crews at the desk, and every question of it through the program
+PAGE := docs/VERDICTS.md
+verdicts: $(BIN)/transcripts $(BIN)/verdicts $(DESK) $(PROGRAM)
+	$(BIN)/transcripts $(DESK) $(PAGE)
+	$(BIN)/verdicts $(PAGE) $(PROGRAM)
 
 # what each program is linked with, besides its own object
 $(BIN)/differential $(BIN)/readings $(BIN)/unlisted: $(call objects,c,$(COMPARED)) $(LIBRARY)
 $(BIN)/feed: $(call objects,c,tests/generators tests/reference tests/support) $(LIBRARY)
 $(BIN)/header: $(call objects,c,tests/support) $(LIBRARY)
 $(BIN)/limit: $(call objects,c,tests/reference tests/support) $(LIBRARY)
+$(BIN)/transcripts: $(call objects,c,tests/support)
 $(BIN)/stack: $(call objects,c,bench/baseline bench/measure bench/work tests/reference tests/support) $(LIBRARY)
 $(BIN)/verdicts: $(call objects,c,tests/page tests/reference tests/support) $(LIBRARY)
 $(SANITIZED)/differential: $(call objects,c-sanitized,$(COMPARED)) $(LIBRARY)
+
+# the desk without its own start
+desk_objects = $(filter-out %/main.o,$(call objects,$(1),examples/desk))
+LINES := tests/desk_lines tests/support tests/typing
+RANDOM := tests/desk_random tests/generators tests/reference tests/support tests/typing
+$(BIN)/desk_lines: $(call desk_objects,c) $(call objects,c,$(LINES)) $(LIBRARY)
+$(SANITIZED)/desk_lines: $(call desk_objects,c-sanitized) $(call objects,c-sanitized,$(LINES)) $(LIBRARY)
+$(BIN)/desk_random: $(call desk_objects,c) $(call objects,c,$(RANDOM)) $(LIBRARY)
+$(SANITIZED)/desk_random: $(call desk_objects,c-sanitized) $(call objects,c-sanitized,$(RANDOM)) $(LIBRARY)
+
+$(SANITIZED)/desk: $(call objects,c-sanitized,examples/desk) $(LIBRARY)
+	@mkdir -p $(@D)
+	$(LINK) $^ -o $@
 
 LINK = $(CC)
 $(BIN)/header: LINK = $(CXX)

@@ -1,6 +1,6 @@
 #include "asked.h"
 #include "cells.h"
-#include "sheets.h"
+#include "counted.h"
 
 #include <string.h>
 
@@ -40,40 +40,51 @@ static struct answer renew(const struct plot *plot, struct asked *asked)
     return before;
 }
 
+/* Whether two are the same question of the same row, as it was typed and as it is now, asked in the same way. */
 static bool same_asked(const struct plot *plot, const struct asked *a, const struct asked *b)
 {
     uint32_t cells_a[ROW_ROOM], cells_b[ROW_ROOM];
+    size_t bytes = a->cell_count * sizeof *cells_a;
 
     row_now(plot, a, cells_a);
     row_now(plot, b, cells_b);
-    return strcmp(a->label, b->label) == 0 && a->cell_count == b->cell_count &&
-           memcmp(cells_a, cells_b, a->cell_count * sizeof *cells_a) == 0;
+    return strcmp(a->label, b->label) == 0 && a->allowance == b->allowance && a->unlisted == b->unlisted &&
+           a->cell_count == b->cell_count && memcmp(a->cells, b->cells, bytes) == 0 &&
+           memcmp(cells_a, cells_b, bytes) == 0;
 }
 
-void remember(struct desk *desk, const struct asked *asked)
+static void drop_at(struct desk *desk, size_t i)
 {
-    for (size_t i = 0; i < desk->asked_count; i++)
+    desk->asked_count--;
+    memmove(&desk->asked[i], &desk->asked[i + 1], (desk->asked_count - i) * sizeof *desk->asked);
+}
+
+void remember(struct desk *desk, struct asked *asked)
+{
+    for (size_t i = desk->asked_count; i-- > 0;)
         if (same_asked(&desk->plot, &desk->asked[i], asked)) {
-            desk->asked[i] = *asked;
-            return;
+            asked->fill_count = desk->asked[i].fill_count;
+            drop_at(desk, i);
         }
     if (desk->asked_count == ASKED) {
         fputs("no longer asked again: ", desk->out);
         print_asked(desk->out, &desk->plot, &desk->asked[0]);
         fputc('\n', desk->out);
-        memmove(desk->asked, desk->asked + 1, --desk->asked_count * sizeof *desk->asked);
+        drop_at(desk, 0);
     }
     desk->asked[desk->asked_count++] = *asked;
 }
 
-void forget(struct desk *desk, const char *label)
+unsigned drop_asked(struct desk *desk, const char *label)
 {
-    size_t kept = 0;
+    unsigned dropped = 0;
 
-    for (size_t i = 0; i < desk->asked_count; i++)
-        if (strcmp(desk->asked[i].label, label) != 0)
-            desk->asked[kept++] = desk->asked[i];
-    desk->asked_count = kept;
+    for (size_t i = desk->asked_count; i-- > 0;)
+        if (!label || strcmp(desk->asked[i].label, label) == 0) {
+            drop_at(desk, i);
+            dropped++;
+        }
+    return dropped;
 }
 
 void forget_fill(struct desk *desk)
@@ -101,6 +112,15 @@ void print_asked(FILE *out, const struct plot *plot, const struct asked *asked)
     row_now(plot, asked, cells);
     fputs(asked->label, out);
     print_cells(out, cells, asked->cell_count);
+    if (asked->allowance != ALLOWANCE)
+        fprintf(out, " within %u", (unsigned)asked->allowance);
+    if (asked->unlisted)
+        fputs(" unlisted", out);
+    if (memcmp(cells, asked->cells, asked->cell_count * sizeof *cells) != 0) {
+        fputs(" (asked of", out);
+        print_cells(out, asked->cells, asked->cell_count);
+        fputc(')', out);
+    }
 }
 
 static void say_now(struct desk *desk, const char *what, const struct asked *asked, const struct answer *before)
@@ -153,10 +173,11 @@ void say_settled(struct desk *desk)
         if (effect != STAYED)
             say_now(desk, names[effect], &desk->asked[i], &before);
     }
-    if (desk->asked_count > 0 && counts[UNSETTLED] == 0)
-        fputs(counts[SETTLED] ? "no verdict was unsettled\n"
-                              : "no question became settled, and no verdict was unsettled\n",
-              desk->out);
+    if (desk->asked_count == 0 || counts[UNSETTLED] > 0)
+        return;
+    fputs(counts[STAYED] == desk->asked_count ? "no question became settled, and no verdict was unsettled\n"
+                                              : "no verdict was unsettled\n",
+          desk->out);
 }
 
 unsigned say_changes(struct desk *desk)

@@ -7,21 +7,21 @@
 /* Asks a question of a row, with a working list or without one. */
 struct answer ask_plot(const struct plot *plot, const struct asked *asked, const uint32_t *cells);
 
-/* Adds a question, or renews the one that is the same and of the same row. If there are too many, the oldest goes. */
-void remember(struct desk *desk, const struct asked *asked);
-/* Drops those with this label. */
-void forget(struct desk *desk, const char *label);
+/* Puts a question at the end, instead of the same one if there is one. If there are too many, the oldest goes. */
+void remember(struct desk *desk, struct asked *asked);
+/* Drops those with this label, or all if it is null, and returns their number. */
+unsigned drop_asked(struct desk *desk, const char *label);
 /* After a fill was taken back: rows that were asked about since then stay as they were asked. */
 void forget_fill(struct desk *desk);
 
-/* After a fill: asks again, and says what became settled and that nothing else changed, if that is so. */
+/* After a fill: asks again, and says what became settled, and that nothing was unsettled if that is so. */
 void say_settled(struct desk *desk);
 /* After any other change: asks again, says which verdicts are others now, and returns their number. */
 unsigned say_changes(struct desk *desk);
 
 /* "unknown, 4 looks", or "refused 46". */
 void print_answer(FILE *out, const struct answer *answer);
-/* The label and the row as it is now. */
+/* The question, its row as it is now, and how it was asked. */
 void print_asked(FILE *out, const struct plot *plot, const struct asked *asked);
 
 #endif

@@ -1,3 +1,4 @@
+#include "counted.h"
 #include "refusal.h"
 #include "sheets.h"
 
@@ -32,14 +33,39 @@ static bool read_file(const char *path, size_t *bytes)
     return read;
 }
 
+/* Reads the card's first bytes into a plot that nobody needs, and returns what plotask says. */
+static uint32_t try_card(size_t bytes)
+{
+    static uint32_t scratch[PLOTASK_WORDS];
+    struct plotask_header header;
+    size_t log_used;
+
+    return plotask_decode(card, bytes, PLOTASK_HEADER(&header), scratch, PLOTASK_WORDS, &log_used);
+}
+
+/* Writes the card beside the file that it then replaces, so that a file is whole or stays as it was. */
 static bool write_file(const char *path, size_t bytes)
 {
-    FILE *file = fopen(path, "wb");
+    char part[LINE_ROOM + 1];
+    snprintf(part, sizeof part, "%s~", path);
+    FILE *file = fopen(part, "wb");
 
     if (!file)
         return false;
     bool written = fwrite(card, 1, bytes, file) == bytes;
-    return fclose(file) == 0 && written;
+    written = fclose(file) == 0 && written;
+    written = written && rename(part, path) == 0;
+    if (!written)
+        remove(part);
+    return written;
+}
+
+/* Whether there is a file that is no card: it would be lost. */
+static bool holds_something_else(const char *path)
+{
+    size_t bytes;
+
+    return read_file(path, &bytes) && try_card(bytes) != PLOTASK_DONE;
 }
 
 /*
@@ -48,14 +74,11 @@ static bool write_file(const char *path, size_t bytes)
  */
 static size_t byte_at_fault(size_t bytes, uint32_t refusal)
 {
-    static uint32_t scratch[PLOTASK_WORDS];
-    struct plotask_header header;
-    size_t low = 0, high = bytes + 1, log_used;
+    size_t low = 0, high = bytes + 1;
 
     while (low < high) {
         size_t middle = low + (high - low) / 2;
-        if (middle <= bytes && plotask_decode(card, middle, PLOTASK_HEADER(&header), scratch, PLOTASK_WORDS,
-                                              &log_used) == PLOTASK_CUT_SHORT)
+        if (middle <= bytes && try_card(middle) == PLOTASK_CUT_SHORT)
             low = middle + 1;
         else
             high = middle;
@@ -70,15 +93,15 @@ static bool same_sheets(const struct plotask_header *a, const struct plotask_hea
 }
 
 /* What was read: the card's sheets by their names, if these still fit. */
-static void say_loaded(struct desk *desk, size_t bytes, bool same)
+static void say_loaded(struct desk *desk, const char *path, size_t bytes, bool same)
 {
     const struct plot *plot = &desk->plot;
     unsigned rows = 0;
 
     for (uint32_t i = 0; i < plot->header.relations; i++)
         rows += count_rows(plot, i);
-    fprintf(desk->out, "a card of %zu bytes read: %u %s%s, %u %s%s\n", bytes, COUNTED(plot->header.relations, "sheet"),
-            COUNTED(rows, "row"));
+    fprintf(desk->out, "a card of %zu bytes read from %s: %u %s%s, %u %s%s\n", bytes, path,
+            COUNTED(plot->header.relations, "sheet"), COUNTED(rows, "row"));
     if (!same)
         fputs("a card has no names: the sheets are s0, s1 and so on, their columns c0, c1\n", desk->out);
     if (desk->asked_count > 0)
@@ -98,18 +121,18 @@ bool load(struct desk *desk, struct line *line)
     if (!read_file(path, &bytes))
         return refuse(line, at, 0, "the file cannot be read");
     if (bytes > PLOTASK_CARD_BYTES)
-        return refuse(line, at, 0, "the card has more than %d bytes, and no plot has room for it",
+        return refuse(line, at, 0, "the file has more than %d bytes, the most that a card has",
                       (int)PLOTASK_CARD_BYTES);
     uint32_t refusal =
         plotask_decode(card, bytes, PLOTASK_HEADER(&plot->header), plot->words, PLOTASK_WORDS, &plot->log_used);
     if (refusal == PLOTASK_NULLS_EXHAUSTED || refusal == PLOTASK_NO_ROOM)
-        return refused(line, at, refusal);
+        return refuse_number(line, at, refusal);
     if (refusal != PLOTASK_DONE)
-        return refuse(line, at, refusal, "%s, at byte %zu", meaning(refusal), byte_at_fault(bytes, refusal));
+        return refuse(line, at, refusal, "byte %zu of the card: %s", byte_at_fault(bytes, refusal), meaning(refusal));
     bool same = same_sheets(&before, &plot->header);
     if (!same)
         name_by_number(plot);
-    say_loaded(desk, bytes, same);
+    say_loaded(desk, path, bytes, same);
     plot->fill_count = 0;
     desk->asked_count = 0;
     return true;
@@ -124,12 +147,14 @@ bool save(struct desk *desk, struct line *line)
 
     if (!take_path(line, path))
         return false;
+    if (holds_something_else(path))
+        return refuse(line, at, 0, "the file is there and is no card, so it is not replaced");
     uint32_t refusal = plotask_encode(PLOTASK_HEADER(&desk->plot.header), desk->plot.words, PLOTASK_WORDS, card,
                                       PLOTASK_CARD_BYTES, &bytes);
     if (refusal != PLOTASK_DONE)
-        return refused(line, line->start, refusal);
+        return refuse_number(line, line->start, refusal);
     if (!write_file(path, bytes))
         return refuse(line, at, 0, "the file cannot be written");
-    fprintf(desk->out, "a card of %u bytes written\n", (unsigned)bytes);
+    fprintf(desk->out, "a card of %u bytes written to %s\n", (unsigned)bytes, path);
     return true;
 }

@@ -1,7 +1,5 @@
 #include "cells.h"
 
-#include <string.h>
-
 bool take_mark(struct line *line, uint32_t *mark)
 {
     struct word word = take_word(line);
@@ -34,36 +32,28 @@ bool take_cell(struct line *line, uint32_t *cell)
     return word_cell(word, cell) || expected(line, word.at, "a value, 0 to 999999, or a mark, m1 to m200");
 }
 
-/* Whether a word that is a cell is next, or a blank. */
-static bool next_is_cell(struct line *line)
-{
-    struct line ahead = *line;
-    struct word word = take_word(&ahead);
-    uint32_t cell;
-
-    return word.length > 0 ? word_cell(word, &cell) : next_is(line, '-');
-}
-
 bool take_cells(struct line *line, bool blanks, struct cells *cells)
 {
     cells->count = 0;
-    while (next_is_cell(line)) {
-        bool blank = next_is(line, '-');
-        size_t at = line->at;
+    for (;;) {
+        size_t at = next_at(line);
+        bool blank = blanks && next_is(line, '-');
+        struct line ahead = *line;
         uint32_t cell = 0;
-        if (blank && !blanks)
-            return expected(line, at, "a value, 0 to 999999, or a mark, m1 to m200");
-        if (blank ? !take_sign(line, '-') : !take_cell(line, &cell))
-            return false;
-        if (!strchr(" \t", line->text[line->at]))
-            return expected(line, line->at, "a space after a cell");
+        if (blank)
+            ahead.at++;
+        else if (!word_cell(take_word(&ahead), &cell))
+            return true;
+        char next = ahead.text[ahead.at];
+        if (next != '\0' && next != ' ' && next != '\t')
+            return expected(line, ahead.at, "a space after a cell");
+        line->at = ahead.at;
         if (cells->count == ROW_ROOM)
             continue;
         cells->cells[cells->count] = cell;
         cells->blank[cells->count] = blank;
         cells->at[cells->count++] = at;
     }
-    return true;
 }
 
 size_t cell_at_fault(const struct plot *plot, const uint32_t *cells, size_t count)

@@ -18,7 +18,7 @@ struct cells {
 bool take_cell(struct line *line, uint32_t *cell);
 /* The number of a mark; one that is out of range becomes 0 or 201. */
 bool take_mark(struct line *line, uint32_t *mark);
-/* Takes cells up to the first word that can be none, or to the end. Those after the seventh are read and dropped. */
+/* Takes cells up to the first word that is no cell, or to the end. Those after the seventh are read and dropped. */
 bool take_cells(struct line *line, bool blanks, struct cells *cells);
 
 /* The first of the cells that is none, as plotask sees it; their count if each of them is one. The plot is sound. */

@@ -1,4 +1,5 @@
 #include "desk.h"
+#include "question.h"
 #include "refusal.h"
 #include "sheets.h"
 
@@ -21,22 +22,24 @@ static const struct {
     {"question", name_question, "question NAME: QUESTION", "gives a question a name"},
     {"ask", ask, "ask QUESTION CELL..", "asks a question, in words or by its name, of a row"},
     {"questions", questions, "questions", "those that have names, and those asked so far"},
-    {"load", load, "load FILE", "a plot from a card; fills can no longer be taken back"},
+    {"forget", forget, "forget [NAME]", "those asked so far, or the one with this name"},
+    {"load", load, "load FILE", "a plot from a card; names stay if the sheets are alike"},
     {"save", save, "save FILE", "the plot as a card, which has no names"},
     {"new", start_anew, "new", "forgets everything"},
-    {"help", help, "help [NUMBER]", "this, or what a refusal's number means; also ?"},
+    {"help", help, "help [WORD]", "this, a command, or what a refusal's number means"},
     {"quit", NULL, "quit", "ends, as the end of input does"},
 };
 
 enum { COMMANDS = sizeof commands / sizeof *commands };
 
-static const char more_help[] =
-    "A blank gets a mark of its own, above all others. After \"ask\" and its row may stand \"within 100\", the most "
-    "looks\n"
-    "(1000000 if it is left out), and \"unlisted\", to ask without a working list.\n"
-    "A question:  in(SHEET, TERM, ..)  equal(TERM, TERM)  not(Q)  and(Q, Q)  or(Q, Q)  some(NAME, Q)  every(NAME, Q)\n"
-    "A term: a value; v0 for the first cell of the row asked, v1 for the second; a NAME after some or every.\n"
-    "What follows a # is not read. A line that is refused changes nothing.\n";
+static const char more_help[] = "A SHEET is a name or a number from 0. A blank gets a mark of its own, above all\n"
+                                "others. After the row that is asked about may come \"within 100\", the most looks\n"
+                                "(1000000 if it is left out), and \"unlisted\", to ask without a working list.\n"
+                                "A question: in(SHEET, TERM, ..)  equal(TERM, TERM)  not(Q)  and(Q, Q)  or(Q, Q)\n"
+                                "  some(NAME, Q)  every(NAME, Q)\n"
+                                "A term: a value; v0 for the first cell of the row asked about, v1 for the\n"
+                                "  second; a NAME after some or every.\n"
+                                "What follows a # is not read. A line that is refused changes nothing.\n";
 
 void desk_start(struct desk *desk, FILE *out)
 {
@@ -53,47 +56,69 @@ static bool start_anew(struct desk *desk, struct line *line)
     return true;
 }
 
+static void say_usage(FILE *out, size_t i)
+{
+    fprintf(out, "  %-24s %s\n", commands[i].usage, commands[i].does);
+}
+
+/* The place of a command, or COMMANDS if the word is none. */
+static size_t find_command(struct word word)
+{
+    size_t i = 0;
+
+    while (i < COMMANDS && !word_is(word, commands[i].name))
+        i++;
+    return i;
+}
+
 static bool help(struct desk *desk, struct line *line)
 {
-    struct word word;
     uint64_t number;
 
     if (at_end(line)) {
         for (size_t i = 0; i < COMMANDS; i++)
-            fprintf(desk->out, "  %-24s %s\n", commands[i].usage, commands[i].does);
+            say_usage(desk->out, i);
         fputs(more_help, desk->out);
         return true;
     }
-    word = take_word(line);
-    if (!word_number(word, 0, UINT16_MAX, &number) || !meaning((uint32_t)number))
-        return expected(line, word.at, "the number of a refusal");
+    struct word word = take_word(line);
+    size_t i = find_command(word);
+    const char *text = word_number(word, 0, UINT16_MAX, &number) ? meaning((uint32_t)number) : NULL;
+    if (i == COMMANDS && !text)
+        return expected(line, word.at, "a command or the number of a refusal");
     if (!take_end(line))
         return false;
-    fprintf(desk->out, "%u: %s\n", (unsigned)number, meaning((uint32_t)number));
+    if (text)
+        fprintf(desk->out, "%u: %s\n", (unsigned)number, text);
+    else
+        say_usage(desk->out, i);
     return true;
 }
 
-bool find_command(struct word word)
+bool is_command(struct word word)
 {
-    for (size_t i = 0; i < COMMANDS; i++)
-        if (word_is(word, commands[i].name))
-            return true;
-    return false;
+    return find_command(word) < COMMANDS;
 }
 
-/* Copies a line as far as a comment, without a carriage return at its end; false if it has a control byte. */
+/* Copies a line as far as a comment; false if it has a control byte before that. */
 static bool copy_line(const char *bytes, size_t length, char text[LINE_ROOM], struct line *line)
 {
-    if (length > 0 && bytes[length - 1] == '\r')
-        length--;
-    for (size_t i = 0; i < length; i++) {
-        if (bytes[i] == '#' && (i == 0 || strchr(" \t", bytes[i - 1])))
-            length = i;
-        else if (is_control(bytes[i]))
+    size_t i = 0;
+
+    for (; i < length && bytes[i] != '#'; i++)
+        if (is_control(bytes[i]))
             return refuse(line, i, 0, "a control byte, 0x%02X", (unsigned)(unsigned char)bytes[i]);
-    }
-    memcpy(text, bytes, length);
-    text[length] = '\0';
+    memcpy(text, bytes, i);
+    text[i] = '\0';
+    return true;
+}
+
+/* Names are in letters from a to z. A file's name may have any others. */
+static bool test_letters(struct line *line)
+{
+    for (size_t i = line->at; line->text[i]; i++)
+        if ((unsigned char)line->text[i] >= 0x80)
+            return expected(line, i, "letters from a to z, digits and signs");
     return true;
 }
 
@@ -108,15 +133,17 @@ static bool run_line(struct desk *desk, struct line *line, bool *quit)
         return help(desk, line);
     }
     struct word word = take_word(line);
-    for (size_t i = 0; i < COMMANDS; i++)
-        if (word_is(word, commands[i].name)) {
-            if (commands[i].run)
-                return commands[i].run(desk, line);
-            *quit = take_end(line);
-            return *quit;
-        }
+    if (!word_is(word, "load") && !word_is(word, "save") && !test_letters(line))
+        return false;
+    size_t i = find_command(word);
+    if (i < COMMANDS && commands[i].run)
+        return commands[i].run(desk, line);
+    if (i < COMMANDS)
+        return *quit = take_end(line);
     if (find_sheet(&desk->plot, word) == NO_SHEET)
-        return expected(line, word.at, "a command or a sheet's name (help lists the commands)");
+        return find_question(desk, word)
+                   ? expected(line, word.at, "\"ask\" before the name of a question")
+                   : expected(line, word.at, "a command or a sheet's name (help lists the commands)");
     line->at = word.at;
     return enter(desk, line);
 }
@@ -135,6 +162,8 @@ enum line_end desk_line(struct desk *desk, const char *bytes, size_t length)
     struct line line = line_of(text);
     bool quit = false;
 
+    if (length > 0 && length <= LINE_ROOM && bytes[length - 1] == '\r')
+        length--;
     if (length >= LINE_ROOM) {
         refuse(&line, LINE_ROOM - 1, 0, "a line has at most %d bytes", LINE_ROOM - 1);
     } else if (copy_line(bytes, length, text, &line) && run_line(desk, &line, &quit)) {

@@ -80,20 +80,23 @@ void desk_start(struct desk *desk, FILE *out);
 
 enum line_end { LINE_DONE, LINE_REFUSED, LINE_QUIT };
 
-/* Does what a line says, and answers. A line that is refused changes nothing. The line may hold any bytes. */
+/*
+ * Does what a line says, and answers. A line that is refused changes nothing. The line may hold any bytes; a carriage
+ * return at its end is not read. If it is longer than LINE_ROOM, none of it is.
+ */
 enum line_end desk_line(struct desk *desk, const char *bytes, size_t length);
 
 /* A command reads the rest of its line. False if it was refused, with the line's fault. */
 typedef bool command(struct desk *desk, struct line *line);
 
-command make_sheet;                    /* sheets.c */
-command enter;                         /* rows.c */
-command fill, take_back;               /* fill.c */
-command show, census;                  /* show.c */
-command name_question, ask, questions; /* questions.c */
-command load, save;                    /* card.c */
+command make_sheet;                            /* sheets.c */
+command enter;                                 /* rows.c */
+command fill, take_back;                       /* fill.c */
+command show, census;                          /* show.c */
+command name_question, ask, questions, forget; /* ask.c */
+command load, save;                            /* card.c */
 
 /* Whether a word is the first of a command. */
-bool find_command(struct word word);
+bool is_command(struct word word);
 
 #endif

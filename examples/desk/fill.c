@@ -1,18 +1,18 @@
 #include "asked.h"
 #include "cells.h"
+#include "counted.h"
 #include "refusal.h"
-#include "sheets.h"
 
 static bool refuse_fill(struct line *line, uint32_t refusal, size_t mark_at, size_t cell_at)
 {
     switch (refusal) {
     case PLOTASK_NO_SUCH_NULL:
     case PLOTASK_NULL_ABSENT:
-        return refused(line, mark_at, refusal);
+        return refuse_number(line, mark_at, refusal);
     case PLOTASK_NOT_A_CELL:
-        return refused(line, cell_at, refusal);
+        return refuse_number(line, cell_at, refusal);
     default:
-        return refused(line, line->start, refusal);
+        return refuse_number(line, line->start, refusal);
     }
 }
 
@@ -55,7 +55,7 @@ bool take_back(struct desk *desk, struct line *line)
     uint32_t refusal = plotask_undo(PLOTASK_HEADER(&plot->header), plot->words, PLOTASK_WORDS, plot->log, LOG_WORDS,
                                     &plot->log_used, &count);
     if (refusal != PLOTASK_DONE)
-        return refused(line, line->start, refusal);
+        return refuse_number(line, line->start, refusal);
     plot->fill_count--;
     fprintf(desk->out, "m%u stands again, in %u %s%s\n", (unsigned)plot->fills[plot->fill_count].mark,
             COUNTED(count, "cell"));

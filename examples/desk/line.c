@@ -96,7 +96,7 @@ bool take_name(struct line *line, const char *what, char name[NAME_ROOM])
     if (word.length == 0 || !is_letter(word.start[0]))
         return expected(line, word.at, "%s: a letter, then letters, digits and _", what);
     if (word_numbered(word, 'm', 0, &number) || word_numbered(word, 'v', 0, &number))
-        return expected(line, word.at, "%s, and no mark or variable", what);
+        return expected(line, word.at, "%s that is no mark or variable", what);
     if (word.length > NAME_BYTES)
         return expected(line, word.at, "%s of at most %d letters, digits and _", what, (int)NAME_BYTES);
     memcpy(name, word.start, word.length);

@@ -7,7 +7,7 @@
 #include <stdint.h>
 
 enum {
-    LINE_ROOM = 4096, /* a line and its ending 0: every question of 100 nodes fits if it is written without blanks */
+    LINE_ROOM = 4096, /* a line and its ending 0: room for 100 nodes, with v0 to v15 and without blanks */
     NAME_BYTES = 16,  /* of a name, at most */
     NAME_ROOM = NAME_BYTES + 1,
     FAULT_BYTES = 256
@@ -27,7 +27,7 @@ struct line {
     struct fault fault;
 };
 
-/* Letters, digits and _ in a row; none if the length is 0. */
+/* A run of letters, digits and _; there is none if its length is 0. */
 struct word {
     const char *start;
     size_t length;

@@ -1,4 +1,4 @@
-/* The desk at a terminal, or over a script: desk [-i] [SCRIPT]. */
+/* The desk at a terminal, or over a script: desk [[-i] SCRIPT]. */
 #include "desk.h"
 
 #include <string.h>
@@ -6,8 +6,8 @@
 static struct desk desk;
 
 /*
- * Reads a line without its line feed. Of a longer one than the desk takes, the bytes that have room are kept and all
- * are counted. False at the end of the input.
+ * Reads a line without its line feed. Of a line that is longer than the desk takes, the bytes that have room are kept
+ * and all are counted. False at the end of the input.
  */
 static bool read_line(FILE *in, char bytes[LINE_ROOM], size_t *length)
 {
@@ -25,14 +25,16 @@ static bool read_line(FILE *in, char bytes[LINE_ROOM], size_t *length)
 /* Shows a line of a script as if it were typed: a control byte as '?', and of a line that is too long the start. */
 static void show_line(const char *bytes, size_t length)
 {
-    size_t shown = length < LINE_ROOM ? length : 72;
+    enum { START = 72 };
+    bool cut = length > LINE_ROOM;
 
-    if (shown > 0 && bytes[shown - 1] == '\r')
-        shown--;
+    if (!cut && length > 0 && bytes[length - 1] == '\r')
+        length--;
+    cut = length >= LINE_ROOM;
     fputs("> ", stdout);
-    for (size_t i = 0; i < shown; i++)
+    for (size_t i = 0; i < (cut ? START : length); i++)
         putchar(is_control(bytes[i]) ? '?' : bytes[i]);
-    puts(shown == length ? "" : "..");
+    puts(cut ? ".." : "");
 }
 
 /* Runs the lines of a script, or those that are typed, up to the end of the input; false if a line ended the desk. */
@@ -55,32 +57,53 @@ static bool run(FILE *in, bool script)
     }
 }
 
-static int fail(const char *text, const char *what)
+/* Some editors start a file with a byte order mark. */
+static void skip_byte_order_mark(FILE *in)
 {
-    fprintf(stderr, "desk: %s%s\n", text, what);
-    return 2;
+    int c = getc(in);
+
+    if (c == 0xEF) {
+        getc(in);
+        getc(in);
+    } else if (c != EOF) {
+        ungetc(c, in);
+    }
+}
+
+/* Runs a script; *ended if a line of it ended the desk. */
+static bool run_script(const char *name, bool *ended)
+{
+    FILE *in = strcmp(name, "-") == 0 ? stdin : fopen(name, "r");
+
+    if (!in)
+        return false;
+    skip_byte_order_mark(in);
+    *ended = !run(in, true);
+    bool read = !ferror(in);
+    if (in != stdin)
+        fclose(in);
+    return read;
 }
 
 int main(int count, char **arguments)
 {
-    bool terminal = count > 1 && strcmp(arguments[1], "-i") == 0;
+    bool terminal = count > 1 && strcmp(arguments[1], "-i") == 0, ended = false;
     const char *script = count > 1 + terminal ? arguments[1 + terminal] : NULL;
 
-    if (count > 2 + terminal || (terminal && !script) || (script && script[0] == '-' && script[1] != '\0'))
-        return fail("usage: desk [[-i] SCRIPT]; a SCRIPT - is standard input, and -i goes on at the terminal", "");
-    desk_start(&desk, stdout);
-    if (script) {
-        FILE *in = strcmp(script, "-") == 0 ? stdin : fopen(script, "r");
-        if (!in)
-            return fail("cannot read ", script);
-        bool ended = !run(in, true);
-        if (ferror(in))
-            return fail("cannot read ", script);
-        if (ended || !terminal)
-            return 0;
+    if (count > 2 + terminal || (terminal && !script) || (script && script[0] == '-' && (terminal || script[1]))) {
+        fputs("usage: desk [[-i] SCRIPT]; a SCRIPT - is standard input, and -i goes on at the terminal after a file\n",
+              stderr);
+        return 2;
     }
-    puts("help, or ?, lists the commands; quit ends");
-    if (run(stdin, false))
-        putchar('\n');
-    return 0;
+    desk_start(&desk, stdout);
+    if (script && !run_script(script, &ended)) {
+        fprintf(stderr, "desk: cannot read %s\n", script);
+        return 2;
+    }
+    if (!ended && (!script || terminal)) {
+        puts("help, or ?, lists the commands; quit ends");
+        if (run(stdin, false))
+            putchar('\n');
+    }
+    return fflush(stdout) != 0 || ferror(stdout);
 }

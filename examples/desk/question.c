@@ -1,4 +1,5 @@
 #include "question.h"
+#include "counted.h"
 #include "sheets.h"
 
 #include <string.h>
@@ -111,8 +112,8 @@ static bool take_stands(struct reading *r, size_t node)
         if (!take_sign(r->line, ',') || !take_term(r, node + 2 + terms))
             return false;
     if (exists && terms < columns)
-        return expected(r->line, r->line->at, "\",\" and a term for each of the %u %s%s of %s",
-                        COUNTED(columns, "column"), r->plot->sheets[sheet].name);
+        return expected(r->line, r->line->at, "\",\" and a term, since %s has %u %s%s", r->plot->sheets[sheet].name,
+                        COUNTED(columns, "column"));
     if (exists && next_is(r->line, ','))
         return expected(r->line, r->line->at, "\")\", since %s has %u %s%s", r->plot->sheets[sheet].name,
                         COUNTED(columns, "column"));
@@ -132,7 +133,7 @@ static bool take_variable(struct reading *r, size_t to)
         put(r, to, (uint32_t)number, word.at);
         return true;
     }
-    if (!take_name(r->line, "a variable or a name for it", name))
+    if (!take_name(r->line, "a variable, v0 to v15, or a name", name))
         return false;
     put(r, to, variable_for(r, word), word.at);
     r->bindings[r->bound++] = (struct binding){word, r->tree->words[to]};
@@ -199,10 +200,7 @@ bool take_question(struct line *line, const struct plot *plot, struct tree *tree
     return take_node(&r) || tree->nodes > PLOTASK_NODES;
 }
 
-bool next_is_question(const struct line *line)
+bool is_kind(struct word word)
 {
-    struct line ahead = *line;
-
-    take_word(&ahead);
-    return next_is(&ahead, '(');
+    return kind_of(word) != 0;
 }

@@ -11,12 +11,15 @@ struct tree {
     size_t nodes;
 };
 
+/* The question with this name, or null. */
+struct question *find_question(struct desk *desk, struct word name);
+
 /*
  * Takes a question. If it has over 100 nodes, it is read up to the first that is too many, and the tree has 101. A name
  * after some or every gets the number of a variable that the question does not write itself; if there is none, 16.
  */
 bool take_question(struct line *line, const struct plot *plot, struct tree *tree);
-/* Whether a question is next, and not a name. */
-bool next_is_question(const struct line *line);
+/* Whether a word is one that a question starts with: in, equal, not, and, or, some or every. */
+bool is_kind(struct word word);
 
 #endif

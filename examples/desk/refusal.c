@@ -13,7 +13,7 @@ const char *meaning(uint32_t refusal)
     case PLOTASK_BAD_ARITY:
         return "a sheet has 1 to 6 columns";
     case PLOTASK_NO_SUCH_RELATION:
-        return "a row is of a sheet that the plot lacks";
+        return "a row names a sheet that the plot lacks";
     case PLOTASK_BIT_BEYOND_ARITY:
         return "a bit of the card stands for a column that the sheet lacks";
     case PLOTASK_NOT_A_CELL:
@@ -29,8 +29,7 @@ const char *meaning(uint32_t refusal)
     case PLOTASK_BAD_CHILD:
         return "a node of the question is out of place";
     case PLOTASK_UNBOUND_VARIABLE:
-        return "a variable above v15, or one without a value: the row asked has no cell for it, and no some or every "
-               "names it";
+        return "a variable above v15, or one without a value";
     case PLOTASK_NO_SUCH_QUERY_RELATION:
         return "the question names a sheet that the plot lacks";
     case PLOTASK_BAD_CANDIDATE:
@@ -54,7 +53,7 @@ const char *meaning(uint32_t refusal)
     case PLOTASK_LOG_TOO_SHORT:
         return "the log has no room to note this fill; save and load start a fresh one";
     case PLOTASK_LOG_EMPTY:
-        return "there is no fill to take back";
+        return "there is no fill to take back; rows are not taken back";
     case PLOTASK_BAD_LOG:
         return "the log's last note does not fit the plot";
     default:
@@ -62,7 +61,7 @@ const char *meaning(uint32_t refusal)
     }
 }
 
-bool refused(struct line *line, size_t at, uint32_t refusal)
+bool refuse_number(struct line *line, size_t at, uint32_t refusal)
 {
     const char *text = meaning(refusal);
 

@@ -1,5 +1,6 @@
 #include "asked.h"
 #include "cells.h"
+#include "counted.h"
 #include "refusal.h"
 #include "sheets.h"
 
@@ -11,16 +12,17 @@ static uint32_t higher_mark(uint32_t mark, const uint32_t *cells, size_t count)
     return mark;
 }
 
-/*
- * The highest mark of the row and the plot; of the fills too, since a mark that is filled stands again once it is taken
- * back; and of the rows asked about.
- */
+static uint32_t highest_in_rows(const struct plot *plot, const struct cells *row)
+{
+    return higher_mark(higher_mark(0, row->cells, row->count), plot->words, plot->header.used);
+}
+
+/* Also the marks of fills, since a mark stands again once its fill is taken back, and of the rows asked about. */
 static uint32_t highest_mark(const struct desk *desk, const struct cells *row)
 {
     const struct plot *plot = &desk->plot;
-    uint32_t mark = higher_mark(0, row->cells, row->count);
+    uint32_t mark = highest_in_rows(plot, row);
 
-    mark = higher_mark(mark, plot->words, plot->header.used);
     for (size_t i = 0; i < plot->fill_count; i++)
         if (plot->fills[i].mark > mark)
             mark = plot->fills[i].mark;
@@ -29,7 +31,7 @@ static uint32_t highest_mark(const struct desk *desk, const struct cells *row)
     return mark;
 }
 
-/* Gives each blank a mark of its own, above all others. After m200 it is no cell, which plotask refuses. */
+/* Gives each blank a mark of its own, above all others. Above m200 there is no cell, so that plotask refuses it. */
 static void mark_blanks(const struct desk *desk, struct cells *row)
 {
     uint32_t mark = highest_mark(desk, row);
@@ -39,29 +41,34 @@ static void mark_blanks(const struct desk *desk, struct cells *row)
             row->cells[i] = PLOTASK_MARK(++mark);
 }
 
-/* The fault of a row with what is no cell: what was typed comes before a blank for which there is no mark. */
-static bool refuse_cell(const struct plot *plot, struct line *line, struct cells *row)
+/* What is refused with 16 was typed, or, if all that was typed is a cell, it is a blank without a mark: that is 17. */
+static bool refuse_cell(const struct desk *desk, struct line *line, const struct cells *row)
 {
-    size_t no_mark = cell_at_fault(plot, row->cells, row->count);
+    const struct plot *plot = &desk->plot;
+    struct cells typed = *row;
 
     for (size_t i = 0; i < row->count; i++)
         if (row->blank[i])
-            row->cells[i] = 0;
-    size_t typed = cell_at_fault(plot, row->cells, row->count);
-    return typed < row->count ? refused(line, row->at[typed], PLOTASK_NOT_A_CELL)
-                              : refused(line, row->at[no_mark], PLOTASK_NULLS_EXHAUSTED);
+            typed.cells[i] = 0;
+    size_t at = cell_at_fault(plot, typed.cells, row->count);
+    if (at < row->count)
+        return refuse_number(line, row->at[at], PLOTASK_NOT_A_CELL);
+    bool elsewhere = highest_in_rows(plot, &typed) < highest_mark(desk, &typed);
+    return refuse(line, row->at[cell_at_fault(plot, row->cells, row->count)], PLOTASK_NULLS_EXHAUSTED, "%s%s",
+                  meaning(PLOTASK_NULLS_EXHAUSTED),
+                  elsewhere ? "; the highest is in a fill or in a row asked about" : "");
 }
 
-static bool refuse_row(const struct plot *plot, struct line *line, uint32_t refusal, uint32_t sheet, size_t sheet_at,
-                       struct cells *row)
+static bool refuse_row(const struct desk *desk, struct line *line, uint32_t refusal, uint32_t sheet, size_t sheet_at,
+                       const struct cells *row)
 {
     if (refusal == PLOTASK_NOT_A_CELL)
-        return refuse_cell(plot, line, row);
+        return refuse_cell(desk, line, row);
     if (refusal != PLOTASK_WRONG_ROW_LENGTH)
-        return refused(line, sheet_at, refusal);
-    uint32_t columns = plot->header.arities[sheet];
+        return refuse_number(line, sheet_at, refusal);
+    uint32_t columns = desk->plot.header.arities[sheet];
     return refuse(line, row->count > columns ? row->at[columns] : line->at, refusal, "%s: %s has %u %s%s",
-                  meaning(refusal), plot->sheets[sheet].name, COUNTED(columns, "column"));
+                  meaning(refusal), desk->plot.sheets[sheet].name, COUNTED(columns, "column"));
 }
 
 static void say_blanks(FILE *out, const struct cells *row)
@@ -94,8 +101,9 @@ bool enter(struct desk *desk, struct line *line)
     uint32_t refusal =
         plotask_insert(PLOTASK_HEADER(&plot->header), plot->words, PLOTASK_WORDS, sheet, row.cells, row.count);
     if (refusal != PLOTASK_DONE)
-        return refuse_row(plot, line, refusal, sheet, sheet_at, &row);
-    fprintf(desk->out, "%s has %u %s%s", plot->sheets[sheet].name, COUNTED(count_rows(plot, sheet), "row"));
+        return refuse_row(desk, line, refusal, sheet, sheet_at, &row);
+    unsigned rows = count_rows(plot, sheet);
+    fprintf(desk->out, "%s has %u %s%s", plot->sheets[sheet].name, COUNTED(rows, "row"));
     say_blanks(desk->out, &row);
     fputc('\n', desk->out);
     say_changes(desk);

@@ -1,4 +1,5 @@
 #include "sheets.h"
+#include "counted.h"
 #include "refusal.h"
 
 #include <string.h>
@@ -70,28 +71,26 @@ static bool take_new_name(struct line *line, const struct plot *plot, char name[
     struct line ahead = *line;
     struct word word = take_word(&ahead);
 
-    if (find_command(word))
+    if (is_command(word))
         return expected(line, word.at, "a name that is no command");
     if (find_sheet(plot, word) != NO_SHEET)
         return expected(line, word.at, "a name that no sheet has");
-    return take_name(line, "the sheet's name", name);
+    return take_name(line, "a name for the sheet", name);
 }
 
-/* Takes the names of columns up to the line's end. If there are too many, *at is where the first of these stands. */
-static bool take_columns(struct line *line, struct sheet *sheet, size_t *columns, size_t *at)
+/* Takes the names of columns up to the line's end, or to the seventh, which is counted but too many. */
+static bool take_columns(struct line *line, struct sheet *sheet, size_t *columns)
 {
-    char name[NAME_ROOM];
-
-    for (*columns = 0; !at_end(line); *columns += *columns <= PLOTASK_COLUMNS) {
-        if (*columns <= PLOTASK_COLUMNS)
-            *at = line->at;
-        if (!take_name(line, "a column's name", name))
+    for (*columns = 0; !at_end(line) && *columns < PLOTASK_COLUMNS; ++*columns) {
+        char *name = sheet->columns[*columns];
+        size_t at = line->at;
+        if (!take_name(line, "a name for a column", name))
             return false;
-        if (*columns < PLOTASK_COLUMNS)
-            memcpy(sheet->columns[*columns], name, sizeof name);
+        for (size_t j = 0; j < *columns; j++)
+            if (strcmp(sheet->columns[j], name) == 0)
+                return expected(line, at, "a name that no column before it has");
     }
-    if (*columns == 0)
-        *at = line->at;
+    *columns += !at_end(line);
     return true;
 }
 
@@ -99,21 +98,20 @@ static bool take_columns(struct line *line, struct sheet *sheet, size_t *columns
 bool make_sheet(struct desk *desk, struct line *line)
 {
     struct plotask_header *header = &desk->plot.header;
-    struct sheet *sheet = &desk->plot.sheets[header->relations % PLOTASK_RELATIONS];
-    struct sheet made = {.name = ""};
-    size_t columns, columns_at, name_at = next_at(line);
+    struct sheet sheet = {.name = ""};
+    size_t columns, name_at = next_at(line);
 
-    if (!take_new_name(line, &desk->plot, made.name) || !take_columns(line, &made, &columns, &columns_at))
+    if (!take_new_name(line, &desk->plot, sheet.name) || !take_columns(line, &sheet, &columns))
         return false;
     uint32_t refusal = test_sheet(header, columns);
     if (refusal != PLOTASK_DONE)
-        return refused(line, refusal == PLOTASK_BAD_ARITY ? columns_at : name_at, refusal);
-    *sheet = made;
-    header->arities[header->relations++] = (uint32_t)columns;
-    fprintf(desk->out, "sheet %u is %s, with %u %s%s:", (unsigned)header->relations - 1, sheet->name,
+        return refuse_number(line, refusal == PLOTASK_BAD_ARITY ? line->at : name_at, refusal);
+    fprintf(desk->out, "sheet %u is %s, with %u %s%s:", (unsigned)header->relations, sheet.name,
             COUNTED(columns, "column"));
     for (size_t j = 0; j < columns; j++)
-        fprintf(desk->out, "%s %s", j > 0 ? "," : "", sheet->columns[j]);
+        fprintf(desk->out, "%s %s", j > 0 ? "," : "", sheet.columns[j]);
     fputc('\n', desk->out);
+    desk->plot.sheets[header->relations] = sheet;
+    header->arities[header->relations++] = (uint32_t)columns;
     return true;
 }

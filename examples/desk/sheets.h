@@ -18,7 +18,4 @@ void name_by_number(struct plot *plot);
 size_t next_row(const struct plot *plot, uint32_t sheet, size_t at);
 unsigned count_rows(const struct plot *plot, uint32_t sheet);
 
-/* A number and what it counts, which is written with an s unless it is one of them: "2 rows". */
-#define COUNTED(number, what) (unsigned)(number), what, (number) == 1 ? "" : "s"
-
 #endif

@@ -1,4 +1,5 @@
 #include "cells.h"
+#include "counted.h"
 #include "refusal.h"
 #include "sheets.h"
 
@@ -19,7 +20,8 @@ static void show_sheet(FILE *out, const struct plot *plot, uint32_t sheet)
             width[j] = length > width[j] ? length : width[j];
         }
     }
-    fprintf(out, "%s, %u %s%s\n", names->name, COUNTED(count_rows(plot, sheet), "row"));
+    unsigned rows = count_rows(plot, sheet);
+    fprintf(out, "%s, %u %s%s\n", names->name, COUNTED(rows, "row"));
     for (uint32_t j = 0; j < columns; j++)
         fprintf(out, "  %*s", width[j], names->columns[j]);
     fputc('\n', out);
@@ -63,7 +65,7 @@ bool census(struct desk *desk, struct line *line)
     uint32_t refusal = plotask_null_counts(PLOTASK_HEADER(&desk->plot.header), desk->plot.words, PLOTASK_WORDS, counts,
                                            PLOTASK_MARKS, &count);
     if (refusal != PLOTASK_DONE)
-        return refused(line, line->start, refusal);
+        return refuse_number(line, line->start, refusal);
     for (uint32_t i = 0; i < PLOTASK_MARKS; i++)
         if (counts[i] > 0) {
             fprintf(desk->out, "m%u stands in %u %s%s\n", (unsigned)i + 1, COUNTED(counts[i], "cell"));

@@ -1,86 +1,142 @@
 #include "question.h"
 
-#include <ctype.h>
-#include <stdlib.h>
 #include <string.h>
+
+/* What a value above 999999, or a mark, is read as where a term should stand. */
+static const uint32_t no_term = UINT32_MAX;
+
+/* A name after `some` or `every`, and the variable that stands for it. */
+struct bound {
+    char name[NAME_BYTES];
+    uint32_t variable;
+};
 
 /* The text still to be read, and the nodes made so far, numbered as they are met: a child after its parent. */
 struct reading {
     const char *at;
+    const struct sheets *sheets;
     uint32_t *words;
     size_t nodes;
-    int failed;
+    bool written[PLOTASK_VARIABLES]; /* the variables that the text writes as vN */
+    struct bound bound[PLOTASK_VARIABLES];
+    size_t bound_count; /* the names of the quantifiers around the text to be read, from the outermost on */
+    bool failed;
 };
 
-static void skip_blanks(struct reading *r)
+static void find_written(struct reading *r)
 {
-    while (isspace((unsigned char)*r->at))
-        r->at++;
-}
+    const char *at = r->at;
+    char name[NAME_BYTES];
+    uint32_t variable;
 
-static int next_is(struct reading *r, char sign)
-{
-    skip_blanks(r);
-    return *r->at == sign;
+    while (*at != '\0') {
+        if (!scan_name(&at, name))
+            at++;
+        else if (number_in_name(name, 'v', &variable) && variable < PLOTASK_VARIABLES)
+            r->written[variable] = true;
+    }
 }
 
 static void expect(struct reading *r, char sign)
 {
-    if (!next_is(r, sign)) {
-        r->failed = 1;
-        return;
-    }
-    r->at++;
+    if (!scan_sign(&r->at, sign))
+        r->failed = true;
 }
 
-static uint32_t number(struct reading *r)
+static uint32_t bound_variable(struct reading *r, const char *name)
 {
-    char *end;
-
-    skip_blanks(r);
-    if (!isdigit((unsigned char)*r->at)) {
-        r->failed = 1;
-        return 0;
-    }
-    uint32_t n = (uint32_t)strtoul(r->at, &end, 10);
-    r->at = end;
-    return n;
-}
-
-/* The number of a variable, `v3`. */
-static uint32_t variable(struct reading *r)
-{
-    expect(r, 'v');
-    return number(r);
+    for (size_t i = r->bound_count; i > 0; i--)
+        if (strcmp(r->bound[i - 1].name, name) == 0)
+            return r->bound[i - 1].variable;
+    r->failed = true;
+    return 0;
 }
 
 static uint32_t term(struct reading *r)
 {
-    return next_is(r, 'v') ? PLOTASK_VARIABLE(variable(r)) : number(r);
+    char name[NAME_BYTES];
+    uint32_t number;
+
+    if (scan_number(&r->at, &number))
+        return number < PLOTASK_CONSTANTS ? number : no_term;
+    if (!scan_name(&r->at, name)) {
+        r->failed = true;
+        return 0;
+    }
+    if (number_in_name(name, 'v', &number))
+        return number < PLOTASK_VARIABLES ? PLOTASK_VARIABLE(number) : no_term;
+    if (number_in_name(name, 'm', &number))
+        return no_term;
+    return PLOTASK_VARIABLE(bound_variable(r, name));
 }
 
-static uint32_t kind_of(const char *name, size_t length)
+static bool is_free(const struct reading *r, uint32_t variable)
 {
-    static const char *const names[] = {"in", "equal", "not", "and", "or", "some", "every"};
+    for (size_t i = 0; i < r->bound_count; i++)
+        if (r->bound[i].variable == variable)
+            return false;
+    return !r->written[variable];
+}
 
-    for (uint32_t i = 0; i < 7; i++)
-        if (strlen(names[i]) == length && memcmp(names[i], name, length) == 0)
-            return i + PLOTASK_STANDS;
+/* Binds a name to a variable that the text does not write and no quantifier around it binds. */
+static uint32_t bind_name(struct reading *r, const char *name)
+{
+    for (uint32_t variable = 0; variable < PLOTASK_VARIABLES; variable++) {
+        if (is_free(r, variable)) {
+            struct bound *bound = &r->bound[r->bound_count++];
+            strcpy(bound->name, name);
+            bound->variable = variable;
+            return variable;
+        }
+    }
+    r->failed = true;
     return 0;
 }
 
 static uint32_t node(struct reading *r);
 
-/* `in(sheet, term, ..)`, with at most as many terms as a node has room for. */
+/* `some(x, ..)` or `every(v1, ..)`: a name is bound up to the closing sign. */
+static void read_quantifier(struct reading *r, uint32_t *words)
+{
+    size_t outside = r->bound_count;
+    char name[NAME_BYTES];
+    uint32_t mark;
+
+    if (!scan_name(&r->at, name) || number_in_name(name, 'm', &mark)) {
+        r->failed = true;
+        return;
+    }
+    if (!number_in_name(name, 'v', &words[1]))
+        words[1] = bind_name(r, name);
+    expect(r, ',');
+    words[2] = node(r);
+    r->bound_count = outside;
+}
+
+static uint32_t sheet(struct reading *r)
+{
+    char name[NAME_BYTES];
+    uint32_t number;
+
+    if (scan_number(&r->at, &number))
+        return number;
+    if (!scan_name(&r->at, name) || sheet_by_name(r->sheets, name) == r->sheets->count) {
+        r->failed = true;
+        return 0;
+    }
+    return sheet_by_name(r->sheets, name);
+}
+
+/* `in(sheet, term, ..)`, with a term for each column of the sheet, if there is such a sheet. */
 static void read_atom(struct reading *r, uint32_t *words)
 {
-    size_t j = 1;
+    size_t j = 2;
 
-    words[j++] = number(r);
-    while (!r->failed && next_is(r, ',') && j < PLOTASK_NODE_WORDS) {
-        expect(r, ',');
+    words[1] = sheet(r);
+    while (!r->failed && j < PLOTASK_NODE_WORDS && scan_sign(&r->at, ','))
         words[j++] = term(r);
-    }
+    if (words[1] < r->sheets->count && j - 2 != r->sheets->columns[words[1]])
+        r->failed = true;
 }
 
 static void read_rest(struct reading *r, uint32_t *words)
@@ -99,44 +155,57 @@ static void read_rest(struct reading *r, uint32_t *words)
         break;
     case PLOTASK_AND:
     case PLOTASK_OR:
-    case PLOTASK_SOME:
-    case PLOTASK_EVERY:
-        words[1] = words[0] == PLOTASK_AND || words[0] == PLOTASK_OR ? node(r) : variable(r);
+        words[1] = node(r);
         expect(r, ',');
         words[2] = node(r);
         break;
+    case PLOTASK_SOME:
+    case PLOTASK_EVERY:
+        read_quantifier(r, words);
+        break;
     default:
-        r->failed = 1;
+        r->failed = true;
     }
+}
+
+static uint32_t kind_of(const char *name)
+{
+    static const char *const names[] = {"in", "equal", "not", "and", "or", "some", "every"};
+
+    for (uint32_t i = 0; i < 7; i++)
+        if (strcmp(names[i], name) == 0)
+            return i + PLOTASK_STANDS;
+    return 0;
 }
 
 /* Reads one node with all that is below it, and returns its number. */
 static uint32_t node(struct reading *r)
 {
-    if (r->failed || r->nodes == PLOTASK_NODES) {
-        r->failed = 1;
+    char name[NAME_BYTES];
+
+    if (r->failed || r->nodes == PLOTASK_NODES || !scan_name(&r->at, name)) {
+        r->failed = true;
         return 0;
     }
     uint32_t number = (uint32_t)r->nodes++;
     uint32_t *words = r->words + number * PLOTASK_NODE_WORDS;
 
-    skip_blanks(r);
-    const char *name = r->at;
-    while (isalpha((unsigned char)*r->at))
-        r->at++;
     memset(words, 0, PLOTASK_NODE_WORDS * sizeof *words);
-    words[0] = kind_of(name, (size_t)(r->at - name));
+    words[0] = kind_of(name);
     expect(r, '(');
     read_rest(r, words);
     expect(r, ')');
     return number;
 }
 
-size_t question_words(const char *text, uint32_t words[PLOTASK_QUERY_WORDS])
+size_t scan_question(const char **at, const struct sheets *sheets, uint32_t words[PLOTASK_QUERY_WORDS])
 {
-    struct reading r = {text, words, 0, 0};
+    struct reading r = {.at = *at, .sheets = sheets, .words = words};
 
+    find_written(&r);
     node(&r);
-    skip_blanks(&r);
-    return r.failed || *r.at != '\0' ? 0 : r.nodes * PLOTASK_NODE_WORDS;
+    if (r.failed)
+        return 0;
+    *at = r.at;
+    return r.nodes * PLOTASK_NODE_WORDS;
 }

@@ -1,10 +1,17 @@
-/* A question as a reader writes it, such as `and(in(0, v0), not(in(1, v0)))`, as plotask's nodes. */
+/* A question in words, such as `some(x, and(in(store, x), not(equal(x, v0))))`, as plotask's nodes. */
 #ifndef QUESTION_H
 #define QUESTION_H
 
 #include "plotask.h"
+#include "sheets.h"
 
-/* Writes the question's words, and returns their number; 0 if the text is no question or has more than 100 nodes. */
-size_t question_words(const char *text, uint32_t words[PLOTASK_QUERY_WORDS]);
+#include <stddef.h>
+
+/*
+ * Reads the question that the text starts with, passes over it and writes its words. Returns their number; 0 if there
+ * is no question, if it names a sheet or a value in turn that there is not, or if it has more than 100 nodes. What
+ * plotask refuses by a number is read: a sheet's number that is too high, and numbers that are no term.
+ */
+size_t scan_question(const char **at, const struct sheets *sheets, uint32_t words[PLOTASK_QUERY_WORDS]);
 
 #endif

@@ -1,5 +1,6 @@
 #include "asked.h"
 #include "cells.h"
+#include "counted.h"
 #include "question.h"
 #include "refusal.h"
 
@@ -12,7 +13,7 @@ struct typed {
     const struct question *named; /* null if it is in words */
 };
 
-static struct question *find_question(struct desk *desk, struct word name)
+struct question *find_question(struct desk *desk, struct word name)
 {
     for (size_t i = 0; i < desk->question_count; i++)
         if (word_is(name, desk->questions[i].name))
@@ -20,7 +21,7 @@ static struct question *find_question(struct desk *desk, struct word name)
     return NULL;
 }
 
-/* Gives each word of a question from one on, by its kind, a number that cannot be at fault. Children stay. */
+/* Gives the words of a question from a place on numbers that cannot be at fault. Kinds and children stay. */
 static void make_harmless(uint32_t *words, size_t from, size_t count)
 {
     for (size_t i = from; i < count; i++) {
@@ -53,15 +54,28 @@ static size_t word_at_fault(const struct plot *plot, const struct asked *asked)
     return low;
 }
 
-/* The fault of a word of the question. If this has a name, the line has the name alone, and the word is told. */
+/* What a refusal means at a word: 24 has two causes, one for a variable after some or every and one for a term. */
+static const char *meaning_at(const struct tree *tree, size_t word, uint32_t refusal)
+{
+    uint32_t kind = tree->words[word - word % PLOTASK_NODE_WORDS];
+
+    if (refusal != PLOTASK_UNBOUND_VARIABLE)
+        return meaning(refusal);
+    return kind == PLOTASK_SOME || kind == PLOTASK_EVERY
+               ? "a variable above v15, or more than 16 names and variables within one another"
+               : "a variable without a value: the row asked about has no cell for it, and no some or every names it";
+}
+
+/* Refuses a question for one of its words. If the line has the question's name alone, the fault says which word it is. */
 static bool refuse_word(struct line *line, const struct typed *typed, size_t word, uint32_t refusal)
 {
+    const char *text = meaning_at(&typed->tree, word, refusal);
+
     if (!typed->named)
-        return refused(line, typed->tree.at[word], refusal);
-    struct line text = {.text = typed->named->text, .at = typed->tree.at[word]};
-    struct word found = take_word(&text);
-    return refuse(line, typed->at, refusal, "%.*s in %s: %s", (int)found.length, found.start, typed->named->name,
-                  meaning(refusal));
+        return refuse(line, typed->tree.at[word], refusal, "%s", text);
+    struct line named = {.text = typed->named->text, .at = typed->tree.at[word]};
+    struct word found = take_word(&named);
+    return refuse(line, typed->at, refusal, "%.*s in %s: %s", (int)found.length, found.start, typed->named->name, text);
 }
 
 static bool refuse_question(const struct plot *plot, struct line *line, const struct typed *typed,
@@ -75,33 +89,41 @@ static bool refuse_question(const struct plot *plot, struct line *line, const st
     case PLOTASK_NO_SUCH_QUERY_RELATION:
         return refuse_word(line, typed, word_at_fault(plot, asked), asked->answer.refusal);
     default:
-        return refused(line, typed->at, asked->answer.refusal);
+        return refuse_number(line, typed->at, asked->answer.refusal);
     }
 }
 
 /* Takes the name of a question, or a question in words, which is then its label. */
 static bool take_typed(struct desk *desk, struct line *line, struct typed *typed, char label[LINE_ROOM])
 {
+    struct line ahead = *line;
+    struct word word = take_word(&ahead);
+
     typed->at = next_at(line);
-    typed->named = NULL;
-    if (next_is_question(line)) {
-        if (!take_question(line, &desk->plot, &typed->tree))
-            return false;
-        snprintf(label, LINE_ROOM, "%.*s", (int)(line->at - typed->at), line->text + typed->at);
+    typed->named = find_question(desk, word);
+    if (typed->named) {
+        struct line text = line_of(typed->named->text);
+        line->at = ahead.at;
+        if (!take_question(&text, &desk->plot, &typed->tree))
+            return refuse(line, typed->at, 0, "in %s: %s", typed->named->name, text.fault.text);
+        snprintf(label, LINE_ROOM, "%s", typed->named->name);
         return true;
     }
-    typed->named = find_question(desk, take_word(line));
-    if (!typed->named)
+    if (!is_kind(word) && !next_is(&ahead, '('))
         return expected(line, typed->at, "a question or its name");
-    struct line text = line_of(typed->named->text);
-    if (!take_question(&text, &desk->plot, &typed->tree))
-        return refuse(line, typed->at, 0, "in %s %s", typed->named->name, text.fault.text);
-    snprintf(label, LINE_ROOM, "%s", typed->named->name);
+    if (!take_question(line, &desk->plot, &typed->tree))
+        return false;
+    snprintf(label, LINE_ROOM, "%.*s", (int)(line->at - typed->at), line->text + typed->at);
     return true;
 }
 
+/* Takes "within" with a number of looks, and "unlisted", each at most once. */
 static bool take_options(struct line *line, struct asked *asked, size_t *allowance_at)
 {
+    static const char *const left[2][2] = {
+        {"a cell, within, unlisted or the end of the line", "within or the end of the line"},
+        {"unlisted or the end of the line", "the end of the line"},
+    };
     bool within = false;
 
     asked->allowance = ALLOWANCE;
@@ -118,7 +140,7 @@ static bool take_options(struct line *line, struct asked *asked, size_t *allowan
             *allowance_at = number.at;
             within = true;
         } else {
-            return expected(line, word.at, "a cell, within, unlisted or the end of the line");
+            return expected(line, word.at, "%s", left[within][asked->unlisted]);
         }
     }
     return true;
@@ -130,7 +152,7 @@ static void put_question(struct asked *asked, const struct tree *tree)
     memcpy(asked->words, tree->words, sizeof asked->words);
 }
 
-/* Refuses a question that no row can be asked: with six cells, the most there can be, every variable of theirs is. */
+/* Refuses a question that would be refused of every row. A row of six cells, the most, has the most variables. */
 static bool test_question(const struct plot *plot, struct line *line, const struct typed *typed)
 {
     static struct asked asked;
@@ -142,6 +164,38 @@ static bool test_question(const struct plot *plot, struct line *line, const stru
            refuse_question(plot, line, typed, &asked);
 }
 
+/* Takes a name that can be a question's, and the colon after it. */
+static bool take_question_name(struct line *line, char name[NAME_ROOM])
+{
+    struct line ahead = *line;
+    struct word word = take_word(&ahead);
+
+    if (is_kind(word))
+        return expected(line, word.at, "a name that no question starts with");
+    return take_name(line, "a name for the question", name) && take_sign(line, ':');
+}
+
+/* Keeps a text under a name, if there is room for it, and says what changed. */
+static bool keep_question(struct desk *desk, const char *name, const char *text, int length)
+{
+    struct question *question = find_question(desk, (struct word){.start = name, .length = strlen(name)});
+
+    if (!question && desk->question_count == QUESTIONS)
+        return false;
+    if (!question) {
+        question = &desk->questions[desk->question_count++];
+        snprintf(question->name, sizeof question->name, "%s", name);
+        fprintf(desk->out, "%s is a question now\n", name);
+    } else if (word_is((struct word){.start = text, .length = (size_t)length}, question->text)) {
+        fprintf(desk->out, "%s is that question already\n", name);
+    } else {
+        bool dropped = drop_asked(desk, name) > 0;
+        fprintf(desk->out, "%s is another question now%s\n", name, dropped ? "; the old one is not asked again" : "");
+    }
+    snprintf(question->text, sizeof question->text, "%.*s", length, text);
+    return true;
+}
+
 /* question NAME: QUESTION */
 bool name_question(struct desk *desk, struct line *line)
 {
@@ -149,23 +203,35 @@ bool name_question(struct desk *desk, struct line *line)
     size_t name_at = next_at(line);
     char name[NAME_ROOM];
 
-    if (!take_name(line, "a name for the question", name) || !take_sign(line, ':'))
+    if (!take_question_name(line, name))
         return false;
     typed.at = next_at(line);
     if (!take_question(line, &desk->plot, &typed.tree))
         return false;
-    size_t length = line->at - typed.at;
+    int length = (int)(line->at - typed.at);
     if (!test_question(&desk->plot, line, &typed) || !take_end(line))
         return false;
-    struct question *question = find_question(desk, (struct word){name, strlen(name), name_at});
-    if (!question && desk->question_count == QUESTIONS)
-        return refuse(line, name_at, 0, "the desk has %d questions with names, its most", (int)QUESTIONS);
-    fprintf(desk->out, "%s is %s\n", name, question ? "another question now" : "a question now");
-    forget(desk, name);
+    return keep_question(desk, name, line->text + typed.at, length) ||
+           refuse(line, name_at, 0, "the desk has room for %d questions with names; forget one first", (int)QUESTIONS);
+}
+
+/* forget [NAME] */
+bool forget(struct desk *desk, struct line *line)
+{
+    if (at_end(line)) {
+        unsigned dropped = drop_asked(desk, NULL);
+        fprintf(desk->out, "%u %s%s not asked again\n", COUNTED(dropped, "question"));
+        return true;
+    }
+    struct word word = take_word(line);
+    struct question *question = find_question(desk, word);
     if (!question)
-        question = &desk->questions[desk->question_count++];
-    snprintf(question->name, sizeof question->name, "%s", name);
-    snprintf(question->text, sizeof question->text, "%.*s", (int)length, line->text + typed.at);
+        return expected(line, word.at, "the name of a question");
+    if (!take_end(line))
+        return false;
+    drop_asked(desk, question->name);
+    fprintf(desk->out, "%s is no question now\n", question->name);
+    memmove(question, question + 1, (size_t)(&desk->questions[--desk->question_count] - question) * sizeof *question);
     return true;
 }
 
@@ -174,7 +240,7 @@ static bool refuse_asked(const struct plot *plot, struct line *line, const struc
 {
     switch (asked->answer.refusal) {
     case PLOTASK_BAD_CANDIDATE:
-        return refused(line, row->at[cell_at_fault(plot, row->cells, row->count)], asked->answer.refusal);
+        return refuse_number(line, row->at[cell_at_fault(plot, row->cells, row->count)], asked->answer.refusal);
     case PLOTASK_BUDGET_SPENT:
         return refuse(line, allowance_at, asked->answer.refusal, "%s, %u", meaning(asked->answer.refusal),
                       (unsigned)asked->allowance);
@@ -185,9 +251,9 @@ static bool refuse_asked(const struct plot *plot, struct line *line, const struc
 
 static void say_answer(FILE *out, const struct answer *answer)
 {
-    static const char *const meanings[] = {[PLOTASK_FALSE] = "however the marks are filled in",
+    static const char *const meanings[] = {[PLOTASK_FALSE] = "it stays so however the marks are filled in",
                                            [PLOTASK_UNKNOWN] = "the rules could not tell",
-                                           [PLOTASK_TRUE] = "however the marks are filled in"};
+                                           [PLOTASK_TRUE] = "it stays so however the marks are filled in"};
 
     print_answer(out, answer);
     fprintf(out, ": %s\n", meanings[answer->truth]);
