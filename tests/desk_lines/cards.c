@@ -2,8 +2,10 @@
 #include "support/bytes.h"
 #include "talk.h"
 
+#include <signal.h>
 #include <stdlib.h>
 #include <string.h>
+#include <sys/resource.h>
 #include <unistd.h>
 
 /* The file that cards are written to, and another. */
@@ -243,8 +245,6 @@ static void check_files(void)
     not_done("load ^.", "the file cannot be read");
     not_done("save ^none/desk.card", "the file cannot be written");
     not_done("save ^.", "the file cannot be written");
-    not_done("save ^/dev/full", no_card);
-    not_done("save ^/dev/null", no_card);
     says("save   " OTHER " \t# a copy", "a card of 9 bytes written to " OTHER);
     expect("the file has no blanks at its end", read_card(OTHER, bytes) == 9);
     expect("nothing is left beside it", read_card(OTHER "~", bytes) == 0);
@@ -264,6 +264,28 @@ static void check_files(void)
     expect("no file is written for a plot without sheets", read_card(OTHER, bytes) == 0);
 }
 
+/* A disk without room: no file may grow beyond four bytes. The card that was there stays, and nothing beside it. */
+static void check_full_disk(void)
+{
+    uint8_t bytes[PLOTASK_CARD_BYTES + 1];
+    struct rlimit before, four;
+
+    START("sheet hangs lamp", "hangs 5", "save " CARD, "hangs 6");
+    fflush(stdout);
+    signal(SIGXFSZ, SIG_IGN);
+    getrlimit(RLIMIT_FSIZE, &before);
+    four = before;
+    four.rlim_cur = 4;
+    setrlimit(RLIMIT_FSIZE, &four);
+    not_done("save ^" CARD, "the file cannot be written");
+    not_done("save ^" OTHER, "the file cannot be written");
+    setrlimit(RLIMIT_FSIZE, &before);
+    expect("nothing is left of a card that has no room",
+           read_card(OTHER, bytes) + read_card(OTHER "~", bytes) + read_card(CARD "~", bytes) == 0);
+    says("load " CARD, "a card of 9 bytes read from " CARD ": 1 sheet, 1 row");
+    unlink(CARD);
+}
+
 void check_cards(void)
 {
     check_bad_cards();
@@ -272,4 +294,5 @@ void check_cards(void)
     check_kept_names();
     check_fresh_start();
     check_files();
+    check_full_disk();
 }
