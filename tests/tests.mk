@@ -32,13 +32,16 @@ c-test: lib $(PROGRAM) $(HOSTS) $(DESK) $(TESTS:%=$(BIN)/%) $(WITH_SANITIZERS)
 	@awk '/^[0-9]+ passed, [0-9]+ failed$$/ { passed += $$1; failed += $$3 } \
 		END { printf "%d passed, %d failed\n", passed, failed }' target/c/tests.log
 
-# how the desk starts: a script with a byte order mark and CR LF, one that is missing, and words that it does not take
-desk-start: $(DESK)
+# the desk as a program: it asks for no memory; a script with a byte order mark and CR LF, one that is missing, bytes that
+# are no script, and words that it does not take
+desk-start: $(DESK) $(SANITIZED)/desk
+	@! nm -u $(call objects,c,examples/desk) | grep -w 'malloc\|calloc\|realloc'
 	@test "$$(printf '\357\273\277sheet a b\r\na 5\r\nquit\r\na 6' | $(DESK) -)" = \
 		"$$(printf '> sheet a b\nsheet 0 is a, with 1 column: b\n> a 5\na has 1 row\n> quit')"
 	@! $(DESK) target/no-such-script 2> /dev/null
+	@$(SANITIZED)/desk - < $(LIBRARY) > /dev/null
 	@for words in -x -i '-i -' 'a b c'; do ! $(DESK) $$words 2> /dev/null < /dev/null || exit 1; done
-	@echo "6 passed, 0 failed"
+	@echo "8 passed, 0 failed"
 
 # every line of the page for crews at the desk, and every question of it through the program
 PAGE := docs/VERDICTS.md
