@@ -75,7 +75,9 @@ static bool refuse_word(struct line *line, const struct typed *typed, size_t wor
         return refuse(line, typed->tree.at[word], refusal, "%s", text);
     struct line named = {.text = typed->named->text, .at = typed->tree.at[word]};
     struct word found = take_word(&named);
-    return refuse(line, typed->at, refusal, "%.*s in %s: %s", (int)found.length, found.start, typed->named->name, text);
+    bool cut = found.length > SHOWN_BYTES;
+    return refuse(line, typed->at, refusal, "%.*s%s in %s: %s", (int)(cut ? SHOWN_BYTES : found.length), found.start,
+                  cut ? ".." : "", typed->named->name, text);
 }
 
 static bool refuse_question(const struct plot *plot, struct line *line, const struct typed *typed,

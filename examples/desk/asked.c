@@ -92,6 +92,13 @@ void forget_fill(struct desk *desk)
     for (size_t i = 0; i < desk->asked_count; i++)
         if (desk->asked[i].fill_count > desk->plot.fill_count)
             desk->asked[i].fill_count = desk->plot.fill_count;
+    for (size_t later = desk->asked_count; later-- > 0;)
+        for (size_t i = later; i-- > 0;)
+            if (same_asked(&desk->plot, &desk->asked[i], &desk->asked[later])) {
+                desk->asked[later].fill_count = desk->asked[i].fill_count;
+                drop_at(desk, i);
+                later--; /* it has moved up */
+            }
 }
 
 void print_answer(FILE *out, const struct answer *answer)

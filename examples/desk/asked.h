@@ -11,7 +11,10 @@ struct answer ask_plot(const struct plot *plot, const struct asked *asked, const
 void remember(struct desk *desk, struct asked *asked);
 /* Drops those with this label, or all if it is null, and returns their number. */
 unsigned drop_asked(struct desk *desk, const char *label);
-/* After a fill was taken back: rows that were asked about since then stay as they were asked. */
+/*
+ * After a fill was taken back: rows that were asked about since then stay as they were asked. If one is now the same as
+ * an earlier one, that goes.
+ */
 void forget_fill(struct desk *desk);
 
 /* After a fill: asks again, and says what became settled, and that nothing was unsettled if that is so. */

@@ -43,12 +43,15 @@ static uint32_t try_card(size_t bytes)
     return plotask_decode(card, bytes, PLOTASK_HEADER(&header), scratch, PLOTASK_WORDS, &log_used);
 }
 
-/* Writes the card beside the file that it then replaces, so that a file is whole or stays as it was. */
+/*
+ * Writes the card to a new file, with a ~ after the name, which then replaces the file: so that is whole or stays as it
+ * was. If there is a file with the ~ already, it is not touched.
+ */
 static bool write_file(const char *path, size_t bytes)
 {
     char part[LINE_ROOM + 1];
     snprintf(part, sizeof part, "%s~", path);
-    FILE *file = fopen(part, "wb");
+    FILE *file = fopen(part, "wbx");
 
     if (!file)
         return false;
@@ -154,7 +157,7 @@ bool save(struct desk *desk, struct line *line)
     if (refusal != PLOTASK_DONE)
         return refuse_number(line, line->start, refusal);
     if (!write_file(path, bytes))
-        return refuse(line, at, 0, "the file cannot be written");
+        return refuse(line, at, 0, "the file, or one with a ~ after its name, cannot be written");
     fprintf(desk->out, "a card of %u bytes written to %s\n", (unsigned)bytes, path);
     return true;
 }

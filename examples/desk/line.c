@@ -118,7 +118,6 @@ bool refuse(struct line *line, size_t at, uint32_t refusal, const char *format, 
 /* Writes what stands at a place: the end, a word, or one sign. */
 static void write_found(struct line *line, size_t at, char *text, size_t room)
 {
-    enum { SHOWN = 24 };
     struct line rest = {.text = line->text, .at = at};
 
     if (at_end(&rest)) {
@@ -126,8 +125,8 @@ static void write_found(struct line *line, size_t at, char *text, size_t room)
         return;
     }
     struct word word = take_word(&rest);
-    if (word.length > SHOWN)
-        snprintf(text, room, "\"%.*s..\"", (int)SHOWN, word.start);
+    if (word.length > SHOWN_BYTES)
+        snprintf(text, room, "\"%.*s..\"", (int)SHOWN_BYTES, word.start);
     else if (word.length > 0)
         snprintf(text, room, "\"%.*s\"", (int)word.length, word.start);
     else if ((unsigned char)*word.start < 0x80)

@@ -10,7 +10,8 @@ enum {
     LINE_ROOM = 4096, /* a line and its ending 0: room for 100 nodes, with v0 to v15 and without blanks */
     NAME_BYTES = 16,  /* of a name, at most */
     NAME_ROOM = NAME_BYTES + 1,
-    FAULT_BYTES = 256
+    FAULT_BYTES = 256,
+    SHOWN_BYTES = 24 /* of a word in a fault, at most */
 };
 
 /* What is wrong with a line, and from which byte on, counted from 0. */

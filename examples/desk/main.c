@@ -3,19 +3,24 @@
 
 #include <string.h>
 
+/* Some editors start a script with a byte order mark. */
+static const char mark[] = "\xEF\xBB\xBF";
+
+enum { MARK_BYTES = sizeof mark - 1, READ_ROOM = MARK_BYTES + LINE_ROOM };
+
 static struct desk desk;
 
 /*
  * Reads a line without its line feed. Of a line that is longer than the desk takes, the bytes that have room are kept
  * and all are counted. False at the end of the input.
  */
-static bool read_line(FILE *in, char bytes[LINE_ROOM], size_t *length)
+static bool read_line(FILE *in, char bytes[READ_ROOM], size_t *length)
 {
     int c;
 
     *length = 0;
     while ((c = getc(in)) != EOF && c != '\n') {
-        if (*length < LINE_ROOM)
+        if (*length < READ_ROOM)
             bytes[*length] = (char)c;
         ++*length;
     }
@@ -40,33 +45,22 @@ static void show_line(const char *bytes, size_t length)
 /* Runs the lines of a script, or those that are typed, up to the end of the input; false if a line ended the desk. */
 static bool run(FILE *in, bool script)
 {
-    char bytes[LINE_ROOM];
+    char bytes[READ_ROOM];
     size_t length;
 
-    for (;;) {
+    for (bool first = true;; first = false) {
         if (!script) {
             fputs("> ", stdout);
             fflush(stdout);
         }
         if (!read_line(in, bytes, &length))
             return true;
+        bool marked = first && script && length >= MARK_BYTES && memcmp(bytes, mark, MARK_BYTES) == 0;
+        size_t skipped = marked ? MARK_BYTES : 0;
         if (script)
-            show_line(bytes, length);
-        if (desk_line(&desk, bytes, length) == LINE_QUIT)
+            show_line(bytes + skipped, length - skipped);
+        if (desk_line(&desk, bytes + skipped, length - skipped) == LINE_QUIT)
             return false;
-    }
-}
-
-/* Some editors start a file with a byte order mark. */
-static void skip_byte_order_mark(FILE *in)
-{
-    int c = getc(in);
-
-    if (c == 0xEF) {
-        getc(in);
-        getc(in);
-    } else if (c != EOF) {
-        ungetc(c, in);
     }
 }
 
@@ -77,7 +71,6 @@ static bool run_script(const char *name, bool *ended)
 
     if (!in)
         return false;
-    skip_byte_order_mark(in);
     *ended = !run(in, true);
     bool read = !ferror(in);
     if (in != stdin)

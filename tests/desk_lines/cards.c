@@ -12,14 +12,19 @@
 #define CARD  "desk.card"
 #define OTHER "desk 2.card"
 
-static void write_card(const uint8_t *bytes, size_t count)
+static void write_file(const char *name, const void *bytes, size_t count)
 {
-    FILE *file = fopen(CARD, "wb");
+    FILE *file = fopen(name, "wb");
 
     if (!file || fwrite(bytes, 1, count, file) != count || fclose(file) != 0) {
-        printf("%s cannot be written\n", CARD);
+        printf("%s cannot be written\n", name);
         exit(2);
     }
+}
+
+static void write_card(const uint8_t *bytes, size_t count)
+{
+    write_file(CARD, bytes, count);
 }
 
 /* The number of bytes of a file, which are stored as far as there is room; 0 if it cannot be read. */
@@ -236,6 +241,7 @@ static bool holds(const char *name, const char *text)
 static void check_files(void)
 {
     static const char no_card[] = "the file is there and is no card, so it is not replaced";
+    static const char not_written[] = "the file, or one with a ~ after its name, cannot be written";
     uint8_t bytes[PLOTASK_CARD_BYTES + 1];
 
     START("sheet hangs lamp", "hangs m5", "fill m5 6");
@@ -243,8 +249,8 @@ static void check_files(void)
     misses("save ^# " CARD, "the name of a file", END);
     not_done("load ^none/desk.card", "the file cannot be read");
     not_done("load ^.", "the file cannot be read");
-    not_done("save ^none/desk.card", "the file cannot be written");
-    not_done("save ^.", "the file cannot be written");
+    not_done("save ^none/desk.card", not_written);
+    not_done("save ^.", not_written);
     says("save   " OTHER " \t# a copy", "a card of 9 bytes written to " OTHER);
     expect("the file has no blanks at its end", read_card(OTHER, bytes) == 9);
     expect("nothing is left beside it", read_card(OTHER "~", bytes) == 0);
@@ -252,12 +258,16 @@ static void check_files(void)
     says("save caf\xC3\xA9.card#5", "a card of 9 bytes written to caf\xC3\xA9.card");
     says("load caf\xC3\xA9.card", "a card of 9 bytes read from caf\xC3\xA9.card: 1 sheet, 1 row");
     says("show", "hangs, 1 row\n  lamp\n     6");
-    write_card((const uint8_t *)"a letter", 8);
+    write_file(CARD, "a letter", 8);
     not_done("save ^" CARD, no_card);
     expect("what is no card stays", holds(CARD, "a letter"));
-    write_card((const uint8_t *)"", 0);
+    write_file(CARD, "", 0);
     not_done("save ^" CARD, no_card);
     unlink(CARD);
+    write_file(CARD "~", "a letter", 8);
+    not_done("save ^" CARD, not_written);
+    expect("what has the ~ stays, and no card is written", holds(CARD "~", "a letter") && read_card(CARD, bytes) == 0);
+    unlink(CARD "~");
     unlink(OTHER);
     START("");
     refuses("^save " OTHER, 41);
@@ -277,8 +287,8 @@ static void check_full_disk(void)
     four = before;
     four.rlim_cur = 4;
     setrlimit(RLIMIT_FSIZE, &four);
-    not_done("save ^" CARD, "the file cannot be written");
-    not_done("save ^" OTHER, "the file cannot be written");
+    not_done("save ^" CARD, "the file, or one with a ~ after its name, cannot be written");
+    not_done("save ^" OTHER, "the file, or one with a ~ after its name, cannot be written");
     setrlimit(RLIMIT_FSIZE, &before);
     expect("nothing is left of a card that has no room",
            read_card(OTHER, bytes) + read_card(OTHER "~", bytes) + read_card(CARD "~", bytes) == 0);

@@ -78,6 +78,25 @@ static void check_mark_again(void)
                       "no verdict was unsettled");
 }
 
+/*
+ * The same row typed again after a fill of its mark is another row, and two are followed. It is the same if the fills
+ * have led back to what was typed, and then it is followed as from the first time on.
+ */
+static void check_row_again(void)
+{
+    START("sheet hangs lamp", "hangs m1", "ask in(hangs, v0) m1", "fill m1 5");
+    says("ask in(hangs, v0) m1", "unknown, 2 looks: the rules could not tell");
+    says("questions", "asked: in(hangs, v0) 5 (asked of m1): true, 2 looks\nasked: in(hangs, v0) m1: unknown, 2 looks");
+    type("ask equal(v0, 5) 7");
+    says("take back", "m1 stands again, in 1 cell\n"
+                      "changed: in(hangs, v0) m1: true, 2 looks; before: unknown, 2 looks");
+    says("questions", "asked: in(hangs, v0) m1: true, 2 looks\nasked: equal(v0, 5) 7: false, 1 look");
+    START("sheet hangs lamp", "hangs m1", "ask in(hangs, v0) m1", "fill m1 m2", "fill m2 m1", "ask in(hangs, v0) m1");
+    says("questions", "asked: in(hangs, v0) m1: true, 2 looks");
+    says("take back", "m2 stands again, in 1 cell\nno verdict changed");
+    says("questions", "asked: in(hangs, v0) m2 (asked of m1): true, 2 looks");
+}
+
 /* A question that was within its allowance, and is no longer after a fill was taken back or a row entered. */
 static void check_allowance_spent(void)
 {
@@ -174,6 +193,7 @@ void check_changes(void)
     check_settled();
     check_rows_filled();
     check_mark_again();
+    check_row_again();
     check_allowance_spent();
     check_fewer_looks();
     check_forged();

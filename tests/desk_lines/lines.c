@@ -1,6 +1,7 @@
 #include "parts.h"
 #include "talk.h"
 
+#include <stdlib.h>
 #include <string.h>
 
 /* A row whose only cell is the last byte of a line. */
@@ -22,9 +23,11 @@ static void check_length(void)
     line[4094] = 'x';
     not_done_bytes(line, 4095, 4095,
                    "expected a cell: a value, 0 to 999999, a mark, m1 to m200, or a blank, -, found \"x\"");
-    put_row(line, 4094);
-    line[4094] = '\r';
-    says_bytes(line, 4095, "hangs has 2 rows");
+    put_row(line, 4095);
+    line[4095] = '\r';
+    says_bytes(line, 4096, "hangs has 2 rows");
+    line[4096] = '\r';
+    not_done_bytes(line, 4097, 4096, too_long);
     put_row(line, 4096);
     not_done_bytes(line, 4096, 4096, too_long);
     put_row(line, sizeof line);
@@ -36,6 +39,20 @@ static void check_length(void)
     says_bytes(line, 4095, "");
     expect("two rows of 7 were entered",
            desk.plot.header.used == 4 && desk.plot.words[1] == 7 && desk.plot.words[3] == 7);
+}
+
+/* Of a line that is longer than LINE_ROOM, the desk may be given as many bytes alone: none of them is read. */
+static void check_longer_line(void)
+{
+    char *line = malloc(LINE_ROOM);
+
+    if (!line)
+        exit(2);
+    memset(line, '\r', LINE_ROOM);
+    START("sheet hangs lamp");
+    not_done_bytes(line, LINE_ROOM + 1, 4096, "a line has at most 4095 bytes");
+    not_done_bytes(line, SIZE_MAX, 4096, "a line has at most 4095 bytes");
+    free(line);
 }
 
 /* A control byte before, in and after a line. A tab is a blank, and a carriage return may end a line. */
@@ -199,6 +216,7 @@ static void check_new(void)
 void check_lines(void)
 {
     check_length();
+    check_longer_line();
     check_control_bytes();
     check_high_bytes();
     check_comments();

@@ -247,6 +247,8 @@ static void check_short_rows(void)
     refuses_with("ask  ^q 1 2 3 within 0", 24, "v3 in q: ", "");
     refuses_with("ask ^q 1 2 3 4 unlisted", 24, "v5 in q: ", "");
     refuses_with("ask ^q 1 2 3 4 5", 24, "v5 in q: ", "");
+    type("question p: equal(v0, v0000000000000000000000005)");
+    refuses_with("ask ^p 1", 24, "v00000000000000000000000.. in p: ", "");
     says("ask q 1 2 3 4 5 6", "false, 16 looks: it stays so however the marks are filled in");
 }
 

@@ -80,6 +80,7 @@ static void check_columns(void)
     refuses("sheet none  ^", 13);
     expect("a refused sheet does not count", desk.plot.header.relations == 2);
     misses("sheet none same ^same", "a name that no column before it has", "same");
+    misses("sheet none a b c d e ^b", "a name that no column before it has", "b");
     says("sheet none same Same", "sheet 2 is none, with 2 columns: same, Same");
 }
 

@@ -1,4 +1,5 @@
 #include "account.h"
+#include "tally.h"
 
 #include <stdarg.h>
 #include <string.h>
@@ -262,6 +263,34 @@ void account_fill(struct account *account, uint32_t mark, uint32_t cell)
     add_settled(account);
 }
 
+static void drop_kept(struct account *account, size_t at)
+{
+    account->kept_count--;
+    memmove(account->kept + at, account->kept + at + 1, (account->kept_count - at) * sizeof *account->kept);
+}
+
+/* The same question of the same row, as it was typed and as it is now, asked in the same manner. */
+static bool is_same(const struct account *account, const struct kept *a, const struct kept *b)
+{
+    struct any_cells row_a = row_now(account, &a->row), row_b = row_now(account, &b->row);
+
+    return strcmp(a->label, b->label) == 0 && a->allowance == b->allowance && a->unlisted == b->unlisted &&
+           same_cells(&a->row.cells, &b->row.cells) && same_cells(&row_a, &row_b);
+}
+
+/* What has become the same as a later question goes. */
+static void drop_repeated(struct account *account)
+{
+    for (size_t later = 1; later < account->kept_count; later++)
+        for (size_t i = 0; i < later; i++)
+            if (is_same(account, &account->kept[i], &account->kept[later])) {
+                account->kept[later].row.fills = account->kept[i].row.fills;
+                drop_kept(account, i--);
+                later--;
+                meet(MET_BECAME_THE_SAME);
+            }
+}
+
 /* Rows that came after the fill stay as they are. */
 void account_take_back(struct account *account)
 {
@@ -275,16 +304,11 @@ void account_take_back(struct account *account)
     for (size_t i = 0; i < account->kept_count; i++)
         if (account->kept[i].row.fills > left)
             account->kept[i].row.fills = left;
+    drop_repeated(account);
     write_plot(account);
     add(account, "m%u stands again, in %zu cell%s\n", (unsigned)account->fills[left].mark, count, plural(count));
     if (add_changes(account) == 0 && account->kept_count > 0)
         add(account, "no verdict changed\n");
-}
-
-static void drop_kept(struct account *account, size_t at)
-{
-    account->kept_count--;
-    memmove(account->kept + at, account->kept + at + 1, (account->kept_count - at) * sizeof *account->kept);
 }
 
 /* Drops what was asked by a name, or all; returns their number. */
@@ -326,15 +350,6 @@ void account_forgotten(struct account *account)
 
     start_answer(account);
     add(account, "%zu question%s not asked again\n", dropped, plural(dropped));
-}
-
-/* The same question of the same row, as it was typed and as it is now, asked in the same manner. */
-static bool is_same(const struct account *account, const struct kept *a, const struct kept *b)
-{
-    struct any_cells row_a = row_now(account, &a->row), row_b = row_now(account, &b->row);
-
-    return strcmp(a->label, b->label) == 0 && a->allowance == b->allowance && a->unlisted == b->unlisted &&
-           same_cells(&a->row.cells, &b->row.cells) && same_cells(&row_a, &row_b);
 }
 
 /* A question is kept once, as the latest; of more than there is room for, the oldest goes. */

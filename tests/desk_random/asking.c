@@ -296,6 +296,20 @@ static bool take_named(struct talk *talk)
     return true;
 }
 
+/* Takes the row and the allowance with which the question was asked before, as they were typed; false if it was not. */
+static bool take_typed_before(struct talk *talk)
+{
+    for (size_t i = talk->account.kept_count; i > 0; i--) {
+        const struct kept *kept = &talk->account.kept[i - 1];
+        if (strcmp(kept->label, asked.name) != 0)
+            continue;
+        asked.row = kept->row.cells;
+        asked.allowance = kept->allowance;
+        return true;
+    }
+    return false;
+}
+
 bool try_question(struct talk *talk)
 {
     bool unlisted = one_in(talk->random, 2), again = take_named(talk);
@@ -305,6 +319,8 @@ bool try_question(struct talk *talk)
         if (!make_question(talk))
             return true;
     }
+    if (again && one_in(talk->random, 2) && take_typed_before(talk))
+        return ask_once(talk, unlisted) && ask_once(talk, !unlisted);
     choose_allowance(talk);
     if (!again && one_in(talk->random, 3) && !name_it(talk))
         return false;

@@ -84,6 +84,7 @@ enum typed_command command_of(const char *bytes, size_t length);
     CASE(CHANGED_BY_TAKE_BACK, "a fill is taken back, and a verdict changes")       \
     CASE(ROW_TAKEN_BACK, "a fill is taken back that changed a row asked about")     \
     CASE(ROW_STAYS, "a fill is taken back, and a row asked about since then stays") \
+    CASE(BECAME_THE_SAME, "a fill is taken back, and two questions are the same")   \
     CASE(TAKE_48, "48 for no fill to take back")                                    \
     CASE(ROW_ENTERED, "a row is entered")                                           \
     CASE(CHANGED_BY_ROW, "a row is entered, and a verdict changes")                 \

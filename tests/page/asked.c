@@ -82,6 +82,17 @@ const char *ask_again(struct session *session)
     return NULL;
 }
 
+void drop_repeated(struct session *session)
+{
+    for (size_t later = 1; later < session->asked_count; later++)
+        for (size_t place = 0; place < later; place++)
+            if (same_asked(session, &session->asked[place], &session->asked[later])) {
+                session->asked[later].fills_before = session->asked[place].fills_before;
+                drop_asked(session, place--);
+                later--;
+            }
+}
+
 static void forget_asked(struct session *session, const char *label)
 {
     for (size_t i = session->asked_count; i > 0; i--)

@@ -12,6 +12,9 @@
 const char *ask_question(struct session *session, const struct question *question, const struct cells *row,
                          const struct manner *manner, struct answer *answer);
 
+/* Drops each question that has become the same as a later one, as it may if a fill is taken back. */
+void drop_repeated(struct session *session);
+
 /* Asks all of the session's questions again. Returns null, or why an answer could not be found out. */
 const char *ask_again(struct session *session);
 

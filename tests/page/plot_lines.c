@@ -96,6 +96,7 @@ const char *obey_take_back(struct session *session, const char *rest, struct exp
         return "`take` is not followed by `back` alone";
     if (expect_refusal(expected, take_fill_back(session, &mark, &count)))
         return NULL;
+    drop_repeated(session);
     expect_line(expected, "m%u stands again, in %u cell%s", (unsigned)mark, (unsigned)count, plural(count));
     const char *fault = ask_again(session);
     if (!fault && expect_changed(expected, session) == 0 && session->asked_count > 0)
