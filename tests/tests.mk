@@ -65,6 +65,8 @@ LINES := tests/desk_lines tests/support tests/typing
 RANDOM := tests/desk_random tests/generators tests/reference tests/support tests/typing
 $(BIN)/desk_lines: $(call desk_objects,c) $(call objects,c,$(LINES)) $(LIBRARY)
 $(SANITIZED)/desk_lines: $(call desk_objects,c-sanitized) $(call objects,c-sanitized,$(LINES)) $(LIBRARY)
+# whether a question is asked with a list or without one is seen at the calls alone
+$(BIN)/desk_lines $(SANITIZED)/desk_lines: WRAP = -Wl,--wrap=plotask_ask,--wrap=plotask_ask_unlisted
 $(BIN)/desk_random: $(call desk_objects,c) $(call objects,c,$(RANDOM)) $(LIBRARY)
 $(SANITIZED)/desk_random: $(call desk_objects,c-sanitized) $(call objects,c-sanitized,$(RANDOM)) $(LIBRARY)
 
@@ -78,8 +80,8 @@ $(SANITIZED)/%: LINK = $(CC) $(SANITIZE)
 
 $(TESTS:%=$(BIN)/%): $(BIN)/%: target/c/tests/%.o
 	@mkdir -p $(@D)
-	$(LINK) $^ -o $@
+	$(LINK) $(WRAP) $^ -o $@
 
 $(SANITIZED)/%: target/c-sanitized/tests/%.o
 	@mkdir -p $(@D)
-	$(LINK) $^ -o $@
+	$(LINK) $(WRAP) $^ -o $@

@@ -21,7 +21,7 @@ struct question *find_question(struct desk *desk, struct word name)
     return NULL;
 }
 
-/* Gives the words of a question from a place on numbers that cannot be at fault. Kinds and children stay. */
+/* Replaces the words of a question from an index on with numbers that are never refused. Kinds and children stay. */
 static void make_harmless(uint32_t *words, size_t from, size_t count)
 {
     for (size_t i = from; i < count; i++) {
@@ -33,8 +33,8 @@ static void make_harmless(uint32_t *words, size_t from, size_t count)
 }
 
 /*
- * The word of a question for which it is refused. plotask tests a question from its first word on and returns a number
- * alone. So the words after one are made harmless: if the question is still refused, the word at fault is not after it.
+ * The index of the word for which a question is refused. plotask checks the words in order, and returns only a number.
+ * So the words after an index are made harmless: if the number stays the same, the fault is at that index or before it.
  */
 static size_t word_at_fault(const struct plot *plot, const struct asked *asked)
 {
@@ -66,7 +66,7 @@ static const char *meaning_at(const struct tree *tree, size_t word, uint32_t ref
                : "a variable without a value: the row asked about has no cell for it, and no some or every names it";
 }
 
-/* Refuses a question for one of its words. If the line has the question's name alone, the fault says which word it is. */
+/* Refuses a question for one of its words. If it is asked by its name, the fault says which word that is. */
 static bool refuse_word(struct line *line, const struct typed *typed, size_t word, uint32_t refusal)
 {
     const char *text = meaning_at(&typed->tree, word, refusal);
@@ -154,7 +154,7 @@ static void put_question(struct asked *asked, const struct tree *tree)
     memcpy(asked->words, tree->words, sizeof asked->words);
 }
 
-/* Refuses a question that would be refused of every row. A row of six cells, the most, has the most variables. */
+/* Refuses a question that would be refused whatever its row is. A row of six cells gives the most variables a value. */
 static bool test_question(const struct plot *plot, struct line *line, const struct typed *typed)
 {
     static struct asked asked;

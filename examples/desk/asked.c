@@ -151,7 +151,7 @@ static bool same_verdict(const struct answer *a, const struct answer *b)
     return a->refusal == b->refusal && (a->refusal || a->truth == b->truth);
 }
 
-/* What a fill did to a question; the last two, the rules say, cannot be. */
+/* What a fill did to a question. By the rules the last two cannot happen. */
 enum effect { STAYED, ANSWERED, SETTLED, DEARER, UNSETTLED, EFFECTS };
 
 static enum effect effect_of(const struct answer *before, const struct answer *now)

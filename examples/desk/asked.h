@@ -12,14 +12,14 @@ void remember(struct desk *desk, struct asked *asked);
 /* Drops those with this label, or all if it is null, and returns their number. */
 unsigned drop_asked(struct desk *desk, const char *label);
 /*
- * After a fill was taken back: rows that were asked about since then stay as they were asked. If one is now the same as
- * an earlier one, that goes.
+ * After a fill was taken back: a row that was asked about while the fill stood stays as it was typed. Of two questions
+ * that have become the same, the earlier one is dropped.
  */
 void forget_fill(struct desk *desk);
 
 /* After a fill: asks again, and says what became settled, and that nothing was unsettled if that is so. */
 void say_settled(struct desk *desk);
-/* After any other change: asks again, says which verdicts are others now, and returns their number. */
+/* After any other change: asks again, says which verdicts changed, and returns their number. */
 unsigned say_changes(struct desk *desk);
 
 /* "unknown, 4 looks", or "refused 46". */

@@ -33,7 +33,7 @@ static bool read_file(const char *path, size_t *bytes)
     return read;
 }
 
-/* Reads the card's first bytes into a plot that nobody needs, and returns what plotask says. */
+/* Reads the first bytes of the card into a scratch plot, and returns what plotask answers. */
 static uint32_t try_card(size_t bytes)
 {
     static uint32_t scratch[PLOTASK_WORDS];
@@ -44,8 +44,8 @@ static uint32_t try_card(size_t bytes)
 }
 
 /*
- * Writes the card to a new file, with a ~ after the name, which then replaces the file: so that is whole or stays as it
- * was. If there is a file with the ~ already, it is not touched.
+ * Writes the card to a new file, which has a ~ after its name, and then renames it. If this fails, the old file is still
+ * there. A file that had the ~ before is left alone.
  */
 static bool write_file(const char *path, size_t bytes)
 {
@@ -72,8 +72,8 @@ static bool holds_something_else(const char *path)
 }
 
 /*
- * The byte of the card, from 1, at which it is refused, or one past its end. plotask reads from the first byte on: what
- * ends before that byte is cut short, and what ends there or later is not.
+ * The byte at which the card is refused, counted from 1; one past its end if it is too short. A card that ends before
+ * that byte is refused as cut short, and one that ends there or later is not.
  */
 static size_t byte_at_fault(size_t bytes, uint32_t refusal)
 {

@@ -11,7 +11,7 @@ bool take_mark(struct line *line, uint32_t *mark)
     return true;
 }
 
-/* A word as a cell; false if it is none, whatever its number. */
+/* Reads a word as a cell, also if its number is out of range; false if it is neither a number nor a mark. */
 static bool word_cell(struct word word, uint32_t *cell)
 {
     uint64_t number;

@@ -21,7 +21,7 @@ bool take_mark(struct line *line, uint32_t *mark);
 /* Takes cells up to the first word that is no cell, or to the end. Those after the seventh are read and dropped. */
 bool take_cells(struct line *line, bool blanks, struct cells *cells);
 
-/* The first of the cells that is none, as plotask sees it; their count if each of them is one. The plot is sound. */
+/* The index of the first number that is no cell for plotask; the count if there is none. The plot is sound. */
 size_t cell_at_fault(const struct plot *plot, const uint32_t *cells, size_t count);
 
 /* Writes a cell, and returns its length. */

@@ -61,7 +61,7 @@ static void say_usage(FILE *out, size_t i)
     fprintf(out, "  %-24s %s\n", commands[i].usage, commands[i].does);
 }
 
-/* The place of a command, or COMMANDS if the word is none. */
+/* The index of a command, or COMMANDS if the word is no command. */
 static size_t find_command(struct word word)
 {
     size_t i = 0;

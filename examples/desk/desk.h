@@ -75,7 +75,7 @@ struct desk {
     size_t asked_count;
 };
 
-/* Starts a desk without sheets and questions, which answers there. */
+/* Starts a desk without sheets or questions. Its answers go to `out`. */
 void desk_start(struct desk *desk, FILE *out);
 
 enum line_end { LINE_DONE, LINE_REFUSED, LINE_QUIT };

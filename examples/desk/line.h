@@ -14,7 +14,7 @@ enum {
     SHOWN_BYTES = 24 /* of a word in a fault, at most */
 };
 
-/* What is wrong with a line, and from which byte on, counted from 0. */
+/* What is wrong with a line, and at which byte, counted from 0. */
 struct fault {
     uint32_t refusal; /* plotask's number, or 0 if the desk cannot read the line */
     size_t at;
@@ -48,19 +48,19 @@ size_t next_at(struct line *line);
 bool at_end(struct line *line);
 bool next_is(struct line *line, char sign);
 struct word take_word(struct line *line);
-/* The sign must be next, or nothing more; else that is the line's fault, and false is returned. */
+/* Take a sign, or make sure that nothing follows. If that fails, it is the line's fault, and they return false. */
 bool take_sign(struct line *line, char sign);
 bool take_end(struct line *line);
 /* A name: a letter, then letters, digits and _, and neither like a mark (m4) nor like a variable (v0). */
 bool take_name(struct line *line, const char *what, char name[NAME_ROOM]);
 
 bool word_is(struct word word, const char *text);
-/* The number that a word is from its byte `from` on, at most `most` + 1 however large; false if it has other signs. */
+/* Reads a word from byte `from` on as a number; what is above `most` becomes `most` + 1. False if it is no number. */
 bool word_number(struct word word, size_t from, uint32_t most, uint64_t *number);
-/* Whether a word is a letter and a number, such as m4; then also that number, as word_number. */
+/* The same for a letter and a number, such as m4. */
 bool word_numbered(struct word word, char letter, uint32_t most, uint64_t *number);
 
-/* The line's fault: a refusal, or something else than what was expected at a place. Both return false. */
+/* Set the line's fault: a refusal, or that something else was expected at a place. Both return false. */
 bool refuse(struct line *line, size_t at, uint32_t refusal, const char *format, ...);
 bool expected(struct line *line, size_t at, const char *format, ...);
 

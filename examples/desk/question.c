@@ -37,7 +37,7 @@ static const struct binding *find_binding(const struct reading *r, struct word n
     return NULL;
 }
 
-/* The variable of a name: that of an outer one which it hides, or the highest that is free, or 16. */
+/* The variable for a name: the same one if it hides an outer name, else the highest that is free, or 16 if none is. */
 static uint32_t variable_for(const struct reading *r, struct word name)
 {
     const struct binding *hidden = find_binding(r, name);
@@ -69,7 +69,7 @@ static uint32_t written_variables(struct line line)
     return written;
 }
 
-/* Puts a number that the line has at a place into a word of a node. */
+/* Sets a word of a node, and notes where in the line it is written. */
 static void put(struct reading *r, size_t word, uint32_t number, size_t at)
 {
     r->tree->words[word] = number;
@@ -120,7 +120,7 @@ static bool take_stands(struct reading *r, size_t node)
     return true;
 }
 
-/* A variable's number, or a name that is one from here to the closing bracket. */
+/* A variable by its number, or a name that stands for one up to the closing bracket. */
 static bool take_variable(struct reading *r, size_t to)
 {
     struct line ahead = *r->line;
@@ -142,7 +142,7 @@ static bool take_variable(struct reading *r, size_t to)
 
 static bool take_node(struct reading *r);
 
-/* A node below the one at a word: its number is the next. */
+/* A child: its number is that of the next node. */
 static bool take_child(struct reading *r, size_t to)
 {
     put(r, to, (uint32_t)r->tree->nodes, next_at(r->line));
@@ -179,7 +179,7 @@ static uint32_t kind_of(struct word word)
     return 0;
 }
 
-/* The node after the hundredth ends the reading: there is no place for one below it. */
+/* Reading ends at the 101st node, since the tree has no room for another. */
 static bool take_node(struct reading *r)
 {
     struct word word = take_word(r->line);

@@ -17,7 +17,7 @@ static uint32_t highest_in_rows(const struct plot *plot, const struct cells *row
     return higher_mark(higher_mark(0, row->cells, row->count), plot->words, plot->header.used);
 }
 
-/* Also the marks of fills, since a mark stands again once its fill is taken back, and of the rows asked about. */
+/* Counts the marks of fills too, since they stand again after a take-back, and those of rows asked about. */
 static uint32_t highest_mark(const struct desk *desk, const struct cells *row)
 {
     const struct plot *plot = &desk->plot;
@@ -41,7 +41,7 @@ static void mark_blanks(const struct desk *desk, struct cells *row)
             row->cells[i] = PLOTASK_MARK(++mark);
 }
 
-/* What is refused with 16 was typed, or, if all that was typed is a cell, it is a blank without a mark: that is 17. */
+/* plotask found a number that is no cell (16). If none was typed, it is a blank for which no mark was left (17). */
 static bool refuse_cell(const struct desk *desk, struct line *line, const struct cells *row)
 {
     const struct plot *plot = &desk->plot;

@@ -51,7 +51,7 @@ unsigned count_rows(const struct plot *plot, uint32_t sheet)
     return rows;
 }
 
-/* What plotask says of a plot with these sheets and one more of so many columns: 0, 12 or 13. */
+/* Whether a plot can have one more sheet, with this number of columns: 0 if it can, or plotask's 12 or 13. */
 static uint32_t test_sheet(const struct plotask_header *header, size_t columns)
 {
     uint8_t card[1 + PLOTASK_RELATIONS + 1 + 2] = {(uint8_t)(header->relations + 1)};

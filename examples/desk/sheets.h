@@ -14,7 +14,7 @@ bool take_sheet(struct line *line, const struct plot *plot, uint32_t *sheet);
 /* Calls the sheets s0, s1 and so on, and their columns c0, c1. */
 void name_by_number(struct plot *plot);
 
-/* The index, among the plot's words, of the sheet's first row from a place on, or the words in use if there is none. */
+/* The index of a sheet's next row among the plot's words, at or after `at`; the words in use if there is none. */
 size_t next_row(const struct plot *plot, uint32_t sheet, size_t at);
 unsigned count_rows(const struct plot *plot, uint32_t sheet);
 

@@ -134,7 +134,7 @@ static void check_fewer_looks(void)
 #define SETTLED   "became settled: in(hangs, v0) 8: false, 3 looks; before: unknown, 3 looks"
 #define AND_NONE  "\nno verdict was unsettled"
 
-/* What the desk says after a fill is found out: answers before it that cannot have been are told as such. */
+/* What the desk says after a fill is worked out: after forged answers it reports what the rules say cannot happen. */
 static void check_forged(void)
 {
     static const struct {

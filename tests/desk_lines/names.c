@@ -31,7 +31,7 @@ static const struct {
     {"some(x, and(equal(x, 2), some(v15, and(equal(v15, 1), equal(x, 2)))))", "true, 4 looks"},
     {"some(x, and(equal(v0, 7), equal(x, 2))) 7", "true, 4 looks"},
     {"some(x, and(equal(v0, 7), and(equal(v5, 12), equal(x, 2)))) 7 8 9 10 11 12", "true, 6 looks"},
-    /* two names above one another are two variables, and beside one another they may be one */
+    /* nested names are two variables, and names beside one another may be one */
     {"some(x, some(y, not(equal(x, y))))", "true, 2 looks"},
     {"and(some(x, equal(x, 1)), some(y, equal(y, 2)))", "true, 3 looks"},
     {"some(a, and(some(b, equal(b, 3)), some(c, and(equal(c, 2), equal(a, 1)))))", "true, 6 looks"},
@@ -70,7 +70,7 @@ static void check_scopes(void)
     misses("ask some(x, in(hangs, ^X))", "a value, a variable such as v0, or a name after some or every", "X");
 }
 
-/* So many names above one another, n0 to the last, and then what they are about; with a ^ before name `marked`. */
+/* Writes nested names, n0 and so on, around `about`, with a ^ before name `marked`. */
 static void put_names(char *line, const char *start, size_t names, size_t marked, const char *about, const char *end)
 {
     char *at = repeat(line, start, 1);
@@ -84,7 +84,7 @@ static void put_names(char *line, const char *start, size_t names, size_t marked
 
 enum { NO_NAME = 99 };
 
-/* There are 16 variables for the names above one another and those that are written. */
+/* Nested names and written variables share 16 variables. */
 static void check_sixteen(void)
 {
     static const struct {

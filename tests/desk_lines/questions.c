@@ -52,8 +52,8 @@ static void check_question_names(void)
 }
 
 /*
- * Allowances at their limits. A plot of ten values: six of every above one another take a million looks, which is the
- * allowance of a question that is asked without one.
+ * Allowances at their limits. In a plot of ten values, six nested "every" take a million looks, which is the allowance
+ * of a question that is asked without one.
  */
 static void check_allowances(void)
 {
@@ -184,7 +184,7 @@ static void check_forgotten(void)
     misses("^p 7", "\"ask\" before the name of a question", "p");
 }
 
-/* A question may take a whole line, and is kept and told as it was typed. */
+/* A question may take a whole line, and is kept and shown as it was typed. */
 static void check_long_question(void)
 {
     static char question[LINE_ROOM], line[LINE_ROOM + 8], answer[2 * LINE_ROOM];

@@ -163,7 +163,7 @@ static void check_brackets(void)
     }
 }
 
-/* Parts of a question for which it is refused, if its row has at most six cells. The first fault is the one told. */
+/* Parts for which a question is refused, whatever its row is. The desk names the first fault. */
 static const struct {
     const char *part;
     uint32_t number;
@@ -230,7 +230,7 @@ static void check_parts(void)
 }
 
 /*
- * A question whose row is too short. If it has a name, the word at fault is told, since the line has the name alone.
+ * A question whose row is too short. If it is asked by its name, the desk says which word is at fault.
  * The other numbers of a question's words are refused when it is given its name; a sheet may be gone later (cards.c).
  */
 static void check_short_rows(void)

@@ -165,7 +165,7 @@ static bool is_sound(void)
                                PLOTASK_MARKS, &count) == PLOTASK_DONE;
 }
 
-/* 4,096 words: 584 rows of six columns, and two of three. Then the first fault of a row is the one that is told. */
+/* All 4,096 words: 584 rows of six columns, and two of three. A row with another fault is refused for that first. */
 static void check_full_plot(void)
 {
     START("sheet hangs lamp", "sheet six a b c d e f", "sheet three a b c");

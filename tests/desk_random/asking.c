@@ -46,7 +46,7 @@ static void damage_row(struct random *random, struct any_cells *row)
         row->length = MOST_COLUMNS + 1 + below(random, 4);
 }
 
-/* Quantifiers above one another, so many that there may be no variable for each of their names. */
+/* Nested quantifiers, often more than there are variables for their names. */
 static void make_deep_query(struct random *random, struct any_query *query)
 {
     uint32_t depth = 10 + below(random, 14), *words = query->words;

@@ -25,7 +25,7 @@ static const char *write_card(void)
 
 enum { BLANK = 0 };
 
-/* Rows of a sheet of so many columns, each cell of which is the same, or blank. */
+/* Rows of one sheet, whose cells are all the same, or all blank. */
 static const char *write_rows(uint32_t columns, uint32_t rows, uint32_t cell)
 {
     card.length = 0;

@@ -198,7 +198,7 @@ static void add_leaf(struct writing *writing)
     add(writing->line, ")");
 }
 
-/* A question with at most so many levels above its leaves, and so many names above one another. */
+/* A question with at most this many levels above its leaves, and at most `names` nested quantifiers. */
 static void add_node(struct writing *writing, size_t levels, size_t names)
 {
     static const char *const joins[] = {"and(", "or("}, *const quantifiers[] = {"some(", "every("};

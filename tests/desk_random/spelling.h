@@ -42,7 +42,7 @@ void spell(struct random *random, const struct any_query *query, const struct pl
 /* A wrong number somewhere in a query, or a variable that may have no value. */
 void misspell(struct random *random, const uint32_t *header, struct any_query *query);
 
-/* The first number for which the question is refused, if its row has so many cells; null if there is none. */
+/* The first number for which the question is refused, with a row of this many cells; null if there is none. */
 const struct spelled *first_fault(const struct spelling *spelling, const uint32_t *header, size_t cells,
                                   uint32_t *refusal);
 

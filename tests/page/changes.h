@@ -1,4 +1,4 @@
-/* What is told about the questions asked so far when the plot has changed and they have been asked again. */
+/* What is said about the questions asked so far, after the plot has changed and they have been asked again. */
 #ifndef CHANGES_H
 #define CHANGES_H
 

@@ -5,7 +5,7 @@
 /* Ends the line before its comment, and returns what follows the `#`; null if it has none. */
 const char *cut_comment(char *line);
 
-/* The WHAT of ` a student says WHAT`; all of a comment that has a student in other words; null if there is none. */
+/* The WHAT of ` a student says WHAT`; the whole comment if it speaks of a student otherwise; null if it does not. */
 const char *student_in(const char *comment);
 
 #endif

@@ -57,7 +57,7 @@ uint32_t enter_row(struct session *session, uint32_t sheet, struct cells *row)
         ref_insert(session->header, HEADER_WORDS, session->words, MOST_WORDS, sheet, row->cell, row->count);
     if (number == 0)
         session->sheets.rows[sheet]++;
-    /* if every cell that was typed is one, it was a blank that is none */
+    /* nothing that was typed is at fault, so there was no mark left for a blank */
     if (number == PLOTASK_NOT_A_CELL && !has_cell(row, NO_CELL))
         return PLOTASK_NULLS_EXHAUSTED;
     return number;
