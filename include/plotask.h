@@ -53,9 +53,10 @@
  * then its cells. The rows follow each other from the first word, in the order in which they were entered. Equal rows
  * may occur twice: the verdict is the same as with one of them, but a repeated row may cost a look.
  *
- * A plot is sound if its header has 1 to 8 sheets, gives each of them 1 to 6 columns and every other sheet 0, and if
- * the words in use are at most 4,096, at most as many as the slice has, and whole rows: sheet numbers that the header
- * has, and cells. Every other plot is refused with 41.
+ * A plot is sound if its header has 1 to 8 sheets, gives each of them 1 to 6 columns and every other sheet 0, if the
+ * words in use are at most 4,096, at most as many as the slice has, and whole rows: sheet numbers that the header has,
+ * and cells, and if each of the header's eight row counts is the number of that sheet's rows, so 0 for a sheet that
+ * does not exist. Every other plot is refused with 41.
  *
  * The plot's values are its different cells, of all sheets and columns, marks included, in the order in which they
  * first occur in the words.
@@ -88,22 +89,22 @@
  *   plot            4,096 words   16,384 bytes
  *   working list    4,096 words   16,384 bytes   no plot needs more than 3,510 words of it (PLOTASK_CELLS)
  *   question          800 words    3,200 bytes
- *   header             10 words       40 bytes
+ *   header             18 words       72 bytes
  *   candidate           6 words       24 bytes
  *
- * These are 36,032 bytes, within 40 KiB. Smaller arrays will do for smaller plots and questions. Between questions the
+ * These are 36,064 bytes, within 40 KiB. Smaller arrays will do for smaller plots and questions. Between questions the
  * working list is free: it may hold a card (at most PLOTASK_CARD_BYTES), as (uint8_t *)list with 4 bytes for each word,
  * or the 200 words of a census.
  *
  * Only plotask_ask needs the working list. A host that asks by plotask_ask_unlisted alone can leave it out, or lend its
- * memory to something else for as long as it likes: plot, question, header and candidate are 19,648 bytes.
+ * memory to something else for as long as it likes: plot, question, header and candidate are 19,680 bytes.
  *
  *   log             for each fill 2 words, and 1 word for each cell that it fills; a fill writes at most 3,512 words
  *                   (PLOTASK_ENTRY_WORDS), 14,048 bytes
  *
  * The log is beside all these, and only logged fills and undos need it. It cannot share memory with the working list of
  * a host that lends one, since it has to be kept between questions. Beside the largest arrays above, 40 KiB have room
- * for a log of 1,232 words; if the working list is left out, of 5,328 words.
+ * for a log of 1,224 words; if the working list is left out, of 5,320 words.
  *
  * STACK, in bytes below the caller's own frame, as measured by `make bench` (docs/BENCHMARKS.md):
  *
@@ -148,7 +149,7 @@ enum {
     PLOTASK_CANDIDATE = 6,          /* cells of a candidate row, at most */
     PLOTASK_ENTRY_WORDS = 3512,     /* words of a log's entry, at most: 3,510 places, the mark and the number */
     PLOTASK_VARIABLES = 16,         /* variables are numbered 0 to 15 */
-    PLOTASK_HEADER_WORDS = 10,      /* words of a header, exactly */
+    PLOTASK_HEADER_WORDS = 18,      /* words of a header, exactly */
     PLOTASK_CONSTANTS = 1000000,    /* inked values are the numbers below this one */
     PLOTASK_FIRST_MARK = 1000001,   /* mark 1 as a cell; 1,000,000 itself is no cell */
     PLOTASK_LAST_MARK = 1000200,    /* mark 200 as a cell */
@@ -218,11 +219,15 @@ enum plotask_kind {
 /*
  * The header (the plot's head). To start an empty plot without a card, set relations and as many arities, and
  * everything else to 0. After that, only decode and insert need to write it.
+ *
+ * A host that writes used itself keeps counts right too. One that was compiled for a header without counts, which is
+ * shorter, is refused with 41 by every call: compile it again.
  */
 struct plotask_header {
     uint32_t relations;                  /* number of sheets, 1 to 8 */
     uint32_t arities[PLOTASK_RELATIONS]; /* columns of each sheet, 1 to 6; 0 for a sheet that does not exist */
     uint32_t used;                       /* words in use, at most 4,096 and at most the plot's length */
+    uint32_t counts[PLOTASK_RELATIONS];  /* rows of each sheet; 0 for a sheet that does not exist */
 };
 
 #ifdef __cplusplus
@@ -288,7 +293,8 @@ uint32_t plotask_decode(const uint8_t *card, size_t card_bytes, uint32_t *header
  *   relation              the row's sheet, counted from 0
  *   cells, cell_count     its cells, as many as the sheet has columns: inked values, or PLOTASK_MARK(m)
  *
- * Writes: 1 + cell_count words of the plot from index header.used, and header.used, which grows by as many.
+ * Writes: 1 + cell_count words of the plot from index header.used, header.used, which grows by as many, and the sheet's
+ * count in header.counts, which grows by 1.
  * Refuses: 41, 14, 27, 16, 42.
  */
 uint32_t plotask_insert(uint32_t *header, size_t header_words, uint32_t *plot, size_t plot_words, uint32_t relation,

@@ -113,10 +113,15 @@ pub record Described (h : Header) (ws table : List ℕ) : Type 0 where
   pub counts : take maxRelations table ≡ rowCounts (rowsFrom (h .arities) 0 (take (h .used) ws))
   pub arities : aritiesIn table ≡ h .arities
 
-module _ (h : Header) (ws table : List ℕ) (eight : length (h .arities) ≡ maxRelations)
-    (is : table ≡ rowCounts (rowsFrom (h .arities) 0 (take (h .used) ws)) ++ h .arities ++ replicate flagWords 0) where
+module _ (h : Header) (ws table : List ℕ) (eight : length (h .arities) ≡ maxRelations) (is-sound : sound h ws ≡ true)
+    (is-written : table ≡ h .counts ++ h .arities ++ replicate flagWords 0) where
   abbrev rs : List Row
   rs = rowsFrom (h .arities) 0 (take (h .used) ws)
+
+  -- the header's counts are those of the rows
+  is : table ≡ rowCounts rs ++ h .arities ++ replicate flagWords 0
+  unfolding rows
+  is = is-written ∙ ap (λ (l : List ℕ). l ++ h .arities ++ replicate flagWords 0) (sound-gives h ws is-sound .counted)
 
   pub described : Described h ws table
   described = record {

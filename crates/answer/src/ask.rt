@@ -34,8 +34,9 @@ fn answer_listed(
 {
     let used = header.used as usize;
     let arities = header.arities;
+    let counts = header.counts;
     let mut known = [0u32; 144];
-    describe(&instance[..used], &arities, &mut known);
+    describe(&counts, &arities, &mut known);
     answer_top(&instance[..used], query, &known, values, candidate, budget)
 }
 

@@ -74,8 +74,9 @@ pub fn ask_unlisted(
         Answer::Done(_) => {
             let used = header.used as usize;
             let arities = header.arities;
+            let counts = header.counts;
             let mut known = [0u32; 144];
-            describe(&instance[..used], &arities, &mut known);
+            describe(&counts, &arities, &mut known);
             pass_for(&instance[..used], query, &mut known);
             answer_top(
                 &instance[..used],

@@ -2,9 +2,9 @@
 use Prim.Native.Nat.{ℕ, suc, _+_, _^_, _≤_, _<_}
 use mathlib.Core.Path.{_≡_, ap, _∙_}
 use mathlib.Core.Bool.{true}
-use mathlib.Core.List.{List, [], _∷_, _++_, map, append-nil}
+use mathlib.Core.List.{List, [], _++_, map, append-nil}
 use native.Mathlib.Omega.{arith}
-use lib.ListN.{length, take, drop, length-append}
+use lib.ListN.{length, take, drop}
 use lib.Seq.{take-append-seam}
 use lib.Dec.{leb}
 use borrow.Author.Tests.{le-leb}
@@ -21,19 +21,12 @@ use Rattle.instance.specs.Blanks.{highest}
 use Rattle.instance.specs.Rows.{rowsWellFormed, wordsOf}
 use Rattle.instance.specs.Sound.{sound, rows, headerFor}
 use Rattle.instance.proofs.Blanks.{fullRecord, no-blanks, numbered-rows, highest-full}
+use Rattle.instance.proofs.Rows.{rows-at-most}
 use Rattle.instance.proofs.Sound.{sound-gives}
 use Rattle.card.specs.Format.{Card, readCard}
 use Rattle.card.specs.Encode.{recordsBytes, cardBytes, encoded, encodedBytes}
 use Rattle.card.specs.Decode.{accepted, decodedFrom, decoded}
 use Rattle.card.proofs.Bytes.{read-records, read-head}
-
--- a row takes at least one word
-rows-at-most : (rs : List Row) → length rs ≤ length (wordsOf rs)
-unfolding wordsOf
-rows-at-most [] = omega arith
-rows-at-most (r ∷ rs) =
-    let l : length rs ≤ length (wordsOf rs) = rows-at-most rs in
-    simp length-append (omega arith)
 
 -- the card that has a full record for each row
 abbrev pub fullCard : Header → List Row → Card

@@ -41,7 +41,7 @@ pub fn round_trip() {
 // Writes a card of one row, with n words in use, and shows the bytes afterwards.
 fn write_card(name: &[u8], n: u32, out: &mut [u8]) {
     let plot = [0u32, 5];
-    let answer = encode(one_sheet(1, n), &plot, out);
+    let answer = encode(one_sheet(1, n, 1), &plot, out);
     show::answer(name, answer);
     show::bytes(out);
 }

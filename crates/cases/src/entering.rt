@@ -24,7 +24,7 @@ pub fn rows() {
     let pair = [1_000_200u32, 1_000_001];
     let first = enter_cell(
         b"a row of one cell",
-        two_sheets(1, 2, 0),
+        two_sheets(1, 2, 0, 0, 0),
         &mut plot,
         999_999,
     );
@@ -43,7 +43,7 @@ pub fn rows() {
 // Enters a row that a plot of two empty sheets refuses, and shows the words afterwards.
 fn turned_away(name: &[u8], relation: u32, cells: &[u32]) {
     let mut plot = [7u32; 4];
-    enter(name, two_sheets(1, 2, 0), &mut plot, relation, cells);
+    enter(name, two_sheets(1, 2, 0, 0, 0), &mut plot, relation, cells);
     show::words(&plot);
 }
 
@@ -60,20 +60,29 @@ pub fn refused() {
 }
 
 // Enters a row of one cell into a plot with the given header and words.
-fn unsound(name: &[u8], relations: u32, arities: [u32; 8], used: u32, words: [u32; 4]) {
+fn unsound(
+    name: &[u8],
+    relations: u32,
+    arities: [u32; 8],
+    used: u32,
+    counts: [u32; 8],
+    words: [u32; 4],
+) {
     let mut plot = words;
-    enter_cell(name, sheets(relations, arities, used), &mut plot, 5);
+    enter_cell(name, sheets(relations, arities, used, counts), &mut plot, 5);
 }
 
 pub fn unsound_headers() {
+    let none = [0u32; 8];
     let words = [0u32; 4];
-    unsound(b"no sheet", 0, [0, 0, 0, 0, 0, 0, 0, 0], 0, words);
-    unsound(b"nine sheets", 9, [1, 1, 1, 1, 1, 1, 1, 1], 0, words);
+    unsound(b"no sheet", 0, [0, 0, 0, 0, 0, 0, 0, 0], 0, none, words);
+    unsound(b"nine sheets", 9, [1, 1, 1, 1, 1, 1, 1, 1], 0, none, words);
     unsound(
         b"a sheet of no column",
         1,
         [0, 0, 0, 0, 0, 0, 0, 0],
         0,
+        none,
         words,
     );
     unsound(
@@ -81,6 +90,7 @@ pub fn unsound_headers() {
         1,
         [7, 0, 0, 0, 0, 0, 0, 0],
         0,
+        none,
         words,
     );
     unsound(
@@ -88,6 +98,7 @@ pub fn unsound_headers() {
         1,
         [1, 0, 0, 0, 0, 0, 0, 1],
         0,
+        none,
         words,
     );
     unsound(
@@ -95,18 +106,29 @@ pub fn unsound_headers() {
         1,
         [1, 0, 0, 0, 0, 0, 0, 0],
         5,
+        none,
         words,
     );
 }
 
 pub fn unsound_words() {
     let arities = [1u32, 2, 0, 0, 0, 0, 0, 0];
-    unsound(b"a sheet number too high", 2, arities, 2, [2, 5, 0, 0]);
+    let none = [0u32; 8];
+    let second = [0u32, 1, 0, 0, 0, 0, 0, 0];
+    unsound(
+        b"a sheet number too high",
+        2,
+        arities,
+        2,
+        none,
+        [2, 5, 0, 0],
+    );
     unsound(
         b"a word that is no cell",
         2,
         arities,
         2,
+        [1, 0, 0, 0, 0, 0, 0, 0],
         [0, 1_000_000, 0, 0],
     );
     unsound(
@@ -114,9 +136,48 @@ pub fn unsound_words() {
         2,
         arities,
         2,
+        second,
         [1, 5, 0, 0],
     );
-    unsound(b"the same row, whole", 2, arities, 3, [1, 5, 5, 0]);
+    unsound(b"the same row, whole", 2, arities, 3, second, [1, 5, 5, 0]);
+}
+
+// A plot whose words are sound, with counts that are not.
+pub fn unsound_counts() {
+    let arities = [1u32, 2, 0, 0, 0, 0, 0, 0];
+    let words = [1u32, 5, 5, 0];
+    unsound(
+        b"a row that is not counted",
+        2,
+        arities,
+        3,
+        [0, 0, 0, 0, 0, 0, 0, 0],
+        words,
+    );
+    unsound(
+        b"a row counted twice",
+        2,
+        arities,
+        3,
+        [0, 2, 0, 0, 0, 0, 0, 0],
+        words,
+    );
+    unsound(
+        b"a row counted in another sheet",
+        2,
+        arities,
+        3,
+        [1, 0, 0, 0, 0, 0, 0, 0],
+        words,
+    );
+    unsound(
+        b"a count of a sheet that does not exist",
+        2,
+        arities,
+        3,
+        [0, 1, 0, 0, 0, 0, 0, 1],
+        words,
+    );
 }
 
 // Enters the same row n times.
@@ -134,7 +195,7 @@ fn repeat(header: Header, plot: &mut [u32], cells: &[u32], n: u32) -> Header {
 // Enters rows of two words until 4,096 words are in use, and then one more.
 pub fn until_full() {
     let mut plot = [0u32; 4098];
-    let nearly = repeat(one_sheet(1, 0), &mut plot, &[5], 2047);
+    let nearly = repeat(one_sheet(1, 0, 0), &mut plot, &[5], 2047);
     let full = enter_cell(b"the row that makes 4,096 words", nearly, &mut plot, 5);
     let last = enter_cell(b"one row more", full, &mut plot, 5);
     show::header(last);

@@ -13,7 +13,7 @@ const ROWS: [u32; 8] = [0, 1_000_200, 1_000_001, 0, 1_000_001, 5, 1_000_001, 7];
 // Fills in a fresh copy of the rows, and shows the answer; if accepted, also the words, the counts of marks 1, 2 and 200, and the word after the counts.
 fn fill(name: &[u8], mark: u32, cell: u32) {
     let mut plot = ROWS;
-    let header = one_sheet(2, 6);
+    let header = one_sheet(2, 6, 2);
     let answer = substitute(header, &mut plot, mark, cell);
     show::answer(name, answer);
     if let Answer::Done(_) = answer {
@@ -45,7 +45,7 @@ pub fn refused() {
 // A fill of a plot whose last row lacks a cell.
 fn unsound() {
     let mut plot = ROWS;
-    let answer = substitute(one_sheet(2, 5), &mut plot, 1, 201);
+    let answer = substitute(one_sheet(2, 5, 2), &mut plot, 1, 201);
     show::answer(b"a fill of an unsound plot", answer);
     show::words(&plot);
 }
@@ -60,8 +60,8 @@ fn count(name: &[u8], header: Header, counts: &mut [u32]) {
 pub fn census() {
     let mut short = [9u32; 199];
     let mut counts = [9u32; 200];
-    let sheet = one_sheet(2, 6);
-    let none = sheets(0, [2, 0, 0, 0, 0, 0, 0, 0], 6);
+    let sheet = one_sheet(2, 6, 2);
+    let none = sheets(0, [2, 0, 0, 0, 0, 0, 0, 0], 6, [2, 0, 0, 0, 0, 0, 0, 0]);
     count(b"a census into 199 words", sheet, &mut short);
     count(b"a census of an unsound plot", none, &mut counts);
     count(b"a census into 200 words", sheet, &mut counts);

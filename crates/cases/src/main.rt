@@ -13,6 +13,7 @@ fn main() {
     entering::refused();
     entering::unsound_headers();
     entering::unsound_words();
+    entering::unsound_counts();
     entering::until_full();
     filling::accepted();
     filling::refused();

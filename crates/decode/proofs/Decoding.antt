@@ -20,6 +20,7 @@ use Rattle.instance.specs.declared.header.Header.{Header}
 use Rattle.instance.specs.Header.{aritiesWellFormed, maxColumns, maxWords, headerWith}
 use Rattle.instance.specs.Blanks.{Record, blanksIn, blanks, highest, highestIn, numbered, numberedRows}
 use Rattle.instance.specs.Room.{hasRoom}
+use Rattle.instance.specs.RowCounts.{rowCounts}
 use Rattle.instance.specs.Rows.{wordsOf}
 use Rattle.instance.proofs.Blanks.{numbered-length}
 use Rattle.instance.proofs.Rows.{arity-low}
@@ -30,7 +31,7 @@ use Rattle.card.specs.Decode.{Decoded, decoded, decodedFrom, accepted, noHeader
 use Rattle.decode.specs.declared.measure.Total.{Total}
 use Rattle.decode.specs.declared.measure.Needed.the-variants as needed
 use Rattle.decode.specs.Measure.{openedHead, measuredRecords, wordsIn, total}
-use Rattle.decode.specs.Write.{WriteRows, wordsRead}
+use Rattle.decode.specs.Write.{WriteRows, rowsRead, wordsRead}
 use Rattle.decode.proofs.Fields.{written-or-blank}
 use Rattle.decode.proofs.Records.{record-read}
 use Rattle.decode.proofs.Opening.{Opened}
@@ -144,9 +145,9 @@ module _ (card slice : List ℕ) where
       size : (m : ℕ) → length (wordsOf (numberedRows m (c .records))) ≡ t .words
       size m = rw (c .total-is) (words-count m (c .records))
 
-      -- the words of the rows are those that the second pass writes
-      words-are : wordsRead n ars count (t .highest + 1) (drop (n + 3) card) ≡ wordsOf (numberedRows (suc (highest (c .records))) (c .records))
-      words-are = rw (c .was-read, next-is)
+      -- the rows are those that the second pass writes
+      rows-are : rowsRead n ars count (t .highest + 1) (drop (n + 3) card) ≡ numberedRows (suc (highest (c .records))) (c .records)
+      rows-are = rw (c .was-read, next-is)
 
       inside : length (c .rest) ≤ length card
       inside = omega (arith, c .known .shorter, length-drop (n + 3) card)
@@ -178,13 +179,15 @@ module _ (card slice : List ℕ) where
 
       pub may-write : t .highest + t .blanks ≤ nulls → hasRoom (t .words) (length slice) ≡ true → WriteRows slice card n ars count (t .highest + 1)
       may-write m r =
-          let fits : t .words ≤ length slice =
-          leb-true (t .words) (length slice) (and-parts (leb (t .words) maxWords) (leb (t .words) (length slice)) r .1) in
+          let p = and-parts (leb (t .words) maxWords) (leb (t .words) (length slice)) r in
+          let fits : t .words ≤ length slice = leb-true (t .words) (length slice) (p .1) in
+          let short : t .words ≤ maxWords = leb-true (t .words) maxWords (p .0) in
           record {
             few = h .few;
             narrow = λ x known. arity-low n ars x (h .arities-well-formed);
             reads = rw (c .was-read);
             free = rw (c .was-read) (omega (arith, sum-is, next-is));
+            short = rw (c .was-read) (omega (arith, size (t .highest + 1)));
             room = rw (c .was-read) (omega (arith, size (t .highest + 1)));
           }
 
@@ -192,8 +195,8 @@ module _ (card slice : List ℕ) where
           → decoded card slice
           ≡ record {
             answer = Done (t .words);
-            header = headerWith n ars (t .words);
+            header = headerWith n ars (t .words) (rowCounts (rowsRead n ars count (t .highest + 1) (drop (n + 3) card)));
             words = overwrite (wordsRead n ars count (t .highest + 1) (drop (n + 3) card)) slice;
           }
       unfolding decodedFrom accepted
-      all-hold l m r = c .whole ∙ rw (words-are, ends l, enough m, size (suc (highest (c .records))), r)
+      all-hold l m r = c .whole ∙ rw (rows-are, ends l, enough m, size (suc (highest (c .records))), r)

@@ -28,7 +28,7 @@ fn refused(why: u32) -> Restarted
     ensures header { λ r. ⌜ r .header ≡ noHeader ⌝ }
     ensures log { λ r. ⌜ r .log ≡ fresh ⌝ }
 {
-    let header = header_with(0, [0u32; 8], 0);
+    let header = header_with(0, [0u32; 8], 0, [0u32; 8]);
     Restarted {
         answer: Answer::Refused(why),
         header,
@@ -36,12 +36,12 @@ fn refused(why: u32) -> Restarted
     }
 }
 
-fn stored(relations: u32, arities: [u32; 8], used: u32) -> Restarted
+fn stored(relations: u32, arities: [u32; 8], used: u32, counts: [u32; 8]) -> Restarted
     ensures answer { λ r. ⌜ r .answer ≡ Done used ⌝ }
-    ensures header { λ r. ⌜ r .header ≡ headerWith relations arities used ⌝ }
+    ensures header { λ r. ⌜ r .header ≡ headerWith relations arities used counts ⌝ }
     ensures log { λ r. ⌜ r .log ≡ fresh ⌝ }
 {
-    let header = header_with(relations, arities, used);
+    let header = header_with(relations, arities, used, counts);
     Restarted {
         answer: Answer::Done(used),
         header,
@@ -84,7 +84,7 @@ pub fn decode(card: &[u8], instance: &mut [u32]) -> Restarted
     if !has_room(total.words as usize, instance.len()) {
         return refused(NO_ROOM);
     }
-    write_rows(
+    let counts = write_rows(
         instance,
         card,
         relations,
@@ -92,5 +92,5 @@ pub fn decode(card: &[u8], instance: &mut [u32]) -> Restarted
         count,
         total.highest + 1,
     );
-    stored(relations, arities, total.words)
+    stored(relations, arities, total.words, counts)
 }

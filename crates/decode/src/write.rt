@@ -8,9 +8,10 @@ ghost use Rattle.calculus.specs.Cell.{nulls};
 ghost use Rattle.calculus.specs.Overwrite.{overwrite};
 ghost use Rattle.instance.specs.Blanks.{numbered};
 ghost use Rattle.instance.specs.Header.{maxColumns};
+ghost use Rattle.instance.specs.RowCounts.{rowCounts};
 ghost use Rattle.parse.specs.Parse.{isRead, got};
 ghost use Rattle.card.specs.Format.{readFields};
-ghost use Rattle.decode.specs.Write.{WriteRows, wordsRead};
+ghost use Rattle.decode.specs.Write.{WriteRows, rowsRead, wordsRead};
 use calculus::cell::CONSTANTS;
 use parse::number::byte;
 use parse::number::number;
@@ -41,7 +42,7 @@ fn write_row(part: &mut [u32], relation: u32, arity: usize, map: u32, fields: &[
     }
 }
 
-// Writes `count` rows from the first word of `instance`; the first pass has checked the records.
+// Writes `count` rows from the first word of `instance`, and returns how many of them each relation has; the first pass has checked the records.
 pub fn write_rows(
     instance: &mut [u32],
     card: &[u8],
@@ -49,10 +50,12 @@ pub fn write_rows(
     arities: &[u32; 8],
     count: u32,
     next: u32,
-)
+) -> [u32; 8]
     requires { ⌜ WriteRows (now instance) (now card) relations (now arities) count next ⌝ }
-    ensures { λ _. ⌜ now (instance .exit) ≡ overwrite (wordsRead relations (now (arities .entry)) count next (drop (relations + 3) (now (card .entry)))) (now (instance .entry)) ⌝ }
+    ensures counts { λ r. ⌜ r ≡ rowCounts (rowsRead relations (now (arities .entry)) count next (drop (relations + 3) (now (card .entry)))) ⌝ }
+    ensures words { λ _. ⌜ now (instance .exit) ≡ overwrite (wordsRead relations (now (arities .entry)) count next (drop (relations + 3) (now (card .entry)))) (now (instance .entry)) ⌝ }
 {
+    let mut counts = [0u32; 8];
     let mut used = 0;
     let mut null = next;
     let mut at = relations as usize + 3;
@@ -71,9 +74,11 @@ pub fn write_rows(
             &card[first..],
             null,
         );
+        counts[relation as usize] += 1;
         used += 1 + arity;
         null += arity as u32 - written;
         at = first + 3 * written as usize;
         left -= 1;
     }
+    counts
 }

@@ -1,4 +1,4 @@
--- What the length of the header slice, ten words or not, makes of an answer and of what is lent. Assumes nothing.
+-- What the length of the header slice, that of a header or another, makes of an answer and of what is lent. Assumes nothing.
 use Prim.Native.Nat.{ℕ}
 use mathlib.Core.Path.{_≡_, sym, ap, _∙_}
 use mathlib.Core.List.{List}
@@ -18,12 +18,12 @@ module _ (hs : List ℕ) where
   pub kept-no : {A : Type 0} → (length hs ≡ headerLength → ⊥) → (new old : A) → ifHeaded hs new old ≡ old
   kept-no h new old = rw (ne-eqb (length hs) headerLength h)
 
-  module _ (ten : length hs ≡ headerLength) where
+  module _ (long : length hs ≡ headerLength) where
     pub headed-yes : (a : Answer) → headed hs a ≡ a
-    headed-yes a = rw (eq-eqb (length hs) headerLength ten)
+    headed-yes a = rw (eq-eqb (length hs) headerLength long)
 
     pub kept-yes : {A : Type 0} → (new old : A) → ifHeaded hs new old ≡ new
-    kept-yes new old = rw (eq-eqb (length hs) headerLength ten)
+    kept-yes new old = rw (eq-eqb (length hs) headerLength long)
 
     -- a call that was given the header in the slice
     module _ {h : Header} (is : h ≡ headerOf hs) where
@@ -33,7 +33,7 @@ module _ (hs : List ℕ) where
       pub left : {A : Type 0} (call : Header → A) (old : A) {x : A} → x ≡ call h → x ≡ ifHeaded hs (call (headerOf hs)) old
       left call old e = e ∙ ap call is ∙ sym (kept-yes (call (headerOf hs)) old)
 
--- a call that returns a number, leaves a slice of type A and stores a count: with a header slice of another length, and with one of ten words
+-- a call that returns a number, leaves a slice of type A and stores a count: with a header slice of another length, and with one of a header's
 module _ (hs : List ℕ) {A : Type 0} (call : Header → Answer) (leaves : Header → A) (old : A) (count : ℕ) where
   abbrev pub Counted : ℕ → A → ℕ → Type 0
   Counted r x n = (r ≡ numberOf (headed hs (call (headerOf hs)))) × ((x ≡ ifHeaded hs (leaves (headerOf hs)) old) × (n ≡ valueOf (headed hs (call (headerOf hs))) count))
@@ -45,6 +45,6 @@ module _ (hs : List ℕ) {A : Type 0} (call : Header → Answer) (leaves : Heade
 
   pub counted-yes :
       length hs ≡ headerLength → {h : Header} → h ≡ headerOf hs → {a : Answer} {x : A} {r n : ℕ} → a ≡ call h → x ≡ leaves h → r ≡ numberOf a → n ≡ valueOf a count → Counted r x n
-  counted-yes ten is ea ex er en =
-      let a = answered hs ten is call ea in
-      (er ∙ ap numberOf a, (left hs ten is leaves old ex, en ∙ ap (λ (x : Answer). valueOf x count) a))
+  counted-yes long is ea ex er en =
+      let a = answered hs long is call ea in
+      (er ∙ ap numberOf a, (left hs long is leaves old ex, en ∙ ap (λ (x : Answer). valueOf x count) a))

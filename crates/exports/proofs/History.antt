@@ -1,4 +1,4 @@
--- The exported calls follow the history: with a header of ten words they are the library's calls. Assumes nothing.
+-- The exported calls follow the history: with a header slice of the right length they are the library's calls. Assumes nothing.
 use Prim.Native.Nat.{ℕ, suc, _+_}
 use mathlib.Core.Path.{_≡_, refl, sym, ap, ap₂, _∙_, subst}
 use mathlib.Core.Bool.{true, false≢true}
@@ -6,18 +6,19 @@ use mathlib.Core.List.{List, [], _∷_, _++_, map}
 use native.Mathlib.Omega.{arith}
 use borrow.Author.Tests.{eqb-true}
 use lib.Dec.{eqb}
-use lib.ListN.{length, getD, take, drop, length-append, length-drop, drop-of-length-le, take-append-drop}
-use lib.Seq.{take-at, drop-drop, drop-cons, length-take-le, getD-append-add}
+use lib.ListN.{length}
 use Rattle.calculus.specs.declared.answer.Answer.{Answer}
 use Rattle.calculus.specs.declared.answer.Answer.the-variants.{Done, Refused}
 use Rattle.calculus.specs.Answer.{numberOf, after}
 use Rattle.calculus.specs.Refusal.{unsound, log-empty, bad-log}
 use Rattle.calculus.proofs.Answers.{demand-done}
 use Rattle.instance.specs.declared.header.Header.{Header}
-use Rattle.instance.specs.Header.{maxRelations, headerWith}
+use Rattle.instance.specs.Header.{maxRelations}
 use Rattle.calculus.specs.Row.{Row}
 use Rattle.instance.specs.Sound.{sound, rows, headerFor}
 use Rattle.instance.specs.Insert.{inserted, insertedHeader, insertedWords}
+use Rattle.instance.proofs.RowCounts.{row-counts-size}
+use Rattle.instance.proofs.Sound.{sound-gives}
 use Rattle.card.specs.Decode.{decoded}
 use Rattle.card.proofs.Sound.{decoded-sound}
 use Rattle.log.specs.Log.{fresh, logged, loggedWords, loggedLog, loggedUsed, undone, undoneWords, undoneUsed}
@@ -32,40 +33,11 @@ use Rattle.exports.specs.Numbers.{isDone}
 use Rattle.exports.specs.History.{Step, fills, undoes, inserts, State, stepAnswer, stepState, seenOf, stepsSeen, stateAfter, stepOf, historySeen, eventsOf, start, stateOf, Ended, ExportedHistory, HistoryFromCard}
 use Rattle.exports.proofs.Headed.{headed-yes, kept-yes}
 use Rattle.exports.proofs.Numbers.{every-return}
+use Rattle.exports.proofs.HeaderWords.{Eight, words-size, header-back, words-back, has-eight}
 
--- ---- headers as words
-
--- eight numbers
-Eight : Header → Type 0
-Eight h = length (h .arities) ≡ maxRelations
-
-eight : (h : Header) → length (h .arities) ≡ maxRelations → Eight h
-unfolding Eight
-eight h e = e
-
-words-size : (h : Header) → Eight h → length (headerWords h) ≡ headerLength
-unfolding Eight headerWords
-words-size h e = ap suc (length-append (h .arities) (h .used ∷ [])) ∙ omega arith
-
-header-back : (h : Header) → Eight h → headerOf (headerWords h) ≡ h
-unfolding Eight headerOf headerWords
-header-back h e =
-    let at : maxRelations ≡ length (h .arities) + 0 = omega arith in
-    let last : getD (h .arities ++ h .used ∷ []) maxRelations 0 ≡ h .used = ap (λ (k : ℕ). getD (h .arities ++ h .used ∷ []) k 0) at ∙ getD-append-add (h .arities) (h .used ∷ []) 0 0 in
-    ap₂ (λ (ars : List ℕ) (u : ℕ). headerWith (h .relations) ars u) (take-at (h .arities) (h .used ∷ []) maxRelations e) last
-
-module _ (hs : List ℕ) (ten : length hs ≡ headerLength) where
-  words-back : headerWords (headerOf hs) ≡ hs
-  unfolding headerOf headerWords
-  words-back =
-      let rest : drop 8 (drop 1 hs) ≡ getD hs 9 0 ∷ [] =
-      drop-drop 8 1 hs ∙ drop-cons hs 9 0 (omega arith) ∙ ap (λ (l : List ℕ). getD hs 9 0 ∷ l) (drop-of-length-le hs {i = 10} (omega arith))
-      in
-      ap (λ (l : List ℕ). getD hs 0 0 ∷ (take 8 (drop 1 hs) ++ l)) (sym rest) ∙ ap (λ (l : List ℕ). getD hs 0 0 ∷ l) (take-append-drop 8 (drop 1 hs)) ∙ sym (drop-cons hs 0 0 (omega arith))
-
-  has-eight : Eight (headerOf hs)
-  unfolding Eight headerOf
-  has-eight = length-take-le 8 (drop 1 hs) (omega (arith, length-drop 1 hs))
+-- a sound plot's header has as many counts as its rows have
+eight : (h : Header) (ws : List ℕ) → length (h .arities) ≡ maxRelations → sound h ws ≡ true → Eight h
+eight h ws e s = record { arities = e; counts = ap length (sound-gives h ws s .counted) ∙ row-counts-size (rows h ws) }
 
 -- ---- one step
 
@@ -79,15 +51,15 @@ same :
 same p q r t = rw (p, q, r, t) refl
 
 module _ (s : library.State) (e : Eight (s .header)) where
-  ten : length (headerWords (s .header)) ≡ headerLength
-  ten = words-size (s .header) e
+  long : length (headerWords (s .header)) ≡ headerLength
+  long = words-size (s .header) e
 
   -- the library's call, made with the header in the slice
   made : {A : Type 0} (call : Header → A) (old : A) → ifHeaded (headerWords (s .header)) (call (headerOf (headerWords (s .header)))) old ≡ call (s .header)
-  made call old = kept-yes (headerWords (s .header)) ten (call (headerOf (headerWords (s .header)))) old ∙ ap call (header-back (s .header) e)
+  made call old = kept-yes (headerWords (s .header)) long (call (headerOf (headerWords (s .header)))) old ∙ ap call (header-back (s .header) e)
 
   told : (call : Header → Answer) → headed (headerWords (s .header)) (call (headerOf (headerWords (s .header)))) ≡ call (s .header)
-  told call = headed-yes (headerWords (s .header)) ten (call (headerOf (headerWords (s .header)))) ∙ ap call (header-back (s .header) e)
+  told call = headed-yes (headerWords (s .header)) long (call (headerOf (headerWords (s .header)))) ∙ ap call (header-back (s .header) e)
 
   answer-is : (p : Step) → stepAnswer p (of s) ≡ library.stepAnswer (stepOf p) s
   unfolding logAnswer undoAnswer insertAnswer
@@ -119,13 +91,16 @@ module _ (s : library.State) (e : Eight (s .header)) where
   state-is (inserts r) = same (insert-header r) (made (λ h. insertedWords h (s .words) (r .relation) (r .cells)) (s .words)) refl refl
 
   eight-kept : (p : Step) → Eight (library.stepState (stepOf p) s .header)
-  unfolding Eight insertedHeader
+  unfolding insertedHeader
   eight-kept (fills m c count) = e
   eight-kept (undoes count) = e
   eight-kept (inserts r) = go (inserted (s .header) (s .words) (r .relation) (r .cells))
     where
-      go : (a : Answer) → length (after a (headerFor (s .header .relations) (s .header .arities) (rows (s .header) (s .words) ++ r ∷ [])) (s .header) .arities) ≡ maxRelations
-      go (Done k) = e
+      left : Answer → Header
+      left a = after a (headerFor (s .header .relations) (s .header .arities) (rows (s .header) (s .words) ++ r ∷ [])) (s .header)
+
+      go : (a : Answer) → Eight (left a)
+      go (Done k) = record { arities = e .arities; counts = row-counts-size (rows (s .header) (s .words) ++ r ∷ []) }
       go (Refused k) = e
 
 -- ---- a list of steps
@@ -159,12 +134,12 @@ refused-by (Done n) r some e = absurd (some (sym e))
 refused-by (Refused q) r some e = ap Refused e
 
 pub exported-history : ExportedHistory
-exported-history hs ws log ps ten is-sound =
+exported-history hs ws log ps long is-sound =
     let h = headerOf hs in
     let s₀ = library.start h ws log in
     let s = library.stateAfter (map stepOf ps) s₀ in
-    let begins : start hs ws log ≡ of s₀ = ap (λ (l : List ℕ). start l ws log) (sym (words-back hs ten)) in
-    let steps = steps-are ps s₀ (has-eight hs ten) in
+    let begins : start hs ws log ≡ of s₀ = ap (λ (l : List ℕ). start l ws log) (sym (words-back hs long)) in
+    let steps = steps-are ps s₀ (has-eight hs long) in
     let ends : stateAfter ps (start hs ws log) ≡ of s = ap (stateAfter ps) begins ∙ steps .1 .0 in
     let holds = history-holds h ws log (map stepOf ps) is-sound in
     let answers : (p : Step) → stepAnswer p (stateAfter ps (start hs ws log)) ≡ library.stepAnswer (stepOf p) s =
@@ -199,7 +174,7 @@ history-from-card card hs ws log used ps z = go (decodeAnswer card hs ws) refl (
           ap (λ (a : Answer). after a fresh used) q,
           subst (λ (x : List ℕ). Ended x (decodeWords card hs ws) log ps) (sym header)
               (subst (λ (x : List ℕ). Ended (headerWords h) x log ps) (sym words)
-              (exported-history (headerWords h) (decoded card ws .words) log ps (words-size h (eight h (made .eight)))
-              (ap (λ (x : Header). sound x (decoded card ws .words)) (header-back h (eight h (made .eight))) ∙ made .is-sound))),
+              (exported-history (headerWords h) (decoded card ws .words) log ps (words-size h (eight h (decoded card ws .words) (made .eight) (made .is-sound)))
+              (ap (λ (x : Header). sound x (decoded card ws .words)) (header-back h (eight h (decoded card ws .words) (made .eight) (made .is-sound))) ∙ made .is-sound))),
         )
     go (Refused r) q done = absurd (false≢true done)

@@ -47,7 +47,7 @@ record Known (ns : List ℕ) (r : ℕ) : Type 0 where
 AllKnown : List ℕ → Answer → Type 0
 AllKnown ns a = (r : ℕ) → a ≡ Refused r → Known ns r
 
--- the library's call, which is made if the header has ten words
+-- the library's call, which is made if the header slice has the right length
 known : (c : Call) (hs ws ns : List ℕ) → listed unsound ns ≡ true → ((r : ℕ) → listed r (numbers c) ≡ true → listed r ns ≡ true) → AllKnown ns (headed hs (answerTo c ws))
 unfolding AllKnown
 known c hs ws ns first more r = go (eqb (length hs) headerLength)

@@ -1,4 +1,4 @@
--- Demand 3 holds for the exported calls: with a header of ten words they are the library's, and with any other no question gets a verdict. Assumes
+-- Demand 3 holds for the exported calls: with a header slice of the right length they are the library's, and with any other no question gets a verdict. Assumes
 -- nothing.
 use Prim.Native.Nat.{ℕ}
 use mathlib.Core.Path.{_≡_, refl, sym, ap, _∙_}
@@ -29,21 +29,21 @@ use Rattle.exports.specs.Steps.{Instance, answerOn, wordsLeft, Making, p
 use Rattle.exports.specs.Rerun.{start, modelAfter, ExportedRerun, ExportedDemandThree}
 use Rattle.exports.proofs.Headed.{headed-yes, kept-yes}
 
-module _ (hs : List ℕ) (ten : length hs ≡ headerLength) where
+module _ (hs : List ℕ) (long : length hs ≡ headerLength) where
   -- a fill by the exported call is a fill by the library's call
   fill-words : (k : Making) (m c : ℕ) (ws : List ℕ) → wordsLeft (fillJob k m c) hs ws ≡ fillWords (headerOf hs) (fillOf k m c) ws
   unfolding substituteWords logWords
-  fill-words plainly m c ws = kept-yes hs ten (fillWords (headerOf hs) (fillOf plainly m c) ws) ws
-  fill-words (withLog log used) m c ws = kept-yes hs ten (fillWords (headerOf hs) (fillOf (withLog log used) m c) ws) ws
+  fill-words plainly m c ws = kept-yes hs long (fillWords (headerOf hs) (fillOf plainly m c) ws) ws
+  fill-words (withLog log used) m c ws = kept-yes hs long (fillWords (headerOf hs) (fillOf (withLog log used) m c) ws) ws
 
   fill-answer : (k : Making) (m c : ℕ) (ws : List ℕ) → answerOn (fillJob k m c) hs ws ≡ fillAnswer (headerOf hs) (fillOf k m c) ws
   unfolding substituteAnswer logAnswer
-  fill-answer plainly m c ws = headed-yes hs ten (fillAnswer (headerOf hs) (fillOf plainly m c) ws)
-  fill-answer (withLog log used) m c ws = headed-yes hs ten (fillAnswer (headerOf hs) (fillOf (withLog log used) m c) ws)
+  fill-answer plainly m c ws = headed-yes hs long (fillAnswer (headerOf hs) (fillOf plainly m c) ws)
+  fill-answer (withLog log used) m c ws = headed-yes hs long (fillAnswer (headerOf hs) (fillOf (withLog log used) m c) ws)
 
   ask-is : (ws qs candidate : List ℕ) (lent : Lent) (budget : ℕ) → askAnswer hs ws qs candidate lent budget ≡ ask (headerOf hs) ws qs candidate lent budget
   unfolding askAnswer
-  ask-is ws qs candidate lent budget = kept-yes hs ten (ask (headerOf hs) ws qs candidate lent budget) (asked.Refused unsound)
+  ask-is ws qs candidate lent budget = kept-yes hs long (ask (headerOf hs) ws qs candidate lent budget) (asked.Refused unsound)
 
   abbrev of : List ℕ → Instance
   of ws = record { header = hs; words = ws }
@@ -68,10 +68,10 @@ module _ (hs : List ℕ) (ten : length hs ≡ headerLength) where
       rw (fill-answer k m c ws, follows-answer (headerOf hs) first f ws b g, e, more) refl
   fills-seen (calls c ∷ ss) first ws b g q = ap (fillsSeen ss) (q .0) ∙ fills-seen ss first ws b g (rw (q .0) at (q .1))
 
--- a question that gets a verdict has a header of ten words
-has-ten : (hs ws qs candidate : List ℕ) (lent : Lent) (budget : ℕ) (t : Truth) (n : ℕ) → askAnswer hs ws qs candidate lent budget ≡ asked.Verdict t n → length hs ≡ headerLength
+-- a question that gets a verdict has a header slice of the right length
+has-length : (hs ws qs candidate : List ℕ) (lent : Lent) (budget : ℕ) (t : Truth) (n : ℕ) → askAnswer hs ws qs candidate lent budget ≡ asked.Verdict t n → length hs ≡ headerLength
 unfolding askAnswer
-has-ten hs ws qs candidate lent budget t n e = go (eqb (length hs) headerLength) refl
+has-length hs ws qs candidate lent budget t n e = go (eqb (length hs) headerLength) refl
   where
     go : (b : Bool) → eqb (length hs) headerLength ≡ b → length hs ≡ headerLength
     go true is = eqb-true (length hs) headerLength is
@@ -101,17 +101,17 @@ exported-demand-three p qs candidate lent budget ss lent′ budget′ truth cost
     verdict t n e =
         let hs = p .header in
         let ws = p .words in
-        let ten = has-ten hs ws qs candidate lent budget t n e in
-        let asks : ask (headerOf hs) ws qs candidate lent budget ≡ asked.Verdict t n = sym (ask-is hs ten ws qs candidate lent budget) ∙ e in
+        let long = has-length hs ws qs candidate lent budget t n e in
+        let asks : ask (headerOf hs) ws qs candidate lent budget ≡ asked.Verdict t n = sym (ask-is hs long ws qs candidate lent budget) ∙ e in
         let d = demand-three (headerOf hs) ws qs candidate lent budget (fillsAmong ss) lent′ budget′ longer larger t n asks in
         let sound = verdict-asked (headerOf hs) ws qs candidate lent budget t n asks .0 .is-sound in
-        let left = instance-after hs ten ss ws quiet in
+        let left = instance-after hs long ss ws quiet in
         let b =
         ap (λ (x : Instance). askAnswer (x .header) (x .words) qs (modelAfter p candidate ss .candidate) lent′ budget′) left ∙
-        ask-is hs ten (filledWords (headerOf hs) (fillsAmong ss) ws) qs (modelAfter p candidate ss .candidate) lent′ budget′ ∙ d .answers
+        ask-is hs long (filledWords (headerOf hs) (fillsAmong ss) ws) qs (modelAfter p candidate ss .candidate) lent′ budget′ ∙ d .answers
         in
         record {
-          answered = fills-seen hs ten ss ws ws (start p candidate) (record { is-sound = sound; holds = refl; long = refl; others = refl }) quiet;
+          answered = fills-seen hs long ss ws ws (start p candidate) (record { is-sound = sound; holds = refl; long = refl; others = refl }) quiet;
           header = ap (λ (x : Instance). x .header) left;
           words = ap (λ (x : Instance). x .words) left ∙ d .ran .words;
           number = ap askedNumber b;

@@ -1,4 +1,4 @@
--- The exported calls: those that `instance`, `log`, `card` and `answer` define, with a header that is a slice of ten words.
+-- The exported calls: those that `instance`, `log`, `card` and `answer` define, with a header that is a slice of words.
 use Prim.Native.Nat.{ℕ}
 use mathlib.Core.List.{List}
 use Rattle.calculus.specs.declared.answer.Answer.{Answer}

@@ -106,7 +106,7 @@ pub record Ended (hs ws log : List ℕ) (ps : List Step) : Type 0 where
   pub empty :
       (count : ℕ) → (numberOf (stepAnswer (undoes count) (stateAfter ps (start hs ws log))) ≡ log-empty) ↔ (fillsIn (eventsOf (headerOf hs) ws log ps) ≡ 0)
 
--- every sound plot with a header of ten words, every log and list of steps, refused ones included
+-- every sound plot with its header's words, every log and list of steps, refused ones included
 abbrev pub ExportedHistory : Type 0
 ExportedHistory =
     (hs ws log : List ℕ) (ps : List Step) → length hs ≡ headerLength → sound (headerOf hs) ws ≡ true → Ended hs ws log ps

@@ -1,7 +1,7 @@
--- A header as ten words: the number of relations, the eight arities, the words in use.
-use Prim.Native.Nat.{ℕ}
+-- A header as words: the number of relations, an arity for each of the eight, the words in use, and a row count for each.
+use Prim.Native.Nat.{ℕ, _+_}
 use mathlib.Core.Bool.{cond}
-use mathlib.Core.List.{List, [], _∷_, _++_}
+use mathlib.Core.List.{List, _∷_, _++_}
 use lib.ListN.{length, getD, take, drop}
 use lib.Dec.{eqb}
 use Rattle.calculus.specs.declared.answer.Answer.{Answer}
@@ -11,19 +11,33 @@ use Rattle.instance.specs.declared.header.Header.{Header}
 use Rattle.instance.specs.Header.{maxRelations, headerWith}
 use Rattle.calculus.specs.declared.answer.Answer.the-variants.{Refused}
 
+-- where each part begins, and the length
+abbrev pub relationsAt : ℕ
+relationsAt = 0
+
+abbrev pub aritiesAt : ℕ
+aritiesAt = relationsAt + 1
+
+abbrev pub usedAt : ℕ
+usedAt = aritiesAt + maxRelations
+
+abbrev pub countsAt : ℕ
+countsAt = usedAt + 1
+
 abbrev pub headerLength : ℕ
-headerLength = 10
+headerLength = countsAt + maxRelations
 
 unfoldable pub headerOf : List ℕ → Header
-headerOf hs = headerWith (getD hs 0 0) (take maxRelations (drop 1 hs)) (getD hs 9 0)
+headerOf hs =
+    headerWith (getD hs relationsAt 0) (take maxRelations (drop aritiesAt hs)) (getD hs usedAt 0) (take maxRelations (drop countsAt hs))
 
 unfoldable pub headerWords : Header → List ℕ
-headerWords h = h .relations ∷ h .arities ++ h .used ∷ []
+headerWords h = h .relations ∷ h .arities ++ h .used ∷ h .counts
 
 -- a slice of another length is no header, and so the plot breaks a rule of its section: 41, before any other refusal
 abbrev pub headed : List ℕ → Answer → Answer
 headed hs a = demand (eqb (length hs) headerLength) (Refused unsound) a
 
--- the new content if the header slice has ten words, otherwise the old
+-- the new content if the slice is as long as a header, otherwise the old
 abbrev pub ifHeaded : {A : Type 0} → List ℕ → A → A → A
 ifHeaded hs new old = cond (eqb (length hs) headerLength) new old

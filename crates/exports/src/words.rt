@@ -1,54 +1,36 @@
 // A header as words, and an answer as numbers.
 ghost use mathlib.Core.Path.{_≡_};
-ghost use lib.ListN.{length, take, drop};
+ghost use lib.ListN.{length};
 ghost use Rattle.calculus.specs.Answer.{after, numberOf, valueOf};
 ghost use Rattle.calculus.specs.Kleene.{rank};
 ghost use Rattle.answer.specs.Numbers.{askedNumber, verdictOf, costOf};
 ghost use Rattle.exports.specs.Words.{headerOf, headerWords, headerLength};
-ghost use Rattle.instance.specs.Header.{maxRelations};
-ghost use Prim.Native.Nat.{_+_, _≤_};
-ghost use lib.Seq.{paste};
 use answer::asked::Asked;
 use calculus::answer::Answer;
 use calculus::truth::Truth;
+use instance::eight::eight;
+use instance::eight::put_eight;
 use instance::header::Header;
 use instance::header::header_with;
 
-// the number of words of a header
-pub const HEADER: usize = 10;
+// where each part of a header begins among its words, and the number of these
+const RELATIONS: usize = 0;
 
-// Eight words of a slice, from index `at`.
-fn eight(words: &[u32], at: usize) -> [u32; 8]
-    requires { ⌜ (at + maxRelations ≤ length (now words)) × (at ≤ headerLength) ⌝ }
-    ensures { λ r. ⌜ r ≡ take maxRelations (drop at (now (words .entry))) ⌝ }
-{
-    let mut values = [0u32; 8];
-    let mut i = 0;
-    while i < 8 {
-        values[i] = words[at + i];
-        i += 1;
-    }
-    values
-}
+const ARITIES: usize = RELATIONS + 1;
 
-// Writes eight words into a slice, from index `at`.
-fn put_eight(words: &mut [u32], at: usize, values: &[u32; 8])
-    requires { ⌜ (at + maxRelations ≤ length (now words)) × (at ≤ headerLength) × (length (now values) ≡ maxRelations) ⌝ }
-    ensures { λ _. ⌜ now (words .exit) ≡ paste (now (words .entry)) at (now (values .entry)) maxRelations ⌝ }
-{
-    let mut i = 0;
-    while i < 8 {
-        words[at + i] = values[i];
-        i += 1;
-    }
-}
+const USED: usize = ARITIES + 8;
+
+const COUNTS: usize = USED + 1;
+
+pub const HEADER: usize = COUNTS + 8;
 
 pub fn read_header(words: &[u32]) -> Header
     requires { ⌜ length (now words) ≡ headerLength ⌝ }
     ensures { λ r. ⌜ r ≡ headerOf (now (words .entry)) ⌝ }
 {
-    let arities = eight(words, 1);
-    header_with(words[0], arities, words[9])
+    let arities = eight(words, ARITIES);
+    let counts = eight(words, COUNTS);
+    header_with(words[RELATIONS], arities, words[USED], counts)
 }
 
 fn write_header(words: &mut [u32], header: Header)
@@ -56,9 +38,11 @@ fn write_header(words: &mut [u32], header: Header)
     ensures { λ _. ⌜ now (words .exit) ≡ headerWords header ⌝ }
 {
     let arities = header.arities;
-    words[0] = header.relations;
-    put_eight(words, 1, &arities);
-    words[9] = header.used;
+    let counts = header.counts;
+    words[RELATIONS] = header.relations;
+    put_eight(words, ARITIES, &arities);
+    words[USED] = header.used;
+    put_eight(words, COUNTS, &counts);
 }
 
 // Writes the header that an accepted call leaves; a refused call leaves the words as they are.

@@ -69,7 +69,9 @@ pub fn insert(header: Header, instance: &mut [u32], relation: u32, cells: &[u32]
     let at = header.used as usize;
     write_row(&mut instance[at..], relation, cells);
     let arities = header.arities;
-    let grown = header_with(header.relations, arities, used);
+    let mut counts = header.counts;
+    counts[relation as usize] += 1;
+    let grown = header_with(header.relations, arities, used, counts);
     Stored {
         answer,
         header: grown,

@@ -1,13 +1,14 @@
 -- The rows of each relation, counted row by row. Assumes nothing.
 use Prim.Native.Nat.{ℕ, _+_, _<_}
-use mathlib.Core.Path.{_≡_, refl, sym, ap}
-use mathlib.Core.List.{List, _∷_}
-use lib.ListN.{length, getD, set}
+use mathlib.Core.Path.{_≡_, refl, sym, ap, _∙_}
+use mathlib.Core.List.{List, [], _∷_, _++_}
+use native.Mathlib.Omega.{arith}
+use lib.ListN.{length, getD, set, length-append}
 use Rattle.calculus.specs.Row.{Row}
 use Rattle.calculus.specs.Closed.{tuples}
-use Rattle.calculus.proofs.Counting.{Counting, counting-one}
+use Rattle.calculus.proofs.Counting.{Counting, counting-one, counting-ends}
 use Rattle.calculus.proofs.Table.{table-size, table-at}
-use Rattle.calculus.proofs.Tuples.{tuples-here, tuples-other}
+use Rattle.calculus.proofs.Tuples.{tuples-here, tuples-other, tuples-append}
 use Rattle.instance.specs.Header.{maxRelations}
 use Rattle.instance.specs.RowCounts.{rowCounts}
 
@@ -22,6 +23,11 @@ counted-row rs row rest counts l s =
     counting-one maxRelations _ _ _ counts (row .relation) l (ap length (tuples-here (row .relation) row rest refl))
     (λ j ne. ap length (tuples-other j row rest (λ e. ne (sym e)))) s
 
+-- no row is still to come
+pub counted-all : (rs : List Row) (counts : List ℕ) → RowsCounted rs [] counts → counts ≡ rowCounts rs
+unfolding tuples
+counted-all rs counts s = counting-ends maxRelations _ _ counts (λ k. refl) s
+
 -- the count of each relation, and the number of counts
 module _ (rs : List Row) where
   pub row-count-at : (r : ℕ) → r < maxRelations → getD (rowCounts rs) r 0 ≡ length (tuples r rs)
@@ -29,3 +35,16 @@ module _ (rs : List Row) where
 
   pub row-counts-size : length (rowCounts rs) ≡ maxRelations
   row-counts-size = table-size (λ r. length (tuples r rs)) maxRelations
+
+-- the counts of rows that others follow
+pub counts-before : (rs ss : List Row) → RowsCounted (rs ++ ss) ss (rowCounts rs)
+counts-before rs ss = record {
+  size = row-counts-size rs;
+  each = λ r l. omega (arith, row-count-at rs r l, ap length (tuples-append r rs ss), length-append (tuples r rs) (tuples r ss));
+}
+
+-- one row more
+pub counts-entered :
+    (rs : List Row) (row : Row) → row .relation < maxRelations →
+    rowCounts (rs ++ row ∷ []) ≡ set (rowCounts rs) (row .relation) (getD (rowCounts rs) (row .relation) 0 + 1)
+counts-entered rs row l = sym (counted-all (rs ++ row ∷ []) _ (counted-row (rs ++ row ∷ []) row [] (rowCounts rs) l (counts-before rs (row ∷ []))))

@@ -1,21 +1,24 @@
 -- What a sound instance gives, and what a scan's result says of it. Assumes nothing.
-use Prim.Native.Nat.{ℕ, _≤_}
-use mathlib.Core.Path.{_≡_, refl, ap, _∙_}
+use Prim.Native.Nat.{ℕ, _≤_, _<_}
+use mathlib.Core.Path.{_≡_, refl, sym, ap, _∙_}
 use mathlib.Core.Bool.{Bool, true, false}
 use mathlib.Core.List.{List}
 use native.Mathlib.Omega.{arith}
 use borrow.Author.Tests.{leb-true}
-use lib.ListN.{length, take}
+use lib.ListN.{length, take, getD}
 use lib.Seq.{length-take-le}
 use Rattle.instance.specs.declared.header.Header.{Header}
 use Rattle.instance.specs.declared.scan.Scanned.the-variants.{Rows, Unsound}
-use Rattle.instance.specs.Header.{maxWords}
+use Rattle.instance.specs.Header.{maxRelations, maxWords}
 use Rattle.instance.specs.Rows.{rowsWellFormed, wordsOf, rowsFrom}
 use Rattle.instance.specs.Sound.{sound, rows, headerFor, tally, scanned}
 use Rattle.instance.specs.InstanceWellFormed.{InstanceWellFormed}
+use Rattle.instance.specs.RowCounts.{rowCounts}
 use Rattle.calculus.proofs.Bools.{and-parts}
-use Rattle.instance.proofs.Rows.{Headed, headed, words-rows-well-formed, words-back}
+use Rattle.calculus.proofs.Tuples.{tuples-le, identical-is}
+use Rattle.instance.proofs.Rows.{Headed, headed, words-rows-well-formed, words-back, rows-at-most}
 use Rattle.instance.proofs.Headers.{header-same}
+use Rattle.instance.proofs.RowCounts.{row-count-at}
 
 -- the header, the words in use, and the rows
 pub record Sound (h : Header) (ws : List ℕ) : Type 0 where
@@ -26,17 +29,20 @@ pub record Sound (h : Header) (ws : List ℕ) : Type 0 where
   pub headed : Headed (h .relations) (h .arities)
   pub rows-well-formed : rowsWellFormed (h .relations) (h .arities) (rows h ws) ≡ true
   pub words : wordsOf (rows h ws) ≡ take (h .used) ws
+  pub counted : h .counts ≡ rowCounts (rows h ws)
   pub header : headerFor (h .relations) (h .arities) (rows h ws) ≡ h
 
 pub sound-gives : (h : Header) (ws : List ℕ) → sound h ws ≡ true → Sound h ws
 unfolding sound rows
 sound-gives h ws e =
-    let p = and-parts _ _ e in
+    let t = and-parts _ _ e in
+    let p = and-parts _ _ (t .0) in
     let q = and-parts _ _ (p .0) in
     let s = and-parts _ _ (q .0) in
     let few = leb-true _ _ (s .1) in
     let within = leb-true _ _ (q .1) in
     let in-use = length-take-le (h .used) ws within in
+    let counted = identical-is _ _ (t .1) in
     let words = words-back (h .relations) (h .arities) 0 (take (h .used) ws) (p .1) in
     record {
       within = within;
@@ -46,8 +52,24 @@ sound-gives h ws e =
       headed = headed _ _ (s .0);
       rows-well-formed = words-rows-well-formed _ _ 0 _ (p .1);
       words = words;
-      header = header-same h (rowsFrom (h .arities) 0 (take (h .used) ws)) (ap length words ∙ in-use);
+      counted = counted;
+      header = header-same h (rowsFrom (h .arities) 0 (take (h .used) ws)) (ap length words ∙ in-use) (sym counted);
     }
+
+-- no count exceeds the number of words
+pub count-low : (h : Header) (ws : List ℕ) → sound h ws ≡ true → (r : ℕ) → r < maxRelations → getD (h .counts) r 0 ≤ maxWords
+count-low h ws e r l =
+    let g = sound-gives h ws e in
+    omega (
+      arith,
+      ap (λ (l : List ℕ). getD l r 0) (g .counted),
+      row-count-at (rows h ws) r l,
+      tuples-le r (rows h ws),
+      rows-at-most (rows h ws),
+      ap length (g .words),
+      g .in-use,
+      g .few,
+    )
 
 -- what a scan's result says
 pub scanned-sound : (h : Header) (ws : List ℕ) (k : ℕ) → scanned h ws ≡ Rows k → sound h ws ≡ true

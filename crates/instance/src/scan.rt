@@ -5,6 +5,7 @@ ghost use Prim.Native.Nat.{_≤_};
 ghost use lib.ListN.{length};
 ghost use Rattle.instance.specs.Header.{headerWellFormed, maxRelations, maxWords};
 ghost use Rattle.calculus.specs.Answer.{Tells};
+ghost use Rattle.calculus.specs.Closed.{identical};
 ghost use Rattle.instance.specs.Sound.{rows, scanned, scannedWords, scannedAs, soundAnswer};
 use super::cells::are_cells;
 use super::header::COLUMNS;
@@ -46,11 +47,27 @@ fn header_well_formed(relations: u32, arities: &[u32; 8]) -> bool
     true
 }
 
-// The number of rows in the words, or `Unsound` if they are not whole rows of cells.
-fn scan_words(relations: u32, arities: &[u32; 8], words: &[u32]) -> Scanned
-    requires { ⌜ (headerWellFormed relations (now arities) ≡ true) × (length (now words) ≤ maxWords) ⌝ }
-    ensures { λ r. ⌜ r ≡ scannedWords relations (now (arities .entry)) (now (words .entry)) ⌝ }
+// Whether two lists of counts are the same.
+fn same_counts(counts: &[u32; 8], others: &[u32; 8]) -> bool
+    requires { ⌜ (length (now counts) ≡ maxRelations) × (length (now others) ≡ maxRelations) ⌝ }
+    ensures { λ r. ⌜ r ≡ identical (now (counts .entry)) (now (others .entry)) ⌝ }
 {
+    let mut i = 0;
+    while i < 8 {
+        if counts[i] != others[i] {
+            return false;
+        }
+        i += 1;
+    }
+    true
+}
+
+// The number of rows in the words, or `Unsound` if they are not whole rows of cells, as many of each relation as the counts say.
+fn scan_words(relations: u32, arities: &[u32; 8], counts: &[u32; 8], words: &[u32]) -> Scanned
+    requires { ⌜ (headerWellFormed relations (now arities) ≡ true) × (length (now words) ≤ maxWords) × (length (now counts) ≡ maxRelations) ⌝ }
+    ensures { λ r. ⌜ r ≡ scannedWords relations (now (arities .entry)) (now (counts .entry)) (now (words .entry)) ⌝ }
+{
+    let mut found = [0u32; 8];
     let mut rows: u32 = 0;
     let mut i = 0;
     while i < words.len() {
@@ -66,8 +83,12 @@ fn scan_words(relations: u32, arities: &[u32; 8], words: &[u32]) -> Scanned
         if !are_cells(&words[first..next]) {
             return Scanned::Unsound;
         }
+        found[w as usize] += 1;
         rows += 1;
         i = next;
+    }
+    if !same_counts(counts, &found) {
+        return Scanned::Unsound;
     }
     Scanned::Rows(rows)
 }
@@ -78,6 +99,7 @@ pub fn scan(header: Header, instance: &[u32]) -> Scanned
 {
     let relations = header.relations;
     let arities = header.arities;
+    let counts = header.counts;
     let used = header.used as usize;
     if WORDS < used {
         return Scanned::Unsound;
@@ -88,5 +110,5 @@ pub fn scan(header: Header, instance: &[u32]) -> Scanned
     if !header_well_formed(relations, &arities) {
         return Scanned::Unsound;
     }
-    scan_words(relations, &arities, &instance[..used])
+    scan_words(relations, &arities, &counts, &instance[..used])
 }

@@ -23,7 +23,7 @@ use Rattle.calculus.proofs.Bools.{and-intro, zero-not-one}
 use Rattle.calculus.proofs.Cells.{put-cell}
 use Rattle.calculus.proofs.Stores.{overwrite-length}
 use Rattle.instance.specs.declared.header.Header.{Header}
-use Rattle.instance.specs.Header.{maxWords, arityOf, headerWith}
+use Rattle.instance.specs.Header.{maxWords, arityOf}
 use Rattle.instance.specs.Room.{hasRoom}
 use Rattle.instance.specs.Rows.{areCells, rowWellFormed, rowsWellFormed, wordsOf}
 use Rattle.instance.specs.Sound.{sound, rows, headerFor}
@@ -31,7 +31,7 @@ use Rattle.instance.specs.Insert.{enterable, inserted, insertedHeader, inserted
 use Rattle.instance.specs.Substitute.{substituted}
 use Rattle.instance.proofs.Accepted.{insert-accepted, substitute-accepted}
 use Rattle.instance.proofs.Fillable.{words-done, words-refused}
-use Rattle.instance.proofs.Headers.{Holds, rows-sound, words-alike, map-alike}
+use Rattle.instance.proofs.Headers.{Holds, rows-sound, Alike, words-alike, header-alike, map-alike, alike-same, alike-back, alike-append}
 use Rattle.instance.proofs.Kept.{map-well-formed}
 use Rattle.instance.proofs.Rows.{words-append, row-well-formed}
 use Rattle.instance.proofs.Sound.{sound-gives}
@@ -66,7 +66,7 @@ module _ (n : ℕ) (ars : List ℕ) where
   accepted-struck (insertion r ∷ es) a = (a .0, accepted-struck es (a .1))
   accepted-struck (filling m c ∷ es) a = a .1
 
--- ---- how many words rows have
+-- ---- the relations and lengths of rows, and how many words they have
 
 -- a fill changes no word's place
 fill-size : (m c : ℕ) (rs : List Row) → length (wordsOf (substitute m c rs)) ≡ length (wordsOf rs)
@@ -75,11 +75,14 @@ fill-size m c rs = words-alike (substitute m c rs) rs (map-alike (put m c) rs)
 append-size : (rs ss : List Row) → length (wordsOf (rs ++ ss)) ≡ length (wordsOf rs) + length (wordsOf ss)
 append-size rs ss = ap length (words-append rs ss) ∙ length-append (wordsOf rs) (wordsOf ss)
 
-struck-size : (es : List Event) (rs : List Row) → length (wordsOf (rowsBy (struck es) rs)) ≡ length (wordsOf (rowsBy es rs))
+struck-alike : (es : List Event) (rs : List Row) → Alike (rowsBy (struck es) rs) (rowsBy es rs)
 unfolding struck rowsBy
-struck-size [] rs = refl
-struck-size (insertion r ∷ es) rs = append-size (rowsBy (struck es) rs) (r ∷ []) ∙ omega (arith, struck-size es rs, append-size (rowsBy es rs) (r ∷ []))
-struck-size (filling m c ∷ es) rs = sym (fill-size m c (rowsBy es rs))
+struck-alike [] rs = alike-same rs
+struck-alike (insertion r ∷ es) rs = alike-append (rowsBy (struck es) rs) (rowsBy es rs) (r ∷ []) (struck-alike es rs)
+struck-alike (filling m c ∷ es) rs = alike-back (substitute m c (rowsBy es rs)) (rowsBy es rs) (map-alike (put m c) (rowsBy es rs))
+
+struck-size : (es : List Event) (rs : List Row) → length (wordsOf (rowsBy (struck es) rs)) ≡ length (wordsOf (rowsBy es rs))
+struck-size es rs = words-alike (rowsBy (struck es) rs) (rowsBy es rs) (struck-alike es rs)
 
 -- ---- undo, by the history
 
@@ -200,8 +203,8 @@ module _ (h : Header) (ws log : List ℕ) (is-sound : sound h ws ≡ true) where
     same-size rs e =
         ap (λ (l : List ℕ). wordsOf rs ++ l) (ap (λ (k : ℕ). drop k (s .words)) used-is ∙ beyond (length (wordsOf (R es))) (omega arith) ∙ ap (λ (k : ℕ). drop k ws) (sym e))
 
-    same-header : (rs : List Row) → length (wordsOf rs) ≡ length (wordsOf (R es)) → s .header ≡ headerFor (h .relations) (h .arities) rs
-    same-header rs e = g .header ∙ ap (headerWith (h .relations) (h .arities)) (sym e)
+    same-header : (rs : List Row) → Alike rs (R es) → s .header ≡ headerFor (h .relations) (h .arities) rs
+    same-header rs a = g .header ∙ sym (header-alike (h .relations) (h .arities) rs (R es) a)
 
     -- a refused step leaves everything as it was
     same :
@@ -256,7 +259,7 @@ module _ (h : Header) (ws log : List ℕ) (is-sound : sound h ws ≡ true) where
             let long = fill-size m c (R es) in
             let fits : length entry ≤ length part = omega (arith, entry-length m (R es), length-drop (s .used) (s .log), room) in
             made (filling m c ∷ es) (stepState (fills m c) s) (accepted-fill, a) (omega (arith, long, few)) (omega (arith, long, within))
-            (same-header (substitute m c (R es)) long)
+            (same-header (substitute m c (R es)) (map-alike (put m c) (R es)))
             (fill-words ∙ same-size (substitute m c (R es)) long)
             (ap length fill-log ∙ length-append entries (overwrite entry part) ∙
             omega (arith, overwrite-length entry part fits, length-drop (s .used) (s .log), room, g .used, g .log-size))
@@ -335,7 +338,7 @@ module _ (h : Header) (ws log : List ℕ) (is-sound : sound h ws ≡ true) where
         let S = rowsBy (struck es) (rows h ws) in
         let long = struck-size es (rows h ws) in
         made (struck es) (stepState undoes s) (accepted-struck (h .relations) (h .arities) es a) (omega (arith, long, few)) (omega (arith, long, within))
-        (same-header S long)
+        (same-header S (struck-alike es (rows h ws)))
         (l .1 .1 ∙ ap₂ (λ (x : List Row) (k : ℕ). wordsOf x ++ drop k ws) (append-nil S) (sym long))
         (g .log-size) (l .0) (ap (λ (x : ℕ). take x (s .log)) (l .0) ∙ l .1 .0)
 

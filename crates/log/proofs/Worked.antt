@@ -2,6 +2,8 @@
 use mathlib.Core.Path.{refl}
 use Rattle.calculus.specs.All.{all}
 use Rattle.calculus.specs.Cell.{isCell, put}
+use Rattle.calculus.specs.Closed.{tuples, identical}
+use Rattle.calculus.specs.Table.{table}
 use Rattle.calculus.specs.Fill.{countOf}
 use Rattle.calculus.specs.Row.{cellsOf}
 use Rattle.instance.specs.Header.{aritiesWellFormed, headerWellFormed}
@@ -15,5 +17,5 @@ use Rattle.log.specs.History.{stepAnswers, stateAfter, answersBy, histor
 use Rattle.log.specs.Worked.{AllHold, WorkedHistories}
 
 pub worked-histories : WorkedHistories
-unfolding AllHold all isCell put countOf cellsOf aritiesWellFormed headerWellFormed enterable inserted insertedHeader insertedWords wordsWellFormed rowsFrom wordsOf sound rows substituted substitutedWords placesIn placesOf isPlace putAt entryOf loggedLog loggedUsed entryWellFormed undone undoneWords undoneUsed stepAnswers stateAfter answersBy history rowsBy entriesBy struck undoBy
+unfolding AllHold all table tuples identical isCell put countOf cellsOf aritiesWellFormed headerWellFormed enterable inserted insertedHeader insertedWords wordsWellFormed rowsFrom wordsOf sound rows substituted substitutedWords placesIn placesOf isPlace putAt entryOf loggedLog loggedUsed entryWellFormed undone undoneWords undoneUsed stepAnswers stateAfter answersBy history rowsBy entriesBy struck undoBy
 worked-histories = ((refl, refl), ((refl, refl), ((refl, refl), ((refl, refl), ((refl, refl), ((refl, refl), ((refl, refl), tt)))))))

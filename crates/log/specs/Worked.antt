@@ -1,17 +1,16 @@
 -- Worked histories, as one table under one claim: what the calls return and leave, and what the history says of them.
-use Prim.Native.Nat.{ℕ, _+_, _*_}
+use Prim.Native.Nat.{ℕ, _+_}
 use mathlib.Core.Path.{_≡_}
 use mathlib.Core.List.{List, [], _∷_, _++_, map}
-use lib.ListN.{length, take, replicate}
+use lib.ListN.{take, replicate}
 use Rattle.calculus.specs.declared.answer.Answer.{Answer}
 use Rattle.calculus.specs.declared.answer.Answer.the-variants.{Done, Refused}
 use Rattle.calculus.specs.Cell.{null}
 use Rattle.calculus.specs.Refusal.{no-such-null, null-absent, log-too-short, log-empty}
 use Rattle.calculus.specs.Row.{Row, cellsOf}
 use Rattle.instance.specs.declared.header.Header.{Header}
-use Rattle.instance.specs.Header.{headerWith}
 use Rattle.instance.specs.Rows.{wordsOf}
-use Rattle.instance.specs.Sound.{rows}
+use Rattle.instance.specs.Sound.{rows, headerFor}
 use Rattle.log.specs.History.{Step, fills, undoes, inserts, State, Event, stepAnswers, stateAfter, start, answersBy, history, rowsBy, entriesBy}
 
 -- what steps return, the cells of the rows that they leave, and the log's words in use
@@ -33,7 +32,7 @@ row c = record { relation = 0; cells = c ∷ [] }
 
 module _ (c : Case) where
   abbrev pub header : Header
-  header = headerWith 1 (1 ∷ 0 ∷ 0 ∷ 0 ∷ 0 ∷ 0 ∷ 0 ∷ 0 ∷ []) (2 * length (c .cells))
+  header = headerFor 1 (1 ∷ 0 ∷ 0 ∷ 0 ∷ 0 ∷ 0 ∷ 0 ∷ 0 ∷ []) (map row (c .cells))
 
   abbrev pub words : List ℕ
   words = wordsOf (map row (c .cells)) ++ replicate 4 0

@@ -71,7 +71,7 @@ pub fn history() {
     let mut plot = [0u32, 1_000_002, 1_000_001, 1, 1_000_001, 7, 7, 7];
     let mut log = [9u32; 7];
     let row = [1_000_001u32, 1_000_002];
-    let start = two_sheets(2, 1, 5);
+    let start = two_sheets(2, 1, 5, 1, 1);
     show::heading(b"the start");
     state(start, &plot, &log, FRESH);
     let first = fill(

@@ -7,10 +7,10 @@ use worked::plots::two_sheets;
 pub const ROWS: [u32; 9] = [0, 1_000_200, 1_000_001, 1, 1_000_001, 1, 5, 1_000_001, 7];
 
 pub fn sound() -> Header {
-    two_sheets(2, 1, 7)
+    two_sheets(2, 1, 7, 1, 2)
 }
 
 // The last row lacks its cell.
 pub fn unsound() -> Header {
-    two_sheets(2, 1, 6)
+    two_sheets(2, 1, 6, 1, 2)
 }

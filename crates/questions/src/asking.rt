@@ -75,7 +75,14 @@ fn quantified(
 const CHANNELS: [u32; 4] = [0, 201, 1, 1_000_001];
 
 fn channels(name: &[u8], query: &[u32], candidate: &[u32]) {
-    asked(name, two_sheets(1, 1, 4), &CHANNELS, query, candidate, 0);
+    asked(
+        name,
+        two_sheets(1, 1, 4, 1, 1),
+        &CHANNELS,
+        query,
+        candidate,
+        0,
+    );
 }
 
 // The candidate is in sheet 0 and not in sheet 1.
@@ -90,7 +97,15 @@ const WITHOUT: [[u32; 8]; 7] = [
 ];
 
 fn without(name: &[u8], plot: &[u32], budget: u32) {
-    one(name, two_sheets(1, 1, 4), plot, WITHOUT, 4, &[201], budget);
+    one(
+        name,
+        two_sheets(1, 1, 4, 1, 1),
+        plot,
+        WITHOUT,
+        4,
+        &[201],
+        budget,
+    );
 }
 
 // Asks that question within a budget.
@@ -101,7 +116,7 @@ fn within(name: &[u8], budget: u32) {
 // Asks that question after a fill of mark 1.
 fn filled(name: &[u8], cell: u32) {
     let mut plot = CHANNELS;
-    substitute(two_sheets(1, 1, 4), &mut plot, 1, cell);
+    substitute(two_sheets(1, 1, 4, 1, 1), &mut plot, 1, cell);
     without(name, &plot, 100);
 }
 
@@ -127,7 +142,7 @@ pub fn without_twice() {
     ];
     one(
         b"201 in sheet 0 and not (in sheet 0 and not in 1)",
-        two_sheets(1, 1, 4),
+        two_sheets(1, 1, 4, 1, 1),
         &CHANNELS,
         nodes,
         7,
@@ -149,7 +164,7 @@ pub fn excluded_middle() {
     ];
     one(
         b"some x in the sheet and (x = 0 or not x = 0)",
-        one_sheet(1, 2),
+        one_sheet(1, 2, 1),
         &[0, 1_000_001],
         nodes,
         7,
@@ -160,7 +175,7 @@ pub fn excluded_middle() {
 
 // Asks whether x3 = x3 for some or every x3 of no rows, with an allowance of 0.
 fn of_no_rows(name: &[u8], kind: u32) {
-    quantified(name, one_sheet(1, 0), &[], kind, 3, 2_000_003, &[], 0);
+    quantified(name, one_sheet(1, 0, 0), &[], kind, 3, 2_000_003, &[], 0);
 }
 
 // Reading 9.
@@ -171,14 +186,14 @@ pub fn no_rows() {
 
 // Asks whether every x is 7, in a sheet of two rows of one cell.
 fn sevens(name: &[u8], plot: &[u32]) {
-    quantified(name, one_sheet(1, 4), plot, EVERY, 0, 7, &[], 100);
+    quantified(name, one_sheet(1, 4, 2), plot, EVERY, 0, 7, &[], 100);
 }
 
 // Reading 10: the values come in their order, each once.
 pub fn every_is_seven() {
     let mut plot = [0u32, 1_000_001, 0, 8];
     sevens(b"rows (m1), (8): every x, x = 7", &plot);
-    substitute(one_sheet(1, 4), &mut plot, 1, 8);
+    substitute(one_sheet(1, 4, 2), &mut plot, 1, 8);
     sevens(b"after m1 by 8", &plot);
 }
 
@@ -186,7 +201,7 @@ pub fn every_is_seven() {
 fn pair(name: &[u8], row: [u32; 2], candidate: [u32; 2]) {
     let plot = [0u32, row[0], row[1]];
     let query = [1u32, 0, 2_000_000, 2_000_001, 0, 0, 0, 0];
-    asked(name, one_sheet(2, 3), &plot, &query, &candidate, 100);
+    asked(name, one_sheet(2, 3, 1), &plot, &query, &candidate, 100);
 }
 
 // Rows are unified as a whole: (1, m1) and (m1, 2) cannot be the same row.
@@ -211,7 +226,7 @@ pub fn whole_rows() {
 
 // The nearest quantifier binds, even if the candidate has the variable.
 pub fn bound_again() {
-    let header = one_sheet(1, 4);
+    let header = one_sheet(1, 4, 2);
     let plot = [0u32, 1, 0, 2];
     quantified(
         b"some x: x = 2, with x = 5 in the candidate",
@@ -256,7 +271,7 @@ fn misfit(name: &[u8], n: usize, cells: usize, cell: u32)
 pub fn refused() {
     asked(
         b"an unsound plot and no question",
-        two_sheets(1, 1, 3),
+        two_sheets(1, 1, 3, 1, 1),
         &CHANNELS,
         &[],
         &[201],
@@ -299,7 +314,7 @@ pub fn short_list() {
     let query = [1u32, 0, 2_000_000, 0, 0, 0, 0, 0];
     listed(
         b"a list of 1 word for 2 cells",
-        two_sheets(1, 1, 4),
+        two_sheets(1, 1, 4, 1, 1),
         &CHANNELS,
         &query,
         &[201],

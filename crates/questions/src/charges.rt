@@ -1,6 +1,7 @@
 // What an atom costs: 1 plus the rows of its sheet up to and including the first identical one, or all of them if none is identical. The table in the
 // crate `readings` has the same cases.
 use answer::ask::ask;
+use instance::header::Header;
 use substitute::substitute;
 use worked::plots::one_sheet;
 use worked::plots::two_sheets;
@@ -10,29 +11,22 @@ use worked::show;
 const ROWS: [u32; 12] = [0, 5, 1, 7, 0, 6, 0, 1_000_001, 0, 6, 0, 9];
 
 // Asks whether a cell is in a sheet.
-fn stands(name: &[u8], plot: &[u32], used: u32, sheet: u32, cell: u32, budget: u32) {
+fn stands(name: &[u8], header: Header, plot: &[u32], sheet: u32, cell: u32, budget: u32) {
     let query = [1u32, sheet, 2_000_000, 0, 0, 0, 0, 0];
     let mut list = [9u32; 6];
-    let answer = ask(
-        two_sheets(1, 1, used),
-        plot,
-        &query,
-        &[cell],
-        &mut list,
-        budget,
-    );
+    let answer = ask(header, plot, &query, &[cell], &mut list, budget);
     show::asked(name, answer);
 }
 
 fn one(name: &[u8], sheet: u32, cell: u32, budget: u32) {
-    stands(name, &ROWS, 12, sheet, cell, budget);
+    stands(name, two_sheets(1, 1, 12, 5, 1), &ROWS, sheet, cell, budget);
 }
 
 // Asks after a fill of mark 1.
 fn filled(name: &[u8], by: u32, cell: u32) {
     let mut plot = ROWS;
-    substitute(two_sheets(1, 1, 12), &mut plot, 1, by);
-    stands(name, &plot, 12, 0, cell, 100);
+    substitute(two_sheets(1, 1, 12, 5, 1), &mut plot, 1, by);
+    stands(name, two_sheets(1, 1, 12, 5, 1), &plot, 0, cell, 100);
 }
 
 pub fn identical_row() {
@@ -47,7 +41,7 @@ pub fn no_identical_row() {
     one(b"8, which unifies with m1", 0, 8, 100);
     one(b"7, which is in sheet 1 alone", 0, 7, 100);
     one(b"6, which is in sheet 0 alone", 1, 6, 100);
-    stands(b"5 of no rows", &[], 0, 0, 5, 100);
+    stands(b"5 of no rows", two_sheets(1, 1, 0, 0, 0), &[], 0, 5, 100);
 }
 
 pub fn after_a_fill() {
@@ -61,7 +55,7 @@ pub fn two_columns() {
     let query = [1u32, 0, 2_000_000, 7, 0, 0, 0, 0];
     let mut list = [9u32; 6];
     let answer = ask(
-        one_sheet(2, 9),
+        one_sheet(2, 9, 3),
         &[0, 5, 6, 0, 5, 1_000_001, 0, 5, 7],
         &query,
         &[5],
@@ -89,7 +83,14 @@ pub fn every_value() {
     query[25] = 1;
     query[26] = 2_000_000;
     let mut list = [9u32; 6];
-    let answer = ask(two_sheets(1, 1, 12), &ROWS, &query, &[], &mut list, 100);
+    let answer = ask(
+        two_sheets(1, 1, 12, 5, 1),
+        &ROWS,
+        &query,
+        &[],
+        &mut list,
+        100,
+    );
     show::asked(b"every x: x in sheet 0 or in sheet 1", answer);
 }
 

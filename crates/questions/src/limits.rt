@@ -41,7 +41,7 @@ fn chained(
 {
     let query = chain(n, last);
     let answer = ask(
-        one_sheet(1, used),
+        one_sheet(1, used, used / 2),
         plot,
         &query[..n * 8 + 8],
         &[],
@@ -49,7 +49,13 @@ fn chained(
         budget,
     );
     show::asked(name, answer);
-    let again = ask_unlisted(one_sheet(1, used), plot, &query[..n * 8 + 8], &[], budget);
+    let again = ask_unlisted(
+        one_sheet(1, used, used / 2),
+        plot,
+        &query[..n * 8 + 8],
+        &[],
+        budget,
+    );
     show::asked(b"  without a list", again);
 }
 

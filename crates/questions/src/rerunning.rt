@@ -66,7 +66,7 @@ fn one(way: Way, name: &[u8], query: &[u32], cell: u32, fills: &[u32], budget: u
     shown(
         way,
         name,
-        one_sheet(1, 4),
+        one_sheet(1, 4, 2),
         ROWS,
         query,
         cell,
@@ -124,7 +124,7 @@ pub fn both_kinds() {
     shown(
         Way::Listed,
         b"m2 in the sheet, m2 by m3, m1 by 8 refused, m3 by m1, m1 by 8 without the log",
-        one_sheet(1, 6),
+        one_sheet(1, 6, 3),
         [0, 1_000_001, 0, 1_000_002, 0, 1_000_001],
         &STANDS,
         1_000_002,
@@ -143,7 +143,7 @@ fn by_eight_logged(way: Way, name: &[u8], used: usize, list2: &mut [u32], budget
     shown(
         way,
         name,
-        one_sheet(1, 4),
+        one_sheet(1, 4, 2),
         ROWS,
         &STANDS,
         1_000_001,

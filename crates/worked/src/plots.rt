@@ -1,18 +1,22 @@
-// The headers of the worked plots. They are made only here, so a new field of `Header` changes no worked input.
+// The headers of the worked plots. They are made only here, so a new field of `Header` changes few worked inputs.
 use instance::header::Header;
 use instance::header::header_with;
 
 // Any header, even one that is unsound whatever the words are.
-pub fn sheets(relations: u32, arities: [u32; 8], used: u32) -> Header {
-    header_with(relations, arities, used)
+pub fn sheets(relations: u32, arities: [u32; 8], used: u32, counts: [u32; 8]) -> Header {
+    header_with(relations, arities, used, counts)
 }
 
-// A header with one sheet.
-pub fn one_sheet(columns: u32, used: u32) -> Header {
-    sheets(1, [columns, 0, 0, 0, 0, 0, 0, 0], used)
+// A header with one sheet of so many rows.
+pub fn one_sheet(columns: u32, used: u32, rows: u32) -> Header {
+    let arities = [columns, 0, 0, 0, 0, 0, 0, 0];
+    let counts = [rows, 0, 0, 0, 0, 0, 0, 0];
+    sheets(1, arities, used, counts)
 }
 
-// A header with two sheets.
-pub fn two_sheets(first: u32, second: u32, used: u32) -> Header {
-    sheets(2, [first, second, 0, 0, 0, 0, 0, 0], used)
+// A header with two sheets of so many rows each.
+pub fn two_sheets(first: u32, second: u32, used: u32, rows: u32, others: u32) -> Header {
+    let arities = [first, second, 0, 0, 0, 0, 0, 0];
+    let counts = [rows, others, 0, 0, 0, 0, 0, 0];
+    sheets(2, arities, used, counts)
 }

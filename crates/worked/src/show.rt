@@ -121,10 +121,13 @@ pub fn bytes(list: &[u8]) {
 
 pub fn header(h: Header) {
     let arities = h.arities;
+    let counts = h.counts;
     told(b"  relations", h.relations);
     text(b" arities");
     items(&arities);
     told(b" used", h.used);
+    text(b" rows");
+    items(&counts);
     end();
 }
 

@@ -5,6 +5,7 @@ use mathlib.Core.Bool.{true}
 use native.Mathlib.Omega.{arith}
 use borrow.Author.Tests.{not-true, not-false}
 use lib.ListN.{length}
+use Rattle.instance.specs.Header.{headerWith}
 use Rattle.instance.specs.Room.{hasRoom}
 use Rattle.decode.proofs.Opening.{Opened, head-opened}
 use Rattle.decode.proofs.Decoding.{CardRead, card-read, down, head-turned, records-turned, left-over, exhausted, too-small, may-write, all-hold, sum-fits}
@@ -155,7 +156,7 @@ returns-6 c =
     let r = written .before .before .before .before in
     decode-told _ _
     (rw (all-hold _ _ _ _ _ _ _ (carded (all r)) (r .before .before .before .before .before .if1 .left) (r .before .before .before .if2 .left) (room r))
-    (c .stored .ensures .0, (c .stored .ensures .1 .0, written .write-rows .ensures)))
+    (c .stored .ensures .0, (c .stored .ensures .1 .0 ∙ ap (headerWith _ _ _) (written .write-rows .ensures .0), written .write-rows .ensures .1)))
     (c .stored .ensures .1 .1)
 
 pub decode-spec : {M : Type 1} → statement M

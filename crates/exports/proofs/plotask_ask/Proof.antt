@@ -1,4 +1,4 @@
--- `exports::plotask_ask` meets its contract: 41 if the header slice does not have ten words, otherwise the library's call. Assumes nothing.
+-- `exports::plotask_ask` meets its contract: 41 if the header slice has another length than a header, otherwise the library's call. Assumes nothing.
 use mathlib.Core.Path.{sym, ap, _∙_}
 use Rattle.answer.specs.declared.asked.Asked.{Asked}
 use Rattle.answer.specs.declared.asked.Asked.the-variants.{Refused}
@@ -42,13 +42,13 @@ returns-2 c =
     let tested = read .before in
     let args = tested .before .before .before .before .before .before .args in
     let hs = args .header .now in
-    let ten = tested .if1 .left in
+    let long = tested .if1 .left in
     let is = read .read-header .ensures in
     let made = c .before .before .before .before .before .before .before .ask .ensures in
-    let a = left hs ten is (λ h. ask h (args .instance .now) (args .query .now) (args .candidate .now) (list (args .buffer .now)) (args .budget)) (Refused 41) (made .0) in (
+    let a = left hs long is (λ h. ask h (args .instance .now) (args .query .now) (args .candidate .now) (list (args .buffer .now)) (args .budget)) (Refused 41) (made .0) in (
       c .asked-number .ensures ∙ ap askedNumber a,
       (
-        left hs ten is (λ h. askedBuffer h (args .instance .now) (args .query .now) (args .candidate .now) (args .buffer .now)) _ (made .1 .0),
+        left hs long is (λ h. askedBuffer h (args .instance .now) (args .query .now) (args .candidate .now) (args .buffer .now)) _ (made .1 .0),
         (
           c .before .before .before .verdict .ensures ∙ ap (λ (x : Asked). verdictOf x (args .truth .now)) a,
           c .before .cost-of .ensures ∙ ap (λ (x : Asked). costOf x (args .cost .now)) a,

@@ -1,4 +1,4 @@
--- `exports::plotask_decode` meets its contract: 41 if the header slice does not have ten words, otherwise the library's call. Assumes nothing.
+-- `exports::plotask_decode` meets its contract: 41 if the header slice has another length than a header, otherwise the library's call. Assumes nothing.
 use Prim.Native.Nat.{ℕ}
 use mathlib.Core.Path.{sym, ap, _∙_}
 use Rattle.calculus.specs.declared.answer.Answer.{Answer}
@@ -46,17 +46,17 @@ returns-2 c =
     let tested = call .before .before in
     let args = tested .before .before .before .before .args in
     let hs = args .header .now in
-    let ten = tested .if1 .left in
+    let long = tested .if1 .left in
     let made = call .decode .ensures in
     let stored = call .decode .result in
-    let a = made .0 ∙ sym (headed-yes hs ten (decoded (args .card .now) (args .instance .now) .answer)) in (
+    let a = made .0 ∙ sym (headed-yes hs long (decoded (args .card .now) (args .instance .now) .answer)) in (
       c .number .ensures ∙ ap numberOf a,
       (
         c .before .before .before .before .before .put-header .ensures ∙
             ap (λ (x : Answer). after x (headerWords (stored .header)) hs) a ∙
             ap (λ (x : Header). after (decodeAnswer (args .card .now) hs (args .instance .now)) (headerWords x) hs) (made .1 .0),
         (
-          made .1 .1 .0 ∙ sym (kept-yes hs ten (decoded (args .card .now) (args .instance .now) .words) (args .instance .now)),
+          made .1 .1 .0 ∙ sym (kept-yes hs long (decoded (args .card .now) (args .instance .now) .words) (args .instance .now)),
           c .before .fresh-after .ensures ∙
               ap (λ (u : ℕ). after (stored .answer) u (args .used .now)) (made .1 .1 .1 .1) ∙
               ap (λ (x : Answer). after x fresh (args .used .now)) a,

@@ -1,4 +1,4 @@
--- `exports::plotask_insert` meets its contract: 41 if the header slice does not have ten words, otherwise the library's call. Assumes nothing.
+-- `exports::plotask_insert` meets its contract: 41 if the header slice has another length than a header, otherwise the library's call. Assumes nothing.
 use mathlib.Core.Path.{sym, ap, _∙_}
 use Rattle.calculus.specs.declared.answer.Answer.{Answer}
 use Rattle.calculus.specs.Answer.{after, numberOf}
@@ -45,10 +45,10 @@ returns-2 c =
     let tested = read .before .before in
     let args = tested .before .before .before .before .args in
     let hs = args .header .now in
-    let ten = tested .if1 .left in
+    let long = tested .if1 .left in
     let is = read .read-header .ensures in
     let made = call .insert .ensures in
-    let a = answered hs ten is (λ h. inserted h (args .instance .now) (args .relation) (args .cells .now)) (made .0) in
+    let a = answered hs long is (λ h. inserted h (args .instance .now) (args .relation) (args .cells .now)) (made .0) in
     let new = made .1 .0 ∙ ap (λ (h : Header). insertedHeader h (args .instance .now) (args .relation) (args .cells .now)) is in
     let stored = call .insert .result in (
       c .number .ensures ∙ ap numberOf a,
@@ -56,7 +56,7 @@ returns-2 c =
         c .before .before .before .put-header .ensures ∙
             ap (λ (x : Answer). after x (headerWords (stored .header)) hs) a ∙
             ap (λ (x : Header). after (insertAnswer hs (args .instance .now) (args .relation) (args .cells .now)) (headerWords x) hs) new,
-        left hs ten is (λ h. insertedWords h (args .instance .now) (args .relation) (args .cells .now)) _ (made .1 .1 .0),
+        left hs long is (λ h. insertedWords h (args .instance .now) (args .relation) (args .cells .now)) _ (made .1 .1 .0),
       ),
     )
 

@@ -1,4 +1,4 @@
--- `exports::plotask_substitute_logged` meets its contract: 41 if the header slice does not have ten words, otherwise the library's call. Assumes nothing.
+-- `exports::plotask_substitute_logged` meets its contract: 41 if the header slice has another length than a header, otherwise the library's call. Assumes nothing.
 use mathlib.Core.Path.{sym, ap, _∙_}
 use Rattle.calculus.specs.declared.answer.Answer.{Answer}
 use Rattle.calculus.specs.Answer.{numberOf, valueOf}
@@ -44,11 +44,11 @@ returns-2 c =
     let tested = read .before in
     let args = tested .before .before .before .before .args in
     let hs = args .header .now in
-    let ten = tested .if1 .left in
+    let long = tested .if1 .left in
     let is = read .read-header .ensures in
     let made = call .substitute-logged .ensures in
-    let a = answered hs ten is (λ h. logged h (args .instance .now) (args .log .now) (args .used .now) (args .mark) (args .cell)) (made .0) in
-    (c .number .ensures ∙ ap numberOf a, (left hs ten is (λ h. loggedWords h (args .instance .now) (args .log .now) (args .used .now) (args .mark) (args .cell)) _ (made .1 .0), (left hs ten is (λ h. loggedLog h (args .instance .now) (args .log .now) (args .used .now) (args .mark) (args .cell)) _ (made .1 .1 .0), (left hs ten is (λ h. loggedUsed h (args .instance .now) (args .log .now) (args .used .now) (args .mark) (args .cell)) _ (made .1 .1 .1 .0), c .before .value .ensures ∙ ap (λ (x : Answer). valueOf x (args .count .now)) a))))
+    let a = answered hs long is (λ h. logged h (args .instance .now) (args .log .now) (args .used .now) (args .mark) (args .cell)) (made .0) in
+    (c .number .ensures ∙ ap numberOf a, (left hs long is (λ h. loggedWords h (args .instance .now) (args .log .now) (args .used .now) (args .mark) (args .cell)) _ (made .1 .0), (left hs long is (λ h. loggedLog h (args .instance .now) (args .log .now) (args .used .now) (args .mark) (args .cell)) _ (made .1 .1 .0), (left hs long is (λ h. loggedUsed h (args .instance .now) (args .log .now) (args .used .now) (args .mark) (args .cell)) _ (made .1 .1 .1 .0), c .before .value .ensures ∙ ap (λ (x : Answer). valueOf x (args .count .now)) a))))
 
 pub plotask-substitute-logged-spec : {M : Type 1} → statement M
 plotask-substitute-logged-spec =

@@ -1,4 +1,4 @@
--- `exports::plotask_undo` meets its contract: 41 if the header slice does not have ten words, otherwise the library's call. Assumes nothing.
+-- `exports::plotask_undo` meets its contract: 41 if the header slice has another length than a header, otherwise the library's call. Assumes nothing.
 use mathlib.Core.Path.{sym, ap, _∙_}
 use Rattle.calculus.specs.declared.answer.Answer.{Answer}
 use Rattle.calculus.specs.Answer.{numberOf, valueOf}
@@ -41,11 +41,11 @@ returns-2 c =
     let tested = read .before in
     let args = tested .before .before .before .before .args in
     let hs = args .header .now in
-    let ten = tested .if1 .left in
+    let long = tested .if1 .left in
     let is = read .read-header .ensures in
     let made = call .undo .ensures in
-    let a = answered hs ten is (λ h. undone h (args .instance .now) (args .log .now) (args .used .now)) (made .0) in
-    (c .number .ensures ∙ ap numberOf a, (left hs ten is (λ h. undoneWords h (args .instance .now) (args .log .now) (args .used .now)) _ (made .1 .0), (left hs ten is (λ h. undoneUsed h (args .instance .now) (args .log .now) (args .used .now)) _ (made .1 .1 .0), c .before .value .ensures ∙ ap (λ (x : Answer). valueOf x (args .count .now)) a)))
+    let a = answered hs long is (λ h. undone h (args .instance .now) (args .log .now) (args .used .now)) (made .0) in
+    (c .number .ensures ∙ ap numberOf a, (left hs long is (λ h. undoneWords h (args .instance .now) (args .log .now) (args .used .now)) _ (made .1 .0), (left hs long is (λ h. undoneUsed h (args .instance .now) (args .log .now) (args .used .now)) _ (made .1 .1 .0), c .before .value .ensures ∙ ap (λ (x : Answer). valueOf x (args .count .now)) a)))
 
 pub plotask-undo-spec : {M : Type 1} → statement M
 plotask-undo-spec =

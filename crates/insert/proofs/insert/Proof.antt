@@ -1,6 +1,6 @@
 -- `insert::insert` meets its contract: what check_insert accepts, write_row writes after the words in use. Assumes nothing.
-use Prim.Native.Nat.{ℕ}
-use mathlib.Core.Path.{_≡_, sym, ap, _∙_}
+use Prim.Native.Nat.{ℕ, _<_}
+use mathlib.Core.Path.{_≡_, sym, _∙_}
 use mathlib.Core.List.{List}
 use native.Mathlib.Omega.{arith}
 use lib.ListN.{length-take, length-drop}
@@ -9,12 +9,13 @@ use Rattle.instance.specs.declared.header.Header.{Header}
 use Rattle.instance.specs.Insert.{inserted, insertedHeader, insertedWords}
 use Rattle.instance.proofs.Passes.{row-put}
 use Rattle.instance.proofs.Accepted.{Inserted, insert-accepted}
-use Rattle.instance.proofs.Kept.{entered-used}
+use Rattle.instance.proofs.Kept.{entered-header}
+use Rattle.instance.proofs.Sound.{sound-gives, count-low}
 use Rattle.instance.proofs.Told.{insert-told}
 use borrow.Author.Needs.{needs}
 use Rattle.insert.proofs.insert.Statement.{statement}
 use Rattle.insert.proofs.insert.Tie as tie
-use Rattle.instance.specs.Header.{headerWith}
+use Rattle.instance.specs.Header.{maxRelations}
 
 check-insert-requires : tie.Need-check-insert-requires
 check-insert-requires c κs = search needs
@@ -78,6 +79,25 @@ part-write-row-end c = search needs
 write-row-requires : tie.Need-write-row-requires
 write-row-requires c κs = simp (length-take, length-drop) (omega (arith, accepted (c .before) .within))
 
+-- the row's relation is one of eight
+low : (c : tie.After-struct-known) → r c < maxRelations
+low c = omega (arith, accepted c .relation, sound-gives (h c) (ws c) (accepted c .is-sound) .headed .few)
+
+abbrev wrote : tie.After-counts → tie.After-struct-known
+wrote c = c .before .before .before .before .before .before
+
+mul-counts : tie.Need-mul-counts
+mul-counts c = search needs
+
+array-read-counts : tie.Need-array-read-counts
+array-read-counts c = low (wrote c)
+
+add-counts : tie.Need-add-counts
+add-counts c = let a = wrote c in omega (arith, count-low (h a) (ws a) (accepted a .is-sound) (r a) (low a))
+
+array-write-counts : tie.Need-array-write-counts
+array-write-counts c = low (wrote c)
+
 header-with-requires : tie.Need-header-with-requires
 header-with-requires c κs = search needs
 
@@ -87,12 +107,12 @@ same-length-2 c = search needs
 returns-2 : tie.Need-returns-2
 unfolding insertedHeader insertedWords
 returns-2 c =
-    let w = c .before .before .before .before in
+    let w = c .before .before .before .before .before in
     let a = w .before .before in
     insert-told (h a) (ws a) (r a) (cs a) (
       sym (done a),
       (
-        simp (done a) (c .header-with .ensures ∙ ap (headerWith (h a .relations) (h a .arities)) (entered-used (h a) (ws a) (r a) (cs a) (k a) (accepted a))),
+        simp (done a) (c .header-with .ensures ∙ entered-header (h a) (ws a) (r a) (cs a) (k a) (accepted a)),
         simp (done a) (row-put _ (r a) (cs a) (ws a) _ (w .write-row .ensures)),
       ),
     )
@@ -112,6 +132,10 @@ insert-spec =
     part-write-row-start
     part-write-row-end
     write-row-requires
+    mul-counts
+    array-read-counts
+    add-counts
+    array-write-counts
     header-with-requires
     same-length-2
     returns-2)

@@ -1,57 +1,68 @@
--- `known::describe` meets its contract: the arities are written between zeros, and then the counts before them. Assumes nothing.
-use Prim.Native.Nat.{ℕ}
-use mathlib.Core.Path.{_≡_, refl, sym, ap, subst, _∙_}
-use mathlib.Core.List.{List, _++_, append-assoc}
-use lib.ListN.{length, take, drop, replicate}
+-- `known::describe` meets its contract: the counts are written over the first zeros, and then the arities over the next ones. Assumes nothing.
+use Prim.Native.Nat.{ℕ, _+_}
+use mathlib.Core.Path.{_≡_, sym, ap, ap₂, _∙_}
+use mathlib.Core.List.{List, _++_}
+use native.Mathlib.Omega.{arith}
+use lib.ListN.{length, take, drop, replicate, length-append}
+use lib.Seq.{take-at, take-all, drop-at, drop-drop}
 use Rattle.instance.specs.Header.{maxRelations}
-use Rattle.instance.specs.InstanceWellFormed.{InstanceOf}
-use Rattle.instance.specs.Rows.{rowsFrom}
-use Rattle.instance.specs.RowCounts.{rowCounts}
-use Rattle.known.specs.Known.{flagsFrom, flagWords, aritiesIn}
-use Rattle.known.proofs.Parts.{counts-front, behind-counts, arities-middle, layout-size}
+use Rattle.known.specs.Known.{flagsFrom, flagWords}
+use Rattle.known.proofs.Parts.{layout-size}
 use Rattle.known.proofs.describe.Statement.{statement}
 use Rattle.known.proofs.describe.Tie as tie
 
-put-arities-requires : tie.Need-put-arities-requires
-put-arities-requires c κs = let p = c .before .before .pre in (ap length (p .2), p .1)
+-- the zeros after the counts
+abbrev zeros : List ℕ
+zeros = replicate (maxRelations + flagWords) 0
 
--- after the arities were written
-module _ (c : tie.After-put-arities) where
+put-eight-requires : tie.Need-put-eight-requires
+put-eight-requires c κs = let p = c .before .before .pre in (omega (arith, ap length (p .2)), omega arith, p .0)
+
+-- after the counts were written
+module _ (c : tie.After-put-eight) where
   abbrev start : tie.Start
   start = c .before .before .before
 
-  abbrev ars : List ℕ
-  ars = start .args .arities .now
+  abbrev counts : List ℕ
+  counts = start .args .counts .now
 
-  abbrev before : List ℕ
-  before = replicate maxRelations 0 ++ ars ++ replicate flagWords 0
+  written : c .put-eight .last .0 ≡ counts ++ zeros
+  written =
+      c .put-eight .ensures ∙
+      ap₂ (λ (l k : List ℕ). k ++ drop maxRelations l) (start .pre .2) (take-all maxRelations counts (omega (arith, start .pre .0)))
 
-  written : c .put-arities .last .1 .0 ≡ before
-  written = c .put-arities .ensures ∙ ap (λ (l : List ℕ). take maxRelations l ++ ars ++ drop flagsFrom l) (start .pre .2)
+put-eight-requires-2 : tie.Need-put-eight-requires-2
+put-eight-requires-2 c κs =
+    let b = c .before .before .before in
+    let p = start b .pre in
+    (omega (arith, ap length (written b), length-append (counts b) zeros, p .0), omega arith, p .1)
 
-  are : aritiesIn (c .put-arities .last .1 .0) ≡ ars
-  are = ap aritiesIn written ∙ arities-middle (replicate maxRelations 0) ars (replicate flagWords 0) refl (start .pre .1)
+-- after the arities were written
+module _ (c : tie.After-slice-known3) where
+  abbrev before : tie.After-put-eight
+  before = c .before .before .before .before .before .before
 
-row-counts-requires : tie.Need-row-counts-requires
-row-counts-requires c κs =
-    let b = c .before in
-    let zeros : List ℕ = replicate maxRelations 0 in (
-      subst (λ (l : List ℕ). InstanceOf l (start b .args .words .now)) (sym (are b)) (start b .pre .0),
-      (
-        ap length (written b) ∙ layout-size zeros (ars b) (replicate flagWords 0) refl (start b .pre .1),
-        ap (take maxRelations) (written b) ∙ counts-front zeros (ars b) (replicate flagWords 0) refl (start b .pre .1),
-      ),
-    )
+  abbrev arities : List ℕ
+  arities = start before .args .arities .now
+
+  all-written : c .before .before .put-eight2 .last .0 ≡ counts before ++ arities ++ replicate flagWords 0
+  all-written =
+      let p = start before .pre in
+      let both = counts before ++ zeros in
+      let flags : drop flagsFrom both ≡ replicate flagWords 0 =
+      sym (drop-drop maxRelations maxRelations both) ∙ ap (drop maxRelations) (drop-at (counts before) zeros maxRelations (p .0))
+      in
+      c .before .before .put-eight2 .ensures ∙
+      ap₂ (λ (l k : List ℕ). take maxRelations l ++ k ++ drop flagsFrom l) (written before) (take-all maxRelations arities (omega (arith, p .1))) ∙
+      ap₂ (λ (l k : List ℕ). l ++ arities ++ k) (take-at (counts before) zeros maxRelations (p .0)) flags
+
+same-length : tie.Need-same-length
+same-length c =
+    let p = start (before c) .pre in
+    ap length (all-written c) ∙ layout-size (counts (before c)) (arities c) (replicate flagWords 0) (p .0) (p .1) ∙ sym (ap length (p .2))
 
 returns : tie.Need-returns
-returns c =
-    let b = c .before .before in
-    let rows = rowCounts (rowsFrom (ars b) 0 (start b .args .words .now)) in
-    c .row-counts .ensures ∙
-    ap (λ (l : List ℕ). rowCounts (rowsFrom l 0 (start b .args .words .now)) ++ drop maxRelations (b .put-arities .last .1 .0)) (are b) ∙
-    ap (λ (l : List ℕ). rows ++ l)
-    (ap (drop maxRelations) (written b) ∙ behind-counts (replicate maxRelations 0) (ars b) (replicate flagWords 0) refl (start b .pre .1)) ∙
-    sym (append-assoc rows (ars b) (replicate flagWords 0))
+returns c = all-written c
 
 pub describe-spec : {M : Type 1} → statement M
-describe-spec = tie.close (tie.spec put-arities-requires row-counts-requires returns)
+describe-spec = tie.close (tie.spec put-eight-requires put-eight-requires-2 same-length returns)

@@ -38,40 +38,38 @@ module _ (c : tie.Start) where
 -- after the instance was described
 module _ (c : tie.After-describe) where
   abbrev start : tie.Start
-  start = c .before .before .before .before .before .before .before .before .before .before
+  start = c .before .before .before .before .before .before .before .before .before .before .before
 
   abbrev table : List ℕ
   table = c .describe .last .1 .1 .0
 
   is-described : Described (h start) (ws start) table
-  is-described = described (h start) (ws start) table (eight start) (c .describe .ensures)
+  is-described = described (h start) (ws start) table (eight start) (passes start .is-sound) (c .describe .ensures)
 
 cast-used : tie.Need-cast-used
 cast-used c = search needs
 
 slice-aggregate-describe : tie.Need-slice-aggregate-describe
-slice-aggregate-describe c = sym (given (c .before .before .before .before .before .before .before) .in-use)
+slice-aggregate-describe c = search needs
 
 describe-requires : tie.Need-describe-requires
-describe-requires c κs =
-    let s = c .before .before .before .before .before .before .before .before .before in
-    (record { relations = h s .relations; well-formed = given s .well-formed }, eight s, refl)
+describe-requires c κs = (search needs, search needs, refl)
 
 slice-aggregate-answer-top : tie.Need-slice-aggregate-answer-top
-slice-aggregate-answer-top c = sym (given (start (c .before)) .in-use)
+slice-aggregate-answer-top c = sym (given (start (c .before .before)) .in-use)
 
 answer-top-requires : tie.Need-answer-top-requires
 unfolding rows
 answer-top-requires c κs =
-    let d = c .before .before in
+    let d = c .before .before .before in
     let s = start d in
-    let unflagged = described-unflagged (h s) (ws s) (table d) (eight s) (d .describe .ensures) in
+    let unflagged = described-unflagged (h s) (ws s) (table d) (eight s) (passes s .is-sound) (d .describe .ensures) in
     evaluable (h s) (ws s) (qs s) (cs s) _ (passes s) (eight s) (table d) _ (is-described d)
     (listed-ranged (h s) (ws s) (qs s) (table d) _ (passes s .is-sound) unflagged (s .pre .1))
 
 returns : tie.Need-returns
 returns c =
-    let d = c .before .before .before in
+    let d = c .before .before .before .before in
     let s = start d in
     evaluated-top (h s) (ws s) (qs s) (cs s) (s .args .budget) (table d) (is-described d) _ (c .answer-top .ensures)
 

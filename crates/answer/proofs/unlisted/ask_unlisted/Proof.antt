@@ -77,18 +77,18 @@ module _ (c : tie.After-arities) where
 -- after the instance was described
 module _ (c : tie.After-describe) where
   abbrev found : tie.After-arities
-  found = c .before .before .before .before
+  found = c .before .before .before .before .before
 
   abbrev before : List ℕ
   before = c .describe .last .1 .1 .0
 
   is-described : Described (h (at found)) (ws (at found)) before
-  is-described = described (h (at found)) (ws (at found)) before (eight found) (c .describe .ensures)
+  is-described = described (h (at found)) (ws (at found)) before (eight found) (passes found .is-sound) (c .describe .ensures)
 
 -- after the flags were set
 module _ (c : tie.After-pass-for) where
   abbrev known : tie.After-describe
-  known = c .before .before .before
+  known = c .before .before .before .before
 
   abbrev table : List ℕ
   table = c .pass-for .last .1 .1 .0
@@ -109,22 +109,22 @@ cast-used : tie.Need-cast-used
 cast-used c = search needs
 
 slice-aggregate-describe : tie.Need-slice-aggregate-describe
-slice-aggregate-describe c = sym (given (c .before) .in-use)
+slice-aggregate-describe c = search needs
 
 describe-requires : tie.Need-describe-requires
-describe-requires c κs = let f = c .before .before .before in (lent f, eight f, refl)
+describe-requires c κs = (search needs, search needs, refl)
 
 slice-aggregate-pass-for : tie.Need-slice-aggregate-pass-for
-slice-aggregate-pass-for c = sym (given (found (c .before)) .in-use)
+slice-aggregate-pass-for c = sym (given (found (c .before .before)) .in-use)
 
 pass-for-requires : tie.Need-pass-for-requires
 pass-for-requires c κs =
-    let d = c .before .before in
+    let d = c .before .before .before in
     let f = found d in
     let b = at f in
     let is = is-described d in (
       subst (λ (ars : List ℕ). InstanceOf ars (take (h b .used) (ws b))) (sym (is .arities)) (lent f),
-      (count-within (qs b) (passes f .right) .2, (is .size, described-unflagged (h b) (ws b) (before d) (eight f) (d .describe .ensures))),
+      (count-within (qs b) (passes f .right) .2, (is .size, described-unflagged (h b) (ws b) (before d) (eight f) (passes f .is-sound) (d .describe .ensures))),
     )
 
 slice-aggregate-answer-top : tie.Need-slice-aggregate-answer-top

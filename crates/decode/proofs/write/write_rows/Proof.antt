@@ -1,23 +1,24 @@
 -- `decode::write::write_rows` meets its contract. The loop's invariant: the rows written so far and the rows still to be read together are the card's
 -- words. Assumes nothing.
-use Prim.Native.Nat.{ℕ, _+_, _-_, _≤_}
+use Prim.Native.Nat.{ℕ, _+_, _-_, _≤_, _<_}
 use mathlib.Core.Path.{_≡_, refl}
 use mathlib.Core.List.{List}
 use native.Mathlib.Omega.{arith}
 use borrow.Author.Needs.{needs}
 use lib.ListN.{length, getD, length-drop}
-use Rattle.instance.specs.Header.{arityOf, maxColumns}
+use Rattle.instance.specs.Header.{arityOf, maxColumns, maxRelations, maxWords}
 use Rattle.instance.proofs.Parts.{part-to-end, put-to-end}
-use Rattle.decode.proofs.WritingRows.{WritingRows, Found, find, rows-start, rows-end}
+use Rattle.instance.proofs.Rows.{rows-at-most}
+use Rattle.decode.proofs.WritingRows.{WritingRows, Found, whole, find, rows-start, rows-end}
 use Rattle.decode.proofs.write.write_rows.Statement.{statement}
 use Rattle.decode.proofs.write.write_rows.Tie as tie
 
 abbrev Inv-loop : tie.InvT-loop
-Inv-loop plot₀ card relations arities count next used₀ null₀ at₀ left₀ instance used null at left =
-    WritingRows plot₀ card relations arities count next instance used null at left
+Inv-loop plot₀ card relations arities count next counts₀ used₀ null₀ at₀ left₀ instance counts used null at left =
+    WritingRows plot₀ card relations arities count next instance counts used null at left
 
 abbrev μ-loop : tie.MeasureT-loop
-μ-loop plot₀ card relations arities count next used₀ null₀ at₀ left₀ instance used null at left = left
+μ-loop plot₀ card relations arities count next counts₀ used₀ null₀ at₀ left₀ instance counts used null at left = left
 
 -- what an iteration finds at its record, whose first two bytes are b and map
 module _ (c : tie.In-loop Inv-loop μ-loop) where
@@ -34,10 +35,10 @@ module _ (c : tie.In-loop Inv-loop μ-loop) where
   FoundIn b map =
       let at = c .before .loop in
       Found (start .args .instance .now) card (start .args .relations) arities (start .args .count) (start .args .next)
-      (at .instance) (at .used) (at .null) (at .at) (at .left - 1) b map (arityOf arities b)
+      (at .instance) (at .counts) (at .used) (at .null) (at .at) (at .left - 1) b map (arityOf arities b)
 
   in-turn : (b map : ℕ) → b ≡ getD card (c .before .loop .at) 0 → map ≡ getD card (c .before .loop .at + 1) 0 → FoundIn b map
-  in-turn = find _ _ _ _ _ _ _ _ _ _ _ (c .before .loop .inv) (c .loop-test .taken)
+  in-turn = find _ _ _ _ _ _ _ _ _ _ _ _ (c .before .loop .inv) (c .loop-test .taken)
 
   in-card : c .before .loop .at + 2 ≤ length card
   in-card = omega (arith, in-turn _ _ refl refl .in-card)
@@ -51,6 +52,12 @@ module _ (c : tie.After-byte2 Inv-loop μ-loop) where
 
   here : FoundIn turn (c .before .byte .result) (c .byte2 .result)
   here = in-turn turn _ _ (c .before .byte .ensures .0) (c .byte2 .ensures .0)
+
+  low : c .before .byte .result < maxRelations
+  low = omega (arith, here .known, start turn .pre .few)
+
+  count-few : getD (turn .before .loop .counts) (c .before .byte .result) 0 ≤ maxWords
+  count-few = omega (arith, here .uncounted low, rows-at-most (whole (start turn .args .instance .now) (card turn) (start turn .args .relations) (arities turn) (start turn .args .count) (start turn .args .next)), start turn .pre .short)
 
   narrow : arityOf (arities turn) (c .before .byte .result) ≤ maxColumns
   narrow = start turn .pre .narrow _ (here .known)
@@ -116,6 +123,21 @@ write-row-requires c κs =
     let at = turn b .before .loop in
     simp part-to-end (omega (arith, here b .room, length-drop (at .used) (at .instance)), (narrow b, (omega (arith, here b .low), here b .fields)))
 
+cast-counts : tie.Need-cast-counts Inv-loop μ-loop
+cast-counts c = omega (arith, low (bytes c))
+
+mul-counts : tie.Need-mul-counts Inv-loop μ-loop
+mul-counts c = omega (arith, low (bytes c))
+
+array-read-counts : tie.Need-array-read-counts Inv-loop μ-loop
+array-read-counts c = low (bytes c)
+
+add-counts : tie.Need-add-counts Inv-loop μ-loop
+add-counts c = omega (arith, count-few (bytes c))
+
+array-write-counts : tie.Need-array-write-counts Inv-loop μ-loop
+array-write-counts c = low (bytes c)
+
 add-used : tie.Need-add-used Inv-loop μ-loop
 add-used c = omega (arith, narrow (bytes c))
 
@@ -150,13 +172,13 @@ loop-again : tie.Need-loop-again Inv-loop μ-loop
 loop-again c =
     let at = turn (bytes c) .before .loop in
     rw (put-to-end (at .instance) (at .used) _ (inside (turn (bytes c))))
-    (here (bytes c) .next-rows (c .before .before .write-row .last .0) (simp part-to-end at (c .before .before .write-row .ensures)))
+    (here (bytes c) .next-rows (c .before .before .write-row .last .0) (simp part-to-end at (c .before .before .write-row .ensures)) (low (bytes c)))
 
 same-length : tie.Need-same-length Inv-loop μ-loop
 same-length c = c .before .loop .inv .stored .same
 
 returns : tie.Need-returns Inv-loop μ-loop
-returns c = rows-end _ _ _ _ _ _ _ _ _ _ _ (c .before .loop .inv) (c .loop-test .left)
+returns c = rows-end _ _ _ _ _ _ _ _ _ _ _ _ (c .before .loop .inv) (c .loop-test .left)
 
 pub write-rows-spec : {M : Type 1} → statement M
 write-rows-spec =
@@ -182,6 +204,11 @@ write-rows-spec =
     part-write-row-start-2
     part-write-row-end-2
     write-row-requires
+    cast-counts
+    mul-counts
+    array-read-counts
+    add-counts
+    array-write-counts
     add-used
     add-used-2
     cast-null

@@ -34,20 +34,20 @@ returns-3 c =
     scan-told _ _ (simp e)
 
 slice-aggregate-scan-words : tie.Need-slice-aggregate-scan-words
-slice-aggregate-scan-words c = sym (length-take-le _ _ (c .before .before .before .before .before .if2 .left))
+slice-aggregate-scan-words c = sym (length-take-le _ _ (c .before .before .before .before .before .before .if2 .left))
 
-well-formed : (c : tie.Else3) → headerWellFormed (c .before .before .before .before .before .before .before .before .args .header .relations)
-    (c .before .before .before .before .before .before .before .before .args .header .arities) ≡ true
+well-formed : (c : tie.Else3) → headerWellFormed (c .before .before .before .before .before .before .before .before .before .args .header .relations)
+    (c .before .before .before .before .before .before .before .before .before .args .header .arities) ≡ true
 well-formed c = sym (c .before .header-well-formed .ensures) ∙ not-false _ (c .if3 .left)
 
 scan-words-requires : tie.Need-scan-words-requires
-scan-words-requires c κs = (well-formed (c .before .before), simp (length-take) (omega arith))
+scan-words-requires c κs = (well-formed (c .before .before .before), simp (length-take) (omega arith), search needs)
 
 returns-4 : tie.Need-returns-4
 unfolding scanned sound scannedWords rows
 returns-4 c =
-    let e = c .before .before .before in
-    let given = e .before .before .before .before .before .before .before .before .args in
+    let e = c .before .before .before .before in
+    let given = e .before .before .before .before .before .before .before .before .before .args in
     scan-told (given .header) (given .instance .now) (c .scan-words .ensures ∙ simp (well-formed e, le-leb _ _ (e .before .before .before .before .if1 .left), le-leb _ _ (e .before .before .before .if2 .left)))
 
 pub scan-spec : {M : Type 1} → statement M

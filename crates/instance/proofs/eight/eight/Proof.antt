@@ -1,14 +1,14 @@
--- `exports::words::eight` meets its contract: the first i values are copied. Assumes nothing.
+-- `instance::eight::eight` meets its contract: the first i values are copied. Assumes nothing.
 use Prim.Native.Nat.{ℕ, _-_, _≤_, _<_}
 use mathlib.Core.Path.{_≡_, refl, _∙_}
 use mathlib.Core.List.{List, _++_, append-nil}
 use native.Mathlib.Omega.{arith}
 use lib.ListN.{length, take, drop, replicate, length-drop}
 use lib.Seq.{getD-drop}
 use Rattle.instance.specs.Header.{maxRelations}
 use Rattle.instance.proofs.Passes.{copy-more}
-use Rattle.exports.proofs.words.eight.Statement.{statement}
-use Rattle.exports.proofs.words.eight.Tie as tie
+use Rattle.instance.proofs.eight.eight.Statement.{statement}
+use Rattle.instance.proofs.eight.eight.Tie as tie
 
 abbrev zeros : List ℕ
 zeros = replicate maxRelations 0

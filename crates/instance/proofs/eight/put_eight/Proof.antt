@@ -1,4 +1,4 @@
--- `exports::words::put_eight` meets its contract: the first i values are copied in. Assumes nothing.
+-- `instance::eight::put_eight` meets its contract: the first i values are copied in. Assumes nothing.
 use Prim.Native.Nat.{ℕ, _+_, _-_, _≤_}
 use mathlib.Core.Path.{_≡_, sym, ap, _∙_, refl}
 use mathlib.Core.List.{List}
@@ -6,9 +6,9 @@ use native.Mathlib.Omega.{arith}
 use native.Mathlib.Numerals.{add-one}
 use lib.ListN.{length, getD, set, length-set}
 use lib.Seq.{paste, paste-zero, paste-suc}
 use Rattle.instance.specs.Header.{maxRelations}
-use Rattle.exports.proofs.words.put_eight.Statement.{statement}
-use Rattle.exports.proofs.words.put_eight.Tie as tie
+use Rattle.instance.proofs.eight.put_eight.Statement.{statement}
+use Rattle.instance.proofs.eight.put_eight.Tie as tie
 
 abbrev Inv-loop : tie.InvT-loop
 Inv-loop words₀ at values i₀ words i = (i ≤ maxRelations) × (length words ≡ length words₀) × (words ≡ paste words₀ at values i)
