@@ -33,11 +33,8 @@ use Rattle.exports.specs.Numbers.{isDone}
 use Rattle.exports.specs.History.{Step, fills, undoes, inserts, State, stepAnswer, stepState, seenOf, stepsSeen, stateAfter, stepOf, historySeen, eventsOf, start, stateOf, Ended, ExportedHistory, HistoryFromCard}
 use Rattle.exports.proofs.Headed.{headed-yes, kept-yes}
 use Rattle.exports.proofs.Numbers.{every-return}
+use Rattle.exports.proofs.Kept.{read-sound}
 use Rattle.exports.proofs.HeaderWords.{Eight, words-size, header-back, words-back, has-eight}
-
--- a sound plot's header has as many counts as its rows have
-eight : (h : Header) (ws : List ℕ) → length (h .arities) ≡ maxRelations → sound h ws ≡ true → Eight h
-eight h ws e s = record { arities = e; counts = ap length (sound-gives h ws s .counted) ∙ row-counts-size (rows h ws) }
 
 -- ---- one step
 
@@ -159,22 +156,11 @@ exported-history hs ws log ps long is-sound =
     }
 
 pub history-from-card : HistoryFromCard
-unfolding decodeAnswer decodeHeader decodeWords decodeUsed
-history-from-card card hs ws log used ps z = go (decodeAnswer card hs ws) refl (every-return (decodes card used) hs ws .accepted z)
+unfolding decodeUsed
+history-from-card card hs ws log used ps z =
+    let p = read-sound card hs ws z in
+    (go (decodeAnswer card hs ws) refl (every-return (decodes card used) hs ws .accepted z), exported-history (decodeHeader card hs ws) (decodeWords card hs ws) log ps (p .long) (p .is-sound))
   where
-    go :
-        (a : Answer) → decodeAnswer card hs ws ≡ a → isDone a ≡ true →
-        (decodeUsed card hs ws used ≡ fresh) × Ended (decodeHeader card hs ws) (decodeWords card hs ws) log ps
-    go (Done k) q done =
-        let d = demand-done (eqb (length hs) headerLength) unsound (decoded card ws .answer) k q in
-        let h = decoded card ws .header in
-        let made = decoded-sound card ws k (d .1) in
-        let header : decodeHeader card hs ws ≡ headerWords h = ap (λ (a : Answer). after a (headerWords h) hs) q in
-        let words : decodeWords card hs ws ≡ decoded card ws .words = kept-yes hs (eqb-true (length hs) headerLength (d .0)) (decoded card ws .words) ws in (
-          ap (λ (a : Answer). after a fresh used) q,
-          subst (λ (x : List ℕ). Ended x (decodeWords card hs ws) log ps) (sym header)
-              (subst (λ (x : List ℕ). Ended (headerWords h) x log ps) (sym words)
-              (exported-history (headerWords h) (decoded card ws .words) log ps (words-size h (eight h (decoded card ws .words) (made .eight) (made .is-sound)))
-              (ap (λ (x : Header). sound x (decoded card ws .words)) (header-back h (eight h (decoded card ws .words) (made .eight) (made .is-sound))) ∙ made .is-sound))),
-        )
+    go : (a : Answer) → decodeAnswer card hs ws ≡ a → isDone a ≡ true → decodeUsed card hs ws used ≡ fresh
+    go (Done k) q done = ap (λ (a : Answer). after a fresh used) q
     go (Refused r) q done = absurd (false≢true done)

@@ -34,7 +34,7 @@ abbrev pub recordsWellFormed : ℕ → List ℕ → List Record → Bool
 recordsWellFormed n ars rs = all (recordWellFormed n ars) rs
 
 -- null m is a cell for m from 1 to 200
-null-cell : (m : ℕ) → 1 ≤ m → m ≤ nulls → isCell (null m) ≡ true
+pub null-cell : (m : ℕ) → 1 ≤ m → m ≤ nulls → isCell (null m) ≡ true
 unfolding isCell
 null-cell m low high =
     rw (le-ltb (constants + m) constants (omega arith), lt-ltb constants (constants + m) (omega arith))

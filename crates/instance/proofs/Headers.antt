@@ -1,6 +1,6 @@
 -- The header of rows: it makes them a sound instance, and rows of the same relations and lengths have the same header. Assumes nothing.
 use Prim.Native.Nat.{ℕ, suc, _≤_}
-use mathlib.Core.Path.{_≡_, refl, sym, ap, ap₂}
+use mathlib.Core.Path.{_≡_, refl, sym, ap, ap₂, _∙_}
 use mathlib.Core.Bool.{Bool, true, false, cond}
 use mathlib.Core.List.{List, [], _∷_, _++_, map}
 use native.Mathlib.Omega.{arith}
@@ -89,6 +89,15 @@ alike-back [] [] a = tt
 alike-back [] (s ∷ ss) a = absurd a
 alike-back (r ∷ rs) [] a = absurd a
 alike-back (r ∷ rs) (s ∷ ss) a = (sym (a .0), sym (a .1), alike-back rs ss (a .2))
+
+pub alike-trans : (rs ss ts : List Row) → Alike rs ss → Alike ss ts → Alike rs ts
+unfolding Alike
+alike-trans [] [] [] a b = tt
+alike-trans [] [] (t ∷ ts) a b = absurd b
+alike-trans [] (s ∷ ss) ts a b = absurd a
+alike-trans (r ∷ rs) [] ts a b = absurd a
+alike-trans (r ∷ rs) (s ∷ ss) [] a b = absurd b
+alike-trans (r ∷ rs) (s ∷ ss) (t ∷ ts) a b = (a .0 ∙ b .0, a .1 ∙ b .1, alike-trans rs ss ts (a .2) (b .2))
 
 -- with the same rows after them
 pub alike-append : (rs ss more : List Row) → Alike rs ss → Alike (rs ++ more) (ss ++ more)

@@ -6,7 +6,7 @@ use borrow.Author.Tests.{le-ltb, lt-ltb, not-true, not-false}
 use Rattle.instance.specs.Sound.{sound}
 use Rattle.instance.proofs.Sound.{scanned-sound, scanned-unsound}
 use Rattle.log.specs.Log.{entryWellFormed, undone}
-use Rattle.undo.proofs.Entries.{Entry, entry-met}
+use Rattle.log.proofs.Accepted.{Entry, entry-met}
 use borrow.Author.Needs.{needs}
 use Rattle.undo.proofs.test_undo.Statement.{statement}
 use Rattle.undo.proofs.test_undo.Tie as tie

@@ -12,7 +12,8 @@ use Rattle.instance.proofs.Sound.{sound-gives}
 use Rattle.log.specs.Places.{putAt}
 use Rattle.log.specs.Log.{lastMark, lastPlaces, undone, undoneWords, undoneUsed}
 use Rattle.undo.proofs.Places.{places-below}
-use Rattle.undo.proofs.Entries.{Undone, undo-accepted, undo-told, places-lent}
+use Rattle.log.proofs.Accepted.{Undone, undo-accepted}
+use Rattle.undo.proofs.Entries.{undo-told, places-lent}
 use borrow.Author.Needs.{needs}
 use Rattle.undo.proofs.undo.Statement.{statement}
 use Rattle.undo.proofs.undo.Tie as tie
