@@ -67,7 +67,8 @@ static void append_row(struct any_plot *plot, uint32_t sheet, const struct any_c
 /* Writes the plot as it is now. */
 static void write_plot(struct account *account)
 {
-    account->plot.length = account->plot.header[HEADER_USED] = 0;
+    account->plot.length = 0;
+    header_drop_rows(account->plot.header);
     for (size_t i = 0; i < account->row_count; i++) {
         struct any_cells cells = row_now(account, &account->rows[i]);
         append_row(&account->plot, account->rows[i].sheet, &cells);

@@ -76,8 +76,7 @@ static void check_step(const struct any_plot *plot)
 {
     uint32_t header[HEADER_WORDS];
     size_t used = account.used;
-    memcpy(header, start.header, sizeof header);
-    header[HEADER_USED] = (uint32_t)used;
+    header_of_rows(header, start.header[HEADER_RELATIONS], start.header + HEADER_ARITIES, account.words, used);
     tell();
     if (memcmp(header, plot->header, sizeof header) != 0)
         fail("the header is not that of the history's rows");

@@ -30,6 +30,18 @@ static bool header_is_sound(const uint32_t *header)
     return header[HEADER_USED] <= MOST_WORDS;
 }
 
+/* Whether each count equals the rows that stand. In a relation that does not exist none stands, so its count is 0. */
+static bool counts_are_right(const struct plot *plot, const uint32_t *header)
+{
+    uint32_t rows[MOST_RELATIONS] = {0};
+    for (size_t i = 0; i < plot->row_count; i++)
+        rows[plot->rows[i].relation]++;
+    for (uint32_t relation = 0; relation < MOST_RELATIONS; relation++)
+        if (count_of(header, relation) != rows[relation])
+            return false;
+    return true;
+}
+
 uint32_t plot_take_apart(struct plot *plot, const uint32_t *header, size_t header_length, const uint32_t *words,
                          size_t length)
 {
@@ -51,7 +63,7 @@ uint32_t plot_take_apart(struct plot *plot, const uint32_t *header, size_t heade
             row->cells[column] = words[at++];
         }
     }
-    return 0;
+    return counts_are_right(plot, header) ? 0 : 41;
 }
 
 size_t plot_cells(const struct plot *plot)
