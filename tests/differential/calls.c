@@ -44,6 +44,7 @@ static void note_card(const struct any_card *card, const struct any_plot *plot, 
 
 void try_decode(struct random *random, const struct palette *palette, struct any_plot *plot, struct any_log *log)
 {
+    static const size_t wrong_lengths[] = {HEADER_COUNTS, HEADER_WORDS - 1, HEADER_WORDS + 1};
     static struct any_card card;
     static struct any_plot old;
     old = *plot;
@@ -55,7 +56,7 @@ void try_decode(struct random *random, const struct palette *palette, struct any
     bool damaged = one_in(random, 2);
     for (size_t damages = damaged ? 1 + one_in(random, 5) : 0; damages > 0; damages--)
         damage_card(random, &card);
-    plot->header_length = one_in(random, 40) ? HEADER_WORDS - 1 + 2 * below(random, 2) : HEADER_WORDS;
+    plot->header_length = one_in(random, 40) ? wrong_lengths[below(random, 3)] : HEADER_WORDS;
     switch (below(random, 6)) {
     case 0:
         plot->length = needed;
@@ -70,11 +71,16 @@ void try_decode(struct random *random, const struct palette *palette, struct any
         plot->length = MOST_WORDS + below(random, 3);
     }
     bool fresh = log->used == 0;
+    bool miscounted = one_in(random, 3);
+    if (miscounted)
+        miscount_rows(random, plot);
     uint32_t number = both_decode(plot, &card, &log->used);
     if (!damaged)
         note_card(&card, plot, number);
     if (number == 0 && !fresh)
         note(FRESH_BY_DECODE);
+    if (number == 0 && miscounted)
+        note(DECODED_OVER_MISCOUNT);
     if (number != 0)
         *plot = old;
 }

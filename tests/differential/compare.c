@@ -1,4 +1,5 @@
 #include "compare.h"
+#include "counts.h"
 #include "lent.h"
 #include "plotask.h"
 #include "support/checks.h"
@@ -17,6 +18,7 @@ static uint64_t round_now;
 static struct {
     bool under_way;
     enum call call;
+    const struct any_plot *plot;
     struct lent lent[MOST_LENT];
     size_t lent_count;
     uint32_t arguments[MOST_ARGUMENTS];
@@ -72,6 +74,7 @@ static struct lent *lend_header(const struct any_plot *plot)
 
 static struct lent *lend_plot(const struct any_plot *plot)
 {
+    now.plot = plot;
     return lend(lend_part("plot", plot->words, plot->length, PLOT_ROOM));
 }
 
@@ -88,6 +91,14 @@ static struct lent *lend_log_used(size_t log_used)
 static struct lent *lend_result(const char *name)
 {
     return lend(lend_words(name, &unwritten, 1));
+}
+
+/* Notes what part the counts have in it that the plot is refused with 41. */
+static void note_unsound(void)
+{
+    enum counts_part part = counts_part(now.plot);
+    if (part < COUNTS_PARTS)
+        tally.unsound[now.call][part]++;
 }
 
 /* Compares what both sides left. The working list may have changed under 46. */
@@ -109,7 +120,16 @@ static uint32_t end(uint32_t library, uint32_t reference)
     }
     tally.calls++;
     tally.numbers[now.call][library]++;
+    if (library == 41 && now.call != DECODE)
+        note_unsound();
     return library;
+}
+
+/* Fails unless the header that an accepted call wrote counts the rows. Both sides could have the same wrong counts. */
+static void check_counts(uint32_t number, const struct any_plot *plot)
+{
+    if (number == 0 && !counts_stand(plot))
+        fail("a count is not the number of the relation's rows");
 }
 
 static void copy_back(const struct lent *lent, void *to)
@@ -140,6 +160,7 @@ uint32_t both_decode(struct any_plot *plot, const struct any_card *card, size_t 
     copy_back(h, plot->header);
     copy_back(p, plot->words);
     copy_back(u, log_used);
+    check_counts(number, plot);
     take_all_back();
     return number;
 }
@@ -154,6 +175,7 @@ uint32_t both_insert(struct any_plot *plot, uint32_t relation, const struct any_
                           ref_insert(REFERENCE(h), REFERENCE(p), relation, REFERENCE(c)));
     copy_back(h, plot->header);
     copy_back(p, plot->words);
+    check_counts(number, plot);
     take_all_back();
     return number;
 }

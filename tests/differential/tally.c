@@ -38,6 +38,17 @@ void note(enum named_case named_case)
     tally.cases[named_case]++;
 }
 
+static void check_unsound(enum call call)
+{
+    static const char *const names[COUNTS_PARTS] = {"right", "one over", "one short", "of no relation", "compensating"};
+    printf("%-17s 41, counts", call_names[call]);
+    for (size_t part = 0; part < COUNTS_PARTS; part++) {
+        printf(" %s:%" PRIu64, names[part], tally.unsound[call][part]);
+        check(tally.unsound[call][part] > 0);
+    }
+    printf("\n");
+}
+
 void check_tally(void)
 {
     static const char *const truth_names[] = {"false", "unknown", "true"};
@@ -50,6 +61,8 @@ void check_tally(void)
         }
         printf("\n");
     }
+    for (enum call call = DECODE + 1; call < CALLS; call++)
+        check_unsound(call);
     printf("%-17s", "truths");
     for (size_t i = 0; i < 3; i++) {
         printf(" %s:%" PRIu64, truth_names[i], tally.truths[i]);

@@ -13,6 +13,20 @@ enum call { DECODE, INSERT, SUBSTITUTE, SUBSTITUTE_LOGGED, UNDO, NULL_COUNTS, EN
 /* Room for every number that a call may return. */
 enum { CODES = 64 };
 
+/*
+ * What part the counts have in it that a plot is refused with 41. Each call that takes a plot has to hit all of these:
+ * in the first, something else is at fault; in the others, the plot would be sound with the right counts.
+ */
+enum counts_part {
+    COUNTS_RIGHT, /* for the rows that begin in the words in use */
+    COUNT_ONE_OVER,
+    COUNT_ONE_SHORT,
+    COUNT_OF_NO_RELATION, /* of one that does not exist: it is not 0 */
+    COUNTS_COMPENSATE,    /* several are wrong, and their sum is right */
+    COUNTS_PARTS,
+    COUNTS_OTHERWISE /* wrong in another way, or not all that is wrong */
+};
+
 /* Each case that has to be hit, with what the table prints for it. */
 #define EVERY_CASE(CASE)                                                                 \
     CASE(NO_ROWS_ASKED, "a plot without rows is asked")                                  \
@@ -38,6 +52,7 @@ enum { CODES = 64 };
     CASE(FILL_USED_BEYOND_LOG, "a logged substitution: the words in use exceed the log") \
     CASE(LOGGED_BY_ITSELF, "a null is replaced by itself and logged")                    \
     CASE(FRESH_BY_DECODE, "decode starts a log fresh that had words in use")             \
+    CASE(DECODED_OVER_MISCOUNT, "decode puts right counts for wrong ones")               \
     CASE(UNDO_USED_BEYOND_LOG, "an undo: the words in use exceed the log")               \
     CASE(ONE_WORD_IN_USE, "an undo: one word is in use")                                 \
     CASE(ENTRY_CUT_SHORT, "an undo: the words in use lack one of the entry")             \
@@ -117,6 +132,7 @@ enum named_case {
 struct tally {
     uint64_t calls;
     uint64_t numbers[CALLS][CODES];
+    uint64_t unsound[CALLS][COUNTS_PARTS]; /* refusals with 41; decode, which reads no plot, has none here */
     uint64_t truths[3];
     uint64_t cases[NAMED_CASES];
 };

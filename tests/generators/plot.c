@@ -1,6 +1,8 @@
 /* Plots. */
 #include "generate.h"
 
+#include <string.h>
+
 static void make_empty_plot(struct random *random, struct any_plot *plot)
 {
     uint32_t arities[MOST_RELATIONS];
@@ -110,22 +112,38 @@ void make_plot(struct random *random, const struct palette *palette, struct any_
         plot->words[i] = odd_number(random, 0);
 }
 
-void damage_plot(struct random *random, struct any_plot *plot)
+void count_relation_rows(const struct any_plot *plot, uint32_t rows[MOST_RELATIONS])
+{
+    size_t used = plot->header[HEADER_USED] < plot->length ? plot->header[HEADER_USED] : plot->length;
+    memset(rows, 0, MOST_RELATIONS * sizeof *rows);
+    for (size_t at = 0; at < used && plot->words[at] < MOST_RELATIONS; at += (size_t)1 + arity_at(plot, at))
+        rows[plot->words[at]]++;
+}
+
+void miscount_rows(struct random *random, struct any_plot *plot)
+{
+    uint32_t *counts = plot->header + HEADER_COUNTS;
+    uint32_t step = one_in(random, 2) ? 1 : (uint32_t)-1;
+    uint32_t relation = below(random, one_in(random, 3) ? MOST_RELATIONS : plot->header[HEADER_RELATIONS]);
+    counts[relation] += step;
+    if (one_in(random, 3))
+        counts[(relation + 1 + below(random, MOST_RELATIONS - 1)) % MOST_RELATIONS] -= step;
+}
+
+/* Damages the words, or the header but for its counts. */
+static void damage_rows(struct random *random, struct any_plot *plot)
 {
     size_t used = plot->header[HEADER_USED];
-    size_t index = below(random, HEADER_WORDS);
-    switch (below(random, 7)) {
+    size_t index = below(random, HEADER_COUNTS);
+    switch (below(random, 6)) {
     case 0:
-        plot->header_length = one_in(random, 4) ? 0 : one_in(random, 2) ? HEADER_WORDS - 1 : HEADER_WORDS + 1;
-        break;
-    case 1:
         plot->header[index] = odd_number(random, plot->header[index]);
         break;
-    case 2: /* words in use that the slice lacks */
+    case 1: /* words in use that the slice lacks */
         if (used > 0)
             plot->length = one_in(random, 3) ? below(random, used) : used - 1;
         break;
-    case 3: /* the last row cut short, or a row begun in the words after it */
+    case 2: /* the last row cut short, or a row begun in the words after it */
         plot->header[HEADER_USED] += one_in(random, 2) ? 1 : (uint32_t)-1;
         break;
     default:
@@ -133,6 +151,28 @@ void damage_plot(struct random *random, struct any_plot *plot)
             index = below(random, used);
             plot->words[index] = odd_number(random, plot->words[index]);
         }
+    }
+}
+
+void damage_plot(struct random *random, struct any_plot *plot)
+{
+    static const size_t lengths[] = {0, HEADER_COUNTS, HEADER_WORDS - 1, HEADER_WORDS + 1};
+    size_t index = HEADER_COUNTS + below(random, MOST_RELATIONS);
+    switch (below(random, 9)) {
+    case 0:
+        plot->header_length = lengths[below(random, 4)];
+        break;
+    case 1:
+        plot->header[index] = odd_number(random, plot->header[index]);
+        break;
+    case 2:
+    case 3:
+        miscount_rows(random, plot);
+        break;
+    default:
+        damage_rows(random, plot);
+        if (one_in(random, 2)) /* else a test of the counts alone would refuse nearly all of these */
+            count_relation_rows(plot, plot->header + HEADER_COUNTS);
     }
 }
 
