@@ -193,10 +193,12 @@ static void check_lengths(void)
 {
     size_t used = length;
     make_value_query(EVERY, X);
+    header_length = HEADER_WORDS - MOST_RELATIONS;
+    check_refusal("a header without its counts", UINT32_MAX, 41);
     header_length = HEADER_WORDS - 1;
-    check_refusal("a header of 9 words", UINT32_MAX, 41);
+    check_refusal("a header that lacks a word", UINT32_MAX, 41);
     header_length = HEADER_WORDS + 1;
-    check_refusal("a header of 11 words", UINT32_MAX, 41);
+    check_refusal("a header with a word more", UINT32_MAX, 41);
     header_length = 0;
     check_refusal("a header of no words", UINT32_MAX, 41);
     header_length = HEADER_WORDS;
@@ -204,7 +206,7 @@ static void check_lengths(void)
     check_refusal("a plot that lacks its last word", UINT32_MAX, 41);
     length = 0;
     check_refusal("a plot of no words, for a header with words in use", UINT32_MAX, 41);
-    header[HEADER_USED] = 0;
+    header_drop_rows(header);
     check_truth("a plot of no words", 0, TRUTH_TRUE, 0);
     make_value_query(SOME, X);
     check_truth("a plot of no words, some value", 0, TRUTH_FALSE, 0);
@@ -214,11 +216,31 @@ static void check_lengths(void)
     check_refusal("a query of no words", UINT32_MAX, 21);
 }
 
+/* As many rows as a plot can have, all of them (0); the row asked is not among them, so its cost counts them. */
+static void check_most_rows(void)
+{
+    const uint32_t arity = 1;
+    start_plot(1, &arity);
+    while (length < MOST_WORDS)
+        add_row(0, 0, 0);
+    start_query();
+    add_node(ROW_STANDS, 0, 5);
+    check_truth("2,048 rows", 2049, TRUTH_FALSE, 2049);
+    check_refusal("2,048 rows, one too many for the budget", 2048, 46);
+    header[HEADER_COUNTS] = 2049;
+    check_refusal("2,048 rows, counted as one more", UINT32_MAX, 41);
+    header[HEADER_COUNTS] = 2047;
+    check_refusal("2,048 rows, counted as one fewer", UINT32_MAX, 41);
+    node_count = 0;
+    check_refusal("2,048 rows, counted as one fewer, and a query of no words", 0, 41);
+}
+
 int main(void)
 {
     check_costs();
     check_most_values();
     check_most_nodes();
     check_lengths();
+    check_most_rows();
     return finish_checks();
 }

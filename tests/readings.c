@@ -244,6 +244,7 @@ static void check_history(void)
         uint32_t number = take_step(step, &log, &count);
         bool same = number == step->number && (number != 0 || count == step->count) &&
                     plot.header[HEADER_USED] == step->used && log.used == step->log_used;
+        same = same && count_of(plot.header, 0) == step->used / 2; /* rows of one column */
         same = same && memcmp(plot.words, step->words, step->used * sizeof *step->words) == 0;
         same = same && memcmp(log.words, step->log_words, step->log_used * sizeof *step->log_words) == 0;
         check_named(step->name, same);

@@ -23,8 +23,8 @@ c-test: lib $(PROGRAM) $(HOSTS) $(DESK) $(TESTS:%=$(BIN)/%) $(WITH_SANITIZERS)
 	$(LIMIT) $(BIN)/desk_lines && $(LIMIT) $(SANITIZED)/desk_lines && \
 	$(LIMIT) $(BIN)/desk_random $(SEED) $(DESK_ROUNDS) && \
 	$(LIMIT) $(SANITIZED)/desk_random $(SEED) $(SANITIZED_DESK_ROUNDS) && \
-	$(LIMIT) $(BIN)/header && $(LIMIT) $(BIN)/readings && $(LIMIT) $(BIN)/unlisted && $(LIMIT) $(BIN)/limit && \
-	$(LIMIT) $(BIN)/stack && \
+	$(LIMIT) $(BIN)/header && $(LIMIT) $(BIN)/readings && $(LIMIT) $(BIN)/counts && $(LIMIT) $(BIN)/unlisted && \
+	$(LIMIT) $(BIN)/limit && $(LIMIT) $(BIN)/stack && \
 	$(LIMIT) $(BIN)/differential $(SEED) $(ROUNDS) && \
 	$(LIMIT) $(SANITIZED)/differential $(SEED) $(SANITIZED_ROUNDS) && \
 	$(LIMIT) $(BIN)/feed $(PROGRAM) $(SEED) $(RUNS); } > target/c/tests.log || { cat target/c/tests.log; exit 1; }
@@ -50,7 +50,7 @@ verdicts: $(BIN)/transcripts $(BIN)/verdicts $(DESK) $(PROGRAM)
 	$(BIN)/verdicts $(PAGE) $(PROGRAM)
 
 # what each program is linked with, besides its own object
-$(BIN)/differential $(BIN)/readings $(BIN)/unlisted: $(call objects,c,$(COMPARED)) $(LIBRARY)
+$(BIN)/differential $(BIN)/readings $(BIN)/counts $(BIN)/unlisted: $(call objects,c,$(COMPARED)) $(LIBRARY)
 $(BIN)/feed: $(call objects,c,tests/generators tests/reference tests/support) $(LIBRARY)
 $(BIN)/header: $(call objects,c,tests/support) $(LIBRARY)
 $(BIN)/limit: $(call objects,c,tests/reference tests/support) $(LIBRARY)
