@@ -134,7 +134,7 @@ int main(void)
 
     if (refused(plotask_insert(PLOTASK_HEADER(&header), plot, PLOTASK_WORDS, HUNG, &lamp, 1)))
         return 1;
-    printf("lamp 202 entered: %u words\n", (unsigned)header.used);
+    printf("lamp 202 entered: %u words, %u lamps hang\n", (unsigned)header.used, (unsigned)header.counts[HUNG]);
 
     ask_to_hire(201, 100);
 

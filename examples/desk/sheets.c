@@ -43,12 +43,7 @@ size_t next_row(const struct plot *plot, uint32_t sheet, size_t at)
 
 unsigned count_rows(const struct plot *plot, uint32_t sheet)
 {
-    unsigned rows = 0;
-
-    for (size_t at = next_row(plot, sheet, 0); at < plot->header.used;
-         at = next_row(plot, sheet, at + 1 + plot->header.arities[sheet]))
-        rows++;
-    return rows;
+    return plot->header.counts[sheet];
 }
 
 /* Whether a plot can have one more sheet, with this number of columns: 0 if it can, or plotask's 12 or 13. */
