@@ -16,7 +16,7 @@ static const struct way {
     size_t most_short; /* for a query of 1 or 2 nodes */
     size_t most_deep;  /* for the longest chain of one kind */
 } ways[] = {
-    {"ask", ask, 3584, 23552},
+    {"ask", ask, 3680, 23552},
     {"ask unlisted", ask_unlisted, 3072, 23040},
 };
 
