@@ -108,17 +108,17 @@
  *
  * STACK, in bytes below the caller's own frame, as measured by `make bench` (docs/BENCHMARKS.md):
  *
- *   ask            3,520 for a question of 1 node, and for any of up to 4 levels, where the tests of plot and question
- *                  go deepest; at most 208 more for each further level; 23,480 for 100 nodes in one chain
- *   ask unlisted   2,960 for the same questions; at most 208 more for each further level; 22,920 for 100 nodes in one
+ *   ask            3,616 for a question of 1 node, and for any of up to 4 levels, where the tests of plot and question
+ *                  go deepest; at most 208 more for each further level; 23,512 for 100 nodes in one chain
+ *   ask unlisted   3,056 for the same questions; at most 208 more for each further level; 22,952 for 100 nodes in one
  *                  chain
- *   null counts      976
- *   insert           256
- *   encode           240
- *   decode           272
- *   logged fill      208
- *   undo             224
- *   substitute       176
+ *   null counts    1,040
+ *   insert           368
+ *   encode           304
+ *   decode           360
+ *   logged fill      272
+ *   undo             304
+ *   substitute       240
  *
  * LINKING
  *
