@@ -226,7 +226,7 @@ static void check_wrong_counts(void)
     check_calls("the right counts again", 0, 0);
 }
 
-/* A header that ends before its counts, and others that are too short or too long: their words are as they should be. */
+/* A header that ends before its counts, and others that are too short or too long, of words that are right. */
 static void check_lengths(void)
 {
     static const struct {

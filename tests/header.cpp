@@ -173,7 +173,7 @@ uint32_t make_call(int call, Lent &lent, size_t header_words)
     }
 }
 
-// A host that was compiled for a header without counts, or one that is a word longer or shorter: 41, and nothing changes.
+// A header without its counts, one that lacks a word and one with a word more: 41 by every call, and nothing changes.
 void header_lengths()
 {
     const size_t wrong[] = {PLOTASK_HEADER_WORDS - PLOTASK_RELATIONS, PLOTASK_HEADER_WORDS - 1,

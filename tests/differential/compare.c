@@ -93,12 +93,12 @@ static struct lent *lend_result(const char *name)
     return lend(lend_words(name, &unwritten, 1));
 }
 
-/* Notes what part the counts have in it that the plot is refused with 41. */
+/* Notes what is wrong with the counts of a plot that is refused with 41. */
 static void note_unsound(void)
 {
-    enum counts_part part = counts_part(now.plot);
-    if (part < COUNTS_PARTS)
-        tally.unsound[now.call][part]++;
+    enum counts_fault fault = counts_fault(now.plot);
+    if (fault < COUNTS_FAULTS)
+        tally.unsound[now.call][fault]++;
 }
 
 /* Compares what both sides left. The working list may have changed under 46. */

@@ -20,7 +20,7 @@ static bool is_sound_with(const struct any_plot *plot, const uint32_t rows[MOST_
     return ref_null_counts(header, plot->header_length, plot->words, plot->length, nulls, NULLS, &count) == 0;
 }
 
-enum counts_part counts_part(const struct any_plot *plot)
+enum counts_fault counts_fault(const struct any_plot *plot)
 {
     uint32_t rows[MOST_RELATIONS];
     uint32_t over = 0;

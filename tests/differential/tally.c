@@ -40,11 +40,12 @@ void note(enum named_case named_case)
 
 static void check_unsound(enum call call)
 {
-    static const char *const names[COUNTS_PARTS] = {"right", "one over", "one short", "of no relation", "compensating"};
+    static const char *const names[COUNTS_FAULTS] = {"right", "one over", "one short", "of no relation",
+                                                     "compensating"};
     printf("%-17s 41, counts", call_names[call]);
-    for (size_t part = 0; part < COUNTS_PARTS; part++) {
-        printf(" %s:%" PRIu64, names[part], tally.unsound[call][part]);
-        check(tally.unsound[call][part] > 0);
+    for (size_t fault = 0; fault < COUNTS_FAULTS; fault++) {
+        printf(" %s:%" PRIu64, names[fault], tally.unsound[call][fault]);
+        check(tally.unsound[call][fault] > 0);
     }
     printf("\n");
 }

@@ -14,17 +14,17 @@ enum call { DECODE, INSERT, SUBSTITUTE, SUBSTITUTE_LOGGED, UNDO, NULL_COUNTS, EN
 enum { CODES = 64 };
 
 /*
- * What part the counts have in it that a plot is refused with 41. Each call that takes a plot has to hit all of these:
- * in the first, something else is at fault; in the others, the plot would be sound with the right counts.
+ * What is wrong with the counts of a plot that is refused with 41. Each call that takes a plot has to meet all of
+ * these: right counts, where something else is at fault, and then plots that would be sound with the right counts.
  */
-enum counts_part {
+enum counts_fault {
     COUNTS_RIGHT, /* for the rows that begin in the words in use */
     COUNT_ONE_OVER,
     COUNT_ONE_SHORT,
     COUNT_OF_NO_RELATION, /* of one that does not exist: it is not 0 */
     COUNTS_COMPENSATE,    /* several are wrong, and their sum is right */
-    COUNTS_PARTS,
-    COUNTS_OTHERWISE /* wrong in another way, or not all that is wrong */
+    COUNTS_FAULTS,
+    COUNTS_OTHERWISE /* wrong in another way, or not the only fault */
 };
 
 /* Each case that has to be hit, with what the table prints for it. */
@@ -132,7 +132,7 @@ enum named_case {
 struct tally {
     uint64_t calls;
     uint64_t numbers[CALLS][CODES];
-    uint64_t unsound[CALLS][COUNTS_PARTS]; /* refusals with 41; decode, which reads no plot, has none here */
+    uint64_t unsound[CALLS][COUNTS_FAULTS]; /* refusals with 41; decode, which reads no plot, has none here */
     uint64_t truths[3];
     uint64_t cases[NAMED_CASES];
 };

@@ -74,13 +74,13 @@ uint32_t odd_number(struct random *random, uint32_t old);
 void make_plot(struct random *random, const struct palette *palette, struct any_plot *plot);
 void damage_plot(struct random *random, struct any_plot *plot);
 /*
- * Changes one count of an undamaged plot by one, up or down (0 down to the largest number), also that of a relation that
- * does not exist; or two counts, by one each, so that their sum stays. Nothing else is changed.
+ * Changes one count of an undamaged plot by one, up or down (from 0 to 4,294,967,295), also that of a relation that
+ * does not exist; or two counts, one up and one down, so that their sum stays. Nothing else is changed.
  */
 void miscount_rows(struct random *random, struct any_plot *plot);
 /*
- * Counts the rows of each relation in a plot's words. Of a damaged plot, these are the rows that its words in use seem
- * to have, up to one that no relation can have; one that is cut short is counted too.
+ * Counts the rows of each relation in a plot's words. In a damaged plot it counts the rows that the words in use seem
+ * to be, up to the first of a relation that no plot can have; a row that is cut short is counted too.
  */
 void count_relation_rows(const struct any_plot *plot, uint32_t rows[MOST_RELATIONS]);
 /* The number of cells of an undamaged plot, and of its values. */
