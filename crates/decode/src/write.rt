@@ -42,7 +42,8 @@ fn write_row(part: &mut [u32], relation: u32, arity: usize, map: u32, fields: &[
     }
 }
 
-// Writes `count` rows from the first word of `instance`, and returns how many of them each relation has; the first pass has checked the records.
+// Writes `count` rows from the first word of `instance`, and returns how many of them each relation has; the first pass
+// has checked the records.
 pub fn write_rows(
     instance: &mut [u32],
     card: &[u8],
@@ -52,8 +53,10 @@ pub fn write_rows(
     next: u32,
 ) -> [u32; 8]
     requires { ⌜ WriteRows (now instance) (now card) relations (now arities) count next ⌝ }
-    ensures counts { λ r. ⌜ r ≡ rowCounts (rowsRead relations (now (arities .entry)) count next (drop (relations + 3) (now (card .entry)))) ⌝ }
-    ensures words { λ _. ⌜ now (instance .exit) ≡ overwrite (wordsRead relations (now (arities .entry)) count next (drop (relations + 3) (now (card .entry)))) (now (instance .entry)) ⌝ }
+    ensures counts { λ r. ⌜ r ≡ rowCounts (rowsRead relations (now (arities .entry)) count next
+        (drop (relations + 3) (now (card .entry)))) ⌝ }
+    ensures words { λ _. ⌜ now (instance .exit) ≡ overwrite (wordsRead relations (now (arities .entry)) count next
+        (drop (relations + 3) (now (card .entry)))) (now (instance .entry)) ⌝ }
 {
     let mut counts = [0u32; 8];
     let mut used = 0;

@@ -1,4 +1,5 @@
--- No call makes a sound plot unsound, as C sees it. Document 02, request 10: "All calls that add or drop rows keep them right", the row counts in the head.
+-- No call makes a sound plot unsound, as C sees it. Document 02, request 10, of the row counts: "All calls that add or
+-- drop rows keep them right."
 use Prim.Native.Nat.{ℕ}
 use mathlib.Core.Path.{_≡_}
 use mathlib.Core.Bool.{true}
@@ -21,4 +22,6 @@ KeptSound = (j : Job) (hs ws : List ℕ) → SoundPlot hs ws → SoundPlot (head
 
 -- an accepted decode leaves a sound plot, whatever header and plot were before
 abbrev pub ReadSound : Type 0
-ReadSound = (card hs ws : List ℕ) → numberOf (decodeAnswer card hs ws) ≡ 0 → SoundPlot (decodeHeader card hs ws) (decodeWords card hs ws)
+ReadSound =
+    (card hs ws : List ℕ) → numberOf (decodeAnswer card hs ws) ≡ 0 →
+    SoundPlot (decodeHeader card hs ws) (decodeWords card hs ws)

@@ -1,4 +1,4 @@
--- A header as words: the number of relations, an arity for each of the eight, the words in use, and a row count for each.
+-- A header as words: the number of relations, the eight arities, the words in use, the eight row counts.
 use Prim.Native.Nat.{ℕ, _+_}
 use mathlib.Core.Bool.{cond}
 use mathlib.Core.List.{List, _∷_, _++_}
@@ -29,7 +29,8 @@ headerLength = countsAt + maxRelations
 
 unfoldable pub headerOf : List ℕ → Header
 headerOf hs =
-    headerWith (getD hs relationsAt 0) (take maxRelations (drop aritiesAt hs)) (getD hs usedAt 0) (take maxRelations (drop countsAt hs))
+    headerWith (getD hs relationsAt 0) (take maxRelations (drop aritiesAt hs)) (getD hs usedAt 0)
+    (take maxRelations (drop countsAt hs))
 
 unfoldable pub headerWords : Header → List ℕ
 headerWords h = h .relations ∷ h .arities ++ h .used ∷ h .counts

@@ -1,4 +1,5 @@
--- The number of rows of each relation. Document 02, request 10: "eight row counts in the head, 0 for sheets that do not exist". An atom's walk ends at the last row.
+-- The number of rows of each relation. Document 02, request 10: "eight row counts in the head, 0 for sheets that do not
+-- exist".
 use Prim.Native.Nat.{ℕ}
 use mathlib.Core.List.{List}
 use lib.ListN.{length}

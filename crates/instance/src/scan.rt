@@ -62,9 +62,11 @@ fn same_counts(counts: &[u32; 8], others: &[u32; 8]) -> bool
     true
 }
 
-// The number of rows in the words, or `Unsound` if they are not whole rows of cells, as many of each relation as the counts say.
+// The number of rows in the words, or `Unsound` if they are not whole rows of cells, as many of each relation as the
+// counts say.
 fn scan_words(relations: u32, arities: &[u32; 8], counts: &[u32; 8], words: &[u32]) -> Scanned
-    requires { ⌜ (headerWellFormed relations (now arities) ≡ true) × (length (now words) ≤ maxWords) × (length (now counts) ≡ maxRelations) ⌝ }
+    requires { ⌜ (headerWellFormed relations (now arities) ≡ true) × (length (now words) ≤ maxWords)
+        × (length (now counts) ≡ maxRelations) ⌝ }
     ensures { λ r. ⌜ r ≡ scannedWords relations (now (arities .entry)) (now (counts .entry)) (now (words .entry)) ⌝ }
 {
     let mut found = [0u32; 8];

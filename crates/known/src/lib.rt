@@ -12,7 +12,8 @@ pub mod flags;
 
 // The row counts and the arities of a header, and no flag, in an array of zeros.
 pub fn describe(counts: &[u32; 8], arities: &[u32; 8], known: &mut [u32])
-    requires { ⌜ (length (now counts) ≡ maxRelations) × (length (now arities) ≡ maxRelations) × (now known ≡ replicate knownWords 0) ⌝ }
+    requires { ⌜ (length (now counts) ≡ maxRelations) × (length (now arities) ≡ maxRelations)
+        × (now known ≡ replicate knownWords 0) ⌝ }
     ensures { λ _. ⌜ now (known .exit) ≡ now (counts .entry) ++ now (arities .entry) ++ replicate flagWords 0 ⌝ }
 {
     put_eight(known, 0, counts);
