@@ -65,6 +65,7 @@ pub fn write_rows(
     let mut left = count;
     while 0 < left {
         let relation = byte(card, at);
+        counts[relation as usize] += 1;
         let map = byte(card, at + 1);
         let arity = arities[relation as usize] as usize;
         let written = u32::count_ones(map);
@@ -77,7 +78,6 @@ pub fn write_rows(
             &card[first..],
             null,
         );
-        counts[relation as usize] += 1;
         used += 1 + arity;
         null += arity as u32 - written;
         at = first + 3 * written as usize;

@@ -46,18 +46,30 @@ module _ (c : tie.In-loop Inv-loop μ-loop) where
   inside : c .before .loop .used ≤ length (c .before .loop .instance)
   inside = omega (arith, c .before .loop .inv .stored .room, c .before .loop .inv .stored .same)
 
+-- the record's relation is one of eight, and fewer rows than words were counted
+module _ (c : tie.After-byte Inv-loop μ-loop) where
+  abbrev record-here : FoundIn (c .before) (c .byte .result) (getD (card (c .before)) (c .before .before .loop .at + 1) 0)
+  record-here = in-turn (c .before) _ _ (c .byte .ensures .0) refl
+
+  low : c .byte .result < maxRelations
+  low = omega (arith, record-here .known, start (c .before) .pre .few)
+
+  count-few : getD (c .before .before .loop .counts) (c .byte .result) 0 ≤ maxWords
+  count-few =
+      let s = start (c .before) in
+      omega (
+        arith,
+        record-here .uncounted low,
+        rows-at-most (whole (s .args .instance .now) (card (c .before)) (s .args .relations) (arities (c .before)) (s .args .count) (s .args .next)),
+        s .pre .short,
+      )
+
 module _ (c : tie.After-byte2 Inv-loop μ-loop) where
   abbrev turn : tie.In-loop Inv-loop μ-loop
   turn = c .before .before
 
   here : FoundIn turn (c .before .byte .result) (c .byte2 .result)
   here = in-turn turn _ _ (c .before .byte .ensures .0) (c .byte2 .ensures .0)
-
-  low : c .before .byte .result < maxRelations
-  low = omega (arith, here .known, start turn .pre .few)
-
-  count-few : getD (turn .before .loop .counts) (c .before .byte .result) 0 ≤ maxWords
-  count-few = omega (arith, here .uncounted low, rows-at-most (whole (start turn .args .instance .now) (card turn) (start turn .args .relations) (arities turn) (start turn .args .count) (start turn .args .next)), start turn .pre .short)
 
   narrow : arityOf (arities turn) (c .before .byte .result) ≤ maxColumns
   narrow = start turn .pre .narrow _ (here .known)
@@ -74,6 +86,21 @@ loop-holds c = rows-start _ _ _ _ _ _ (c .before .before .pre)
 
 byte-requires : tie.Need-byte-requires Inv-loop μ-loop
 byte-requires c κs = omega (arith, in-card c)
+
+cast-counts : tie.Need-cast-counts Inv-loop μ-loop
+cast-counts c = omega (arith, low c)
+
+mul-counts : tie.Need-mul-counts Inv-loop μ-loop
+mul-counts c = omega (arith, low c)
+
+array-read-counts : tie.Need-array-read-counts Inv-loop μ-loop
+array-read-counts c = low c
+
+add-counts : tie.Need-add-counts Inv-loop μ-loop
+add-counts c = omega (arith, count-few c)
+
+array-write-counts : tie.Need-array-write-counts Inv-loop μ-loop
+array-write-counts c = low c
 
 add-byte : tie.Need-add-byte Inv-loop μ-loop
 add-byte c = omega (arith, in-card (c .before))
@@ -123,21 +150,6 @@ write-row-requires c κs =
     let at = turn b .before .loop in
     simp part-to-end (omega (arith, here b .room, length-drop (at .used) (at .instance)), (narrow b, (omega (arith, here b .low), here b .fields)))
 
-cast-counts : tie.Need-cast-counts Inv-loop μ-loop
-cast-counts c = omega (arith, low (bytes c))
-
-mul-counts : tie.Need-mul-counts Inv-loop μ-loop
-mul-counts c = omega (arith, low (bytes c))
-
-array-read-counts : tie.Need-array-read-counts Inv-loop μ-loop
-array-read-counts c = low (bytes c)
-
-add-counts : tie.Need-add-counts Inv-loop μ-loop
-add-counts c = omega (arith, count-few (bytes c))
-
-array-write-counts : tie.Need-array-write-counts Inv-loop μ-loop
-array-write-counts c = low (bytes c)
-
 add-used : tie.Need-add-used Inv-loop μ-loop
 add-used c = omega (arith, narrow (bytes c))
 
@@ -172,7 +184,7 @@ loop-again : tie.Need-loop-again Inv-loop μ-loop
 loop-again c =
     let at = turn (bytes c) .before .loop in
     rw (put-to-end (at .instance) (at .used) _ (inside (turn (bytes c))))
-    (here (bytes c) .next-rows (c .before .before .write-row .last .0) (simp part-to-end at (c .before .before .write-row .ensures)) (low (bytes c)))
+    (here (bytes c) .next-rows (c .before .before .write-row .last .0) (simp part-to-end at (c .before .before .write-row .ensures)) (low (bytes c .before)))
 
 same-length : tie.Need-same-length Inv-loop μ-loop
 same-length c = c .before .loop .inv .stored .same
@@ -189,6 +201,11 @@ write-rows-spec =
     add-at
     loop-holds
     byte-requires
+    cast-counts
+    mul-counts
+    array-read-counts
+    add-counts
+    array-write-counts
     add-byte
     byte-requires-2
     cast-arity
@@ -204,11 +221,6 @@ write-rows-spec =
     part-write-row-start-2
     part-write-row-end-2
     write-row-requires
-    cast-counts
-    mul-counts
-    array-read-counts
-    add-counts
-    array-write-counts
     add-used
     add-used-2
     cast-null
