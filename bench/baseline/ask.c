@@ -3,8 +3,6 @@
 
 #include <string.h>
 
-#define INLINED static inline __attribute__((always_inline))
-
 enum { SLOTS = 8192, STRIDE = 8 };
 
 /* Whether a cell is among the first n of a list. A stride has no early exit, so that its cells are compared at once. */
@@ -90,44 +88,49 @@ static int unifies(const uint32_t *a, const uint32_t *b, uint32_t columns)
     return 1;
 }
 
-/* Where a run of rows of one relation ends. A step looked up for each row would make its address wait for two loads. */
-INLINED const uint32_t *end_of_run(const struct plotask_header *header, const uint32_t *plot, const uint32_t *end)
+/*
+ * Where a run of rows of one relation ends, if rows of others follow. A step looked up for each row would make its
+ * address wait for two loads.
+ */
+INLINED const uint32_t *end_of_run(const struct plotask_header *header, const uint32_t *plot)
 {
     uint32_t relation = *plot;
     size_t step = 1 + header->arities[relation];
 
     do
         plot += step;
-    while (plot < end && *plot == relation);
+    while (*plot == relation);
     return plot;
 }
 
 /*
  * row_stands for a number of columns that is a constant where it is called. A row is passed over if its first cell is
  * not the asked one and below `limit`: all constants if the asked cell is one, and every cell as soon as a row unifies,
- * since then only an identical row matters.
+ * since then only an identical row matters. `end` is where the relation's last row ends if its rows that are left
+ * follow each other, so rows of other relations move it, and no row after that last one is passed.
  */
 INLINED uint32_t stands_in(const struct plotask_header *header, const uint32_t *plot, uint32_t relation,
                            const uint32_t *row, uint32_t columns, uint64_t *cost)
 {
-    const uint32_t *end = plot + header->used;
+    const uint32_t *end = plot + header->counts[relation] * (1 + columns);
     uint32_t first = row[0], limit = first < PLOTASK_CONSTANTS ? PLOTASK_CONSTANTS : 0;
-    uint32_t truth = PLOTASK_FALSE, rows = 0;
+    uint32_t truth = PLOTASK_FALSE;
 
+    *cost += 1 + header->counts[relation];
     while (plot < end) {
-        if (*plot != relation) {
-            plot = end_of_run(header, plot, end);
-            continue;
+        while (*plot != relation) {
+            const uint32_t *next = end_of_run(header, plot);
+            end += next - plot;
+            plot = next;
         }
         do {
-            rows++;
             if (plot[1] == first || plot[1] >= limit) {
                 uint32_t i = plot[1] == first;
                 if (i > 0)
                     while (i < columns && plot[1 + i] == row[i])
                         i++;
                 if (i == columns) {
-                    *cost += 1 + rows;
+                    *cost -= (size_t)(end - plot) / (1 + columns) - 1; /* the rows after this one */
                     return PLOTASK_TRUE;
                 }
                 if (truth == PLOTASK_FALSE && !are_constants(plot[1 + i], row[i]) &&
@@ -139,7 +142,6 @@ INLINED uint32_t stands_in(const struct plotask_header *header, const uint32_t *
             plot += 1 + columns;
         } while (plot < end && *plot == relation);
     }
-    *cost += 1 + rows;
     return truth;
 }
 

@@ -7,6 +7,9 @@
 
 #include "plotask.h"
 
+/* For a function with a parameter that is a constant where it is called. */
+#define INLINED static inline __attribute__((always_inline))
+
 static inline int is_cell_number(uint32_t number)
 {
     return number < PLOTASK_CONSTANTS || number - PLOTASK_FIRST_MARK < PLOTASK_MARKS;
@@ -20,7 +23,7 @@ typedef size_t listing(const struct plotask_header *header, const uint32_t *plot
 listing list_by_scan;  /* searches the list for each cell */
 listing list_by_table; /* with a hash table of 16 KiB */
 
-/* The truth of "the row stands in the relation"; what it costs is added to `cost`. */
+/* The truth of "the row stands in the relation" of a sound plot; what it costs is added to `cost`. */
 uint32_t row_stands(const struct plotask_header *header, const uint32_t *plot, uint32_t relation, const uint32_t *row,
                     uint64_t *cost);
 

@@ -81,6 +81,7 @@ uint32_t decode_card(const uint8_t *card, size_t bytes, struct plotask_header *h
         if (size == 0)
             return 0;
         read.used += 1 + read.arities[p[0]];
+        read.counts[p[0]]++;
         p += size;
     }
     if (p != end || highest + blanks > PLOTASK_LAST_MARK || read.used > PLOTASK_WORDS || read.used > plot_words)
@@ -102,8 +103,8 @@ uint32_t encode_card(const struct plotask_header *header, const uint32_t *plot, 
 
     if (!is_sound(header, plot, plot_words))
         return 0;
-    for (uint32_t at = 0; at < header->used; at += 1 + header->arities[plot[at]])
-        rows++;
+    for (uint32_t i = 0; i < header->relations; i++)
+        rows += header->counts[i];
     uint32_t size = 3 + header->relations + 3 * header->used - rows;
     if (bytes < size)
         return 0;

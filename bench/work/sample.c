@@ -8,6 +8,7 @@ uint32_t *add_row(struct sample *sample, uint32_t relation)
 
     row[0] = relation;
     sample->header.used += 1 + sample->header.arities[relation];
+    sample->header.counts[relation]++;
     return row + 1;
 }
 

@@ -16,7 +16,7 @@ struct sample {
     size_t candidate_cells;
 };
 
-/* Enters a row without its cells, and returns where those are to be written. */
+/* Enters a row without its cells, counts it, and returns where the cells are to be written. */
 uint32_t *add_row(struct sample *sample, uint32_t relation);
 
 /* A plot of one relation. Each cell gets its index among the cells, modulo `values`. */

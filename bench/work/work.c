@@ -61,8 +61,10 @@ static void ask_by_hand(listing *list_values)
     uint64_t cost = 0;
 
     refusal = !is_sound(&now.header, now.plot, PLOTASK_WORDS);
+    if (refusal != PLOTASK_DONE)
+        return;
     truth = by_hand(list, list_values(&now.header, now.plot, list), &cost);
-    refusal |= cost > UINT32_MAX;
+    refusal = cost > UINT32_MAX;
     count = (uint32_t)cost;
 }
 
@@ -250,6 +252,15 @@ void must_do(work *piece)
     must(refusal == PLOTASK_DONE, "a call is refused");
 }
 
+/* A row that is entered by hand is counted: the library, which tests the counts, takes the plot that it leaves. */
+static void check_insert_by_hand(void)
+{
+    refusal = !insert_row(&now.header, now.plot, PLOTASK_WORDS, 0, row, PLOTASK_COLUMNS);
+    must(refusal == PLOTASK_DONE, "a row is refused by hand");
+    must_do(null_counts);
+    now.header = prepared;
+}
+
 void prepare_calls(uint32_t rows)
 {
     make_plot(&now, PLOTASK_COLUMNS, rows, PLOTASK_CELLS);
@@ -262,9 +273,12 @@ void prepare_calls(uint32_t rows)
     card_bytes = count;
     memcpy(card, written, card_bytes);
     must_do(decode_by_hand);
+    must(memcmp(&read_header, &now.header, sizeof read_header) == 0, "a header decoded by hand differs");
     must(memcmp(read_plot, now.plot, now.header.used * sizeof *now.plot) == 0, "a card decoded by hand differs");
     must_do(encode_by_hand);
     must(memcmp(card, written, card_bytes) == 0, "a card encoded by hand differs");
+    if (now.header.used + 1 + PLOTASK_COLUMNS <= PLOTASK_WORDS)
+        check_insert_by_hand();
 }
 
 /* A logged fill leaves the same plot and log by hand as by the library, and each is undone. */
