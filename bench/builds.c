@@ -3,6 +3,10 @@
  * build against a copy of itself. A ratio against the other build means something only if it is clearly farther from 1
  * than the controls'. The symbols of the other build have the prefix other_, those of the copies control_ and
  * other_control_.
+ *
+ * Each build is lent headers of its own length. A shorter header is the start of a longer one, so all builds are lent
+ * the same struct. One that takes no counts writes none, but none is needed after it: what decode writes is not read,
+ * and an inserted row is taken back with the whole header.
  */
 #include "work/full.h"
 
@@ -36,7 +40,25 @@ CALLS(other_control_);
 #pragma weak other_control_plotask_ask_unlisted
 
 static const struct build this = BUILD(), control = BUILD(control_);
-static const struct build other = BUILD(other_), other_control = BUILD(other_control_);
+static struct build other = BUILD(other_), other_control = BUILD(other_control_);
+
+/* The lengths that a header has had: with the row counts, and up to them. */
+static const size_t header_lengths[] = {PLOTASK_HEADER_WORDS,
+                                        offsetof(struct plotask_header, counts) / sizeof(uint32_t)};
+
+/* The length of the headers that a build takes: the one with which it does not refuse an empty plot. */
+static size_t header_words_of(const struct build *which)
+{
+    struct plotask_header empty = {.relations = 1, .arities = {1}};
+    uint32_t plot[1] = {0}, counts[PLOTASK_MARKS], marks;
+
+    for (size_t i = 0; i < sizeof header_lengths / sizeof *header_lengths; i++)
+        if (which->null_counts(plotask_header_words(&empty), header_lengths[i], plot, 1, counts, PLOTASK_MARKS,
+                               &marks) == PLOTASK_DONE)
+            return header_lengths[i];
+    must(0, "the other build takes no header of a length that is known here");
+    return 0;
+}
 
 /* The call that is timed. */
 static work *timed;
@@ -192,6 +214,7 @@ static void call_rows(void)
 
 int main(void)
 {
+    other.header_words = other_control.header_words = header_words_of(&other);
     puts("| call | this build, ns | the other, ns | ratio | ratio of this build to its copy | of the other to its copy "
          "|");
     puts("|---|---|---|---|---|---|");

@@ -13,6 +13,9 @@ answering *by_hand;
 static const struct build this_build = BUILD();
 const struct build *build = &this_build;
 
+/* A header as the chosen build takes it. */
+#define HEADER(header) plotask_header_words(header), build->header_words
+
 static uint32_t list[PLOTASK_CELLS];
 static uint8_t card[PLOTASK_CARD_BYTES], written[PLOTASK_CARD_BYTES];
 static uint32_t card_bytes;
@@ -25,8 +28,8 @@ static const uint32_t row[PLOTASK_COLUMNS] = {1, 2, 3, 4, 5, 6};
 
 static uint32_t ask_nodes(const uint32_t *nodes, size_t words, uint32_t budget)
 {
-    return build->ask(PLOTASK_HEADER(&now.header), now.plot, PLOTASK_WORDS, nodes, words, now.candidate,
-                      now.candidate_cells, list, PLOTASK_CELLS, budget, &truth, &count);
+    return build->ask(HEADER(&now.header), now.plot, PLOTASK_WORDS, nodes, words, now.candidate, now.candidate_cells,
+                      list, PLOTASK_CELLS, budget, &truth, &count);
 }
 
 void ask(void)
@@ -36,7 +39,7 @@ void ask(void)
 
 void ask_unlisted(void)
 {
-    refusal = build->ask_unlisted(PLOTASK_HEADER(&now.header), now.plot, PLOTASK_WORDS, now.query, now.query_words,
+    refusal = build->ask_unlisted(HEADER(&now.header), now.plot, PLOTASK_WORDS, now.query, now.query_words,
                                   now.candidate, now.candidate_cells, UINT32_MAX, &truth, &count);
 }
 
@@ -86,7 +89,7 @@ void ask_reference(void)
 
 void decode(void)
 {
-    refusal = build->decode(card, card_bytes, PLOTASK_HEADER(&read_header), read_plot, PLOTASK_WORDS, &fill_log_used);
+    refusal = build->decode(card, card_bytes, HEADER(&read_header), read_plot, PLOTASK_WORDS, &fill_log_used);
 }
 
 void decode_by_hand(void)
@@ -101,7 +104,7 @@ void decode_reference(void)
 
 void encode(void)
 {
-    refusal = build->encode(PLOTASK_HEADER(&now.header), now.plot, PLOTASK_WORDS, written, sizeof written, &count);
+    refusal = build->encode(HEADER(&now.header), now.plot, PLOTASK_WORDS, written, sizeof written, &count);
 }
 
 void encode_by_hand(void)
@@ -126,8 +129,7 @@ static uint32_t next_null(void)
 void substitute(void)
 {
     uint32_t null = next_null();
-    refusal =
-        build->substitute(PLOTASK_HEADER(&now.header), now.plot, PLOTASK_WORDS, null, PLOTASK_MARK(3 - null), &count);
+    refusal = build->substitute(HEADER(&now.header), now.plot, PLOTASK_WORDS, null, PLOTASK_MARK(3 - null), &count);
 }
 
 void substitute_by_hand(void)
@@ -145,8 +147,8 @@ void substitute_reference(void)
 
 void there_and_back(void)
 {
-    refusal = build->substitute(PLOTASK_HEADER(&now.header), now.plot, PLOTASK_WORDS, 1, PLOTASK_MARK(2), &count);
-    refusal |= build->substitute(PLOTASK_HEADER(&now.header), now.plot, PLOTASK_WORDS, 2, PLOTASK_MARK(1), &count);
+    refusal = build->substitute(HEADER(&now.header), now.plot, PLOTASK_WORDS, 1, PLOTASK_MARK(2), &count);
+    refusal |= build->substitute(HEADER(&now.header), now.plot, PLOTASK_WORDS, 2, PLOTASK_MARK(1), &count);
 }
 
 void there_and_back_by_hand(void)
@@ -166,9 +168,9 @@ void there_and_back_reference(void)
 
 void logged_and_undone(void)
 {
-    refusal = build->substitute_logged(PLOTASK_HEADER(&now.header), now.plot, PLOTASK_WORDS, FILL_LOG, 1,
-                                       PLOTASK_MARK(2), &count);
-    refusal |= build->undo(PLOTASK_HEADER(&now.header), now.plot, PLOTASK_WORDS, FILL_LOG, &count);
+    refusal =
+        build->substitute_logged(HEADER(&now.header), now.plot, PLOTASK_WORDS, FILL_LOG, 1, PLOTASK_MARK(2), &count);
+    refusal |= build->undo(HEADER(&now.header), now.plot, PLOTASK_WORDS, FILL_LOG, &count);
 }
 
 void logged_and_undone_by_hand(void)
@@ -191,7 +193,7 @@ void substitute_logged(void)
 {
     uint32_t null = next_null();
     fill_log_used = 0;
-    refusal = build->substitute_logged(PLOTASK_HEADER(&now.header), now.plot, PLOTASK_WORDS, FILL_LOG, null,
+    refusal = build->substitute_logged(HEADER(&now.header), now.plot, PLOTASK_WORDS, FILL_LOG, null,
                                        PLOTASK_MARK(3 - null), &count);
     entry_words = fill_log_used;
 }
@@ -199,12 +201,12 @@ void substitute_logged(void)
 void undo(void)
 {
     fill_log_used = entry_words;
-    refusal = build->undo(PLOTASK_HEADER(&now.header), now.plot, PLOTASK_WORDS, FILL_LOG, &count);
+    refusal = build->undo(HEADER(&now.header), now.plot, PLOTASK_WORDS, FILL_LOG, &count);
 }
 
 void null_counts(void)
 {
-    refusal = build->null_counts(PLOTASK_HEADER(&now.header), now.plot, PLOTASK_WORDS, counts, PLOTASK_MARKS, &count);
+    refusal = build->null_counts(HEADER(&now.header), now.plot, PLOTASK_WORDS, counts, PLOTASK_MARKS, &count);
 }
 
 void null_counts_by_hand(void)
@@ -222,7 +224,7 @@ static struct plotask_header prepared;
 
 void insert(void)
 {
-    refusal = build->insert(PLOTASK_HEADER(&now.header), now.plot, PLOTASK_WORDS, 0, row, PLOTASK_COLUMNS);
+    refusal = build->insert(HEADER(&now.header), now.plot, PLOTASK_WORDS, 0, row, PLOTASK_COLUMNS);
     now.header = prepared;
 }
 
