@@ -92,12 +92,12 @@ static void call_table(void)
     puts("\n## The other calls\n");
     puts("| call | library, ns | C by hand, ns | ratio | reference, ns | ratio |");
     puts("|---|---|---|---|---|---|");
-    prepare_calls(FULL_ROWS);
+    prepare_calls(PLOTASK_COLUMNS, FULL_ROWS);
     call_row("decode, 585 rows", decode, decode_by_hand, decode_reference);
     call_row("encode, 585 rows", encode, encode_by_hand, encode_reference);
     call_row("substitute, a mark in 585 cells", substitute, substitute_by_hand, substitute_reference);
     call_row("null counts, 585 rows", null_counts, null_counts_by_hand, null_counts_reference);
-    prepare_calls(FULL_ROWS - 1);
+    prepare_calls(PLOTASK_COLUMNS, FULL_ROWS - 1);
     call_row("insert after 584 rows", insert, insert_by_hand, insert_reference);
 }
 
@@ -147,6 +147,11 @@ static void every_of_many_values(uint32_t rows)
     ask_values(&now);
 }
 
+static void six_columns(uint32_t rows)
+{
+    prepare_calls(PLOTASK_COLUMNS, rows);
+}
+
 /* The rows of a quarter, a half, and a full plot with room for one more row. */
 static const uint32_t SHARES[] = {FULL_ROWS / 4, FULL_ROWS / 2, FULL_ROWS - 1};
 
@@ -174,12 +179,12 @@ static void growth_table(void)
     growth_row("ask, no row asked; all values different", many_values, ask);
     growth_row("ask unlisted, for every value an equality; 16 different values", every_of_few_values, ask_unlisted);
     growth_row("ask unlisted, for every value an equality; all values different", every_of_many_values, ask_unlisted);
-    growth_row("decode", prepare_calls, decode);
-    growth_row("encode", prepare_calls, encode);
-    growth_row("substitute", prepare_calls, substitute);
-    growth_row("logged fill and undo", prepare_calls, logged_and_undone);
-    growth_row("null counts", prepare_calls, null_counts);
-    growth_row("insert", prepare_calls, insert);
+    growth_row("decode", six_columns, decode);
+    growth_row("encode", six_columns, encode);
+    growth_row("substitute", six_columns, substitute);
+    growth_row("logged fill and undo", six_columns, logged_and_undone);
+    growth_row("null counts", six_columns, null_counts);
+    growth_row("insert", six_columns, insert);
 }
 
 static double time_of(work *piece)
@@ -267,7 +272,7 @@ static void stack_table(void)
     puts("\n## Stack\n");
     puts("| call | stack, bytes |");
     puts("|---|---|");
-    prepare_calls(FULL_ROWS - 1);
+    prepare_calls(PLOTASK_COLUMNS, FULL_ROWS - 1);
     stack_row("decode", "", decode);
     stack_row("encode", "", encode);
     stack_row("insert", "", insert);

@@ -124,11 +124,17 @@ static const struct {
      null_every_row, ask_first_columns, ask},
     {"no row asked; 4,096 words in rows of one cell, 16 different values", 1, PLOTASK_WORDS / 2, FEW_VALUES, NULL,
      ask_nothing, ask},
+    {"no row asked; 4,096 words in rows of one cell, eight sheets in turn, 16 different values", 1, PLOTASK_WORDS / 2,
+     FEW_VALUES, spread_rows, ask_nothing, ask},
     {"one row, no match, refused with 46 for a budget of 100; 4,096 words in rows of one cell, 16 different values", 1,
      PLOTASK_WORDS / 2, FEW_VALUES, NULL, ask_absent_row, ask_refused},
     {"two nested quantifiers over 64 rows of one cell; 64 different values", 1, 64, 64, NULL, ask_pairs, ask},
     {"no list: one row, no match; 16 different values", PLOTASK_COLUMNS, FULL_ROWS, FEW_VALUES, NULL, ask_absent_row,
      ask_unlisted},
+    {"no list: no row asked; 4,096 words in rows of one cell, 16 different values", 1, PLOTASK_WORDS / 2, FEW_VALUES,
+     NULL, ask_nothing, ask_unlisted},
+    {"no list: no row asked; 4,096 words in rows of one cell, eight sheets in turn, 16 different values", 1,
+     PLOTASK_WORDS / 2, FEW_VALUES, spread_rows, ask_nothing, ask_unlisted},
     {"no list: for every value an equality; 16 different values", PLOTASK_COLUMNS, FULL_ROWS, FEW_VALUES, NULL,
      ask_values, ask_unlisted},
     {"no list: for every value an equality; 3,510 different values", PLOTASK_COLUMNS, FULL_ROWS, PLOTASK_CELLS, NULL,
@@ -137,18 +143,21 @@ static const struct {
      ask_unlisted},
 };
 
-/* The other calls: how many rows of six columns the plot has. */
+/* The other calls: how many columns and rows the plot has. */
 static const struct {
     const char *name;
     work *call;
-    uint32_t rows;
+    uint32_t columns, rows;
 } calls[] = {
-    {"decode, 585 rows", decode, FULL_ROWS},
-    {"encode, 585 rows", encode, FULL_ROWS},
-    {"substitute, a mark in 585 cells", substitute, FULL_ROWS},
-    {"logged fill and undo, a mark in 585 cells", logged_and_undone, FULL_ROWS},
-    {"null counts, 585 rows", null_counts, FULL_ROWS},
-    {"insert after 584 rows", insert, FULL_ROWS - 1},
+    {"decode, 585 rows", decode, PLOTASK_COLUMNS, FULL_ROWS},
+    {"decode, 2,048 rows of one column", decode, 1, PLOTASK_WORDS / 2},
+    {"encode, 585 rows", encode, PLOTASK_COLUMNS, FULL_ROWS},
+    {"substitute, a mark in 585 cells", substitute, PLOTASK_COLUMNS, FULL_ROWS},
+    {"logged fill and undo, a mark in 585 cells", logged_and_undone, PLOTASK_COLUMNS, FULL_ROWS},
+    {"null counts, 585 rows", null_counts, PLOTASK_COLUMNS, FULL_ROWS},
+    {"null counts, 2,048 rows of one column", null_counts, 1, PLOTASK_WORDS / 2},
+    {"insert after 584 rows", insert, PLOTASK_COLUMNS, FULL_ROWS - 1},
+    {"insert after 2,047 rows of one column", insert, 1, PLOTASK_WORDS / 2 - 1},
 };
 
 enum { BUILDS = 4 };
@@ -205,7 +214,7 @@ static void call_rows(void)
 {
     for (size_t i = 0; i < sizeof calls / sizeof *calls; i++) {
         build = &this;
-        prepare_calls(calls[i].rows);
+        prepare_calls(calls[i].columns, calls[i].rows);
         timed = calls[i].call;
         if (other_has(timed))
             table_row("", calls[i].name);

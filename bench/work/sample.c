@@ -44,6 +44,22 @@ void null_every_row(struct sample *sample)
     }
 }
 
+void spread_rows(struct sample *sample)
+{
+    struct plotask_header *header = &sample->header;
+    uint32_t columns = header->arities[0], relation = 0;
+
+    header->relations = PLOTASK_RELATIONS;
+    for (uint32_t i = 0; i < PLOTASK_RELATIONS; i++)
+        header->arities[i] = columns;
+    header->counts[0] = 0;
+    for (uint32_t at = 0; at < header->used; at += 1 + columns) {
+        sample->plot[at] = relation;
+        header->counts[relation]++;
+        relation = (relation + 1) % PLOTASK_RELATIONS;
+    }
+}
+
 void make_sparse(struct sample *sample)
 {
     make_plot(sample, PLOTASK_COLUMNS, FULL_ROWS, 1);

@@ -31,6 +31,9 @@ void make_null_row(struct sample *sample);
 /* Puts nulls 1 to 200, in turn, in the last column of every row, and the columns' own numbers before them. */
 void null_every_row(struct sample *sample);
 
+/* Gives the rows of a plot of one relation to eight, of as many columns each, in turn. */
+void spread_rows(struct sample *sample);
+
 /* A full plot of zeros, with a constant of its own in the last cell of every fifth row: one new value in 35 words. */
 void make_sparse(struct sample *sample);
 

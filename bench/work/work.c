@@ -224,19 +224,19 @@ static struct plotask_header prepared;
 
 void insert(void)
 {
-    refusal = build->insert(HEADER(&now.header), now.plot, PLOTASK_WORDS, 0, row, PLOTASK_COLUMNS);
+    refusal = build->insert(HEADER(&now.header), now.plot, PLOTASK_WORDS, 0, row, now.header.arities[0]);
     now.header = prepared;
 }
 
 void insert_by_hand(void)
 {
-    refusal = !insert_row(&now.header, now.plot, PLOTASK_WORDS, 0, row, PLOTASK_COLUMNS);
+    refusal = !insert_row(&now.header, now.plot, PLOTASK_WORDS, 0, row, now.header.arities[0]);
     now.header = prepared;
 }
 
 void insert_reference(void)
 {
-    refusal = ref_insert(PLOTASK_HEADER(&now.header), now.plot, PLOTASK_WORDS, 0, row, PLOTASK_COLUMNS);
+    refusal = ref_insert(PLOTASK_HEADER(&now.header), now.plot, PLOTASK_WORDS, 0, row, now.header.arities[0]);
     now.header = prepared;
 }
 
@@ -257,17 +257,21 @@ void must_do(work *piece)
 /* A row that is entered by hand is counted: the library, which tests the counts, takes the plot that it leaves. */
 static void check_insert_by_hand(void)
 {
-    refusal = !insert_row(&now.header, now.plot, PLOTASK_WORDS, 0, row, PLOTASK_COLUMNS);
+    refusal = !insert_row(&now.header, now.plot, PLOTASK_WORDS, 0, row, now.header.arities[0]);
     must(refusal == PLOTASK_DONE, "a row is refused by hand");
     must_do(null_counts);
     now.header = prepared;
 }
 
-void prepare_calls(uint32_t rows)
+void prepare_calls(uint32_t columns, uint32_t rows)
 {
-    make_plot(&now, PLOTASK_COLUMNS, rows, PLOTASK_CELLS);
-    for (uint32_t at = 1; at < now.header.used; at += 1 + PLOTASK_COLUMNS)
-        now.plot[at] = PLOTASK_MARK(1);
+    uint32_t cell = 0;
+
+    make_plot(&now, columns, rows, PLOTASK_CELLS);
+    for (uint32_t at = 0; at < now.header.used; at += 1 + columns)
+        for (uint32_t column = 1; column <= columns; column++)
+            if (cell++ % PLOTASK_COLUMNS == 0)
+                now.plot[at + column] = PLOTASK_MARK(1);
     prepared = now.header;
     null_to_replace = 2;
     fill_log_used = 0;
@@ -279,7 +283,7 @@ void prepare_calls(uint32_t rows)
     must(memcmp(read_plot, now.plot, now.header.used * sizeof *now.plot) == 0, "a card decoded by hand differs");
     must_do(encode_by_hand);
     must(memcmp(card, written, card_bytes) == 0, "a card encoded by hand differs");
-    if (now.header.used + 1 + PLOTASK_COLUMNS <= PLOTASK_WORDS)
+    if (now.header.used + 1 + columns <= PLOTASK_WORDS)
         check_insert_by_hand();
 }
 

@@ -62,8 +62,8 @@ work there_and_back, there_and_back_by_hand, there_and_back_reference;
 /* The two calls by themselves: a logged fill with a fresh log, and the undo of its entry, again and again. */
 work substitute_logged, undo;
 
-/* A plot of this many rows of six columns, with a null in each row to replace, and its card to decode. */
-void prepare_calls(uint32_t rows);
+/* A plot of this many rows, with null 1 in the first of every six cells, to replace, and its card to decode. */
+void prepare_calls(uint32_t columns, uint32_t rows);
 
 /* A plot of this many rows, with null 1 in the last of every `step` cells, to replace and put back. */
 void prepare_fills(uint32_t columns, uint32_t rows, uint32_t step);
