@@ -36,9 +36,12 @@ builds: target/c-aligned/bench/builds.o $(MEASURED) $(LIBRARY)
 	@$(call renamed,control,control_,$(LIBRARY))
 	@$(call renamed,other,other_,$(OTHER))
 	@$(call renamed,other_control,other_control_,$(OTHER))
-	$(CC) $(filter %.o,$^) $(COPIES:%=$(ALIGNED)/%.a) -o $(ALIGNED)/builds
+	$(CC) $(filter %.o,$^) $(COPIES:%=$(ALIGNED)/%.o) -o $(ALIGNED)/builds
 	@$(ALIGNED)/builds
 COPIES := this control other other_control
+# how many bytes after the start of a page every function of a copy starts: the time of a short loop depends on where in
+# a line of the cache it stands, so a difference that is due to the code shows at each PLACE of 0, 16, 32 and 48
+PLACE ?= 0
 
 # the same against the library of a commit, which is built in a working tree of its own, kept for the next time:
 # make builds-since COMMIT=57c0b91
@@ -50,9 +53,12 @@ builds-since:
 	$(MAKE) --no-print-directory -C $(SINCE) lib
 	$(MAKE) --no-print-directory builds OTHER=$(SINCE)/target/lib/libplotask.a
 
-# copies an archive, with a prefix before every symbol that it defines, and with every function at the start of a page, so
-# that the same code has the same time in each copy: $(call renamed,copy,prefix,archive)
+# copies an archive's object, with a prefix before every symbol that it defines, and with every function at the same
+# place in a page, so that the same code has the same time in each copy: $(call renamed,copy,prefix,archive)
 define renamed
 nm --extern-only --defined-only --format=posix $(3) | awk 'NF > 1 { print $$1, "$(2)" $$1 }' > $(ALIGNED)/$(1).symbols && \
-	objcopy --redefine-syms=$(ALIGNED)/$(1).symbols --set-section-alignment '.text*=4096' $(3) $(ALIGNED)/$(1).a
+	objdump -h $(3) | sed -n 's/.* \(\.text\.[^ ]*\) .*/SECTIONS { "\1" 0 : { . += $(PLACE); *("\1") } }/p' \
+		> $(ALIGNED)/$(1).places && \
+	ld -r -T $(ALIGNED)/$(1).places --whole-archive $(3) -o $(ALIGNED)/$(1).o && \
+	objcopy --redefine-syms=$(ALIGNED)/$(1).symbols --set-section-alignment '.text*=4096' $(ALIGNED)/$(1).o
 endef
