@@ -4,7 +4,7 @@
 uint32_t replace_null_logged(const struct plotask_header *header, uint32_t *plot, size_t plot_words, uint32_t *log,
                              size_t log_words, size_t *log_used, uint32_t null, uint32_t cell, uint32_t *count)
 {
-    uint32_t old = PLOTASK_MARK(null), held = 0;
+    uint32_t old = PLOTASK_MARK(null), used = header->used, held = 0;
 
     if (!is_sound(header, plot, plot_words))
         return PLOTASK_UNSOUND;
@@ -12,14 +12,14 @@ uint32_t replace_null_logged(const struct plotask_header *header, uint32_t *plot
         return PLOTASK_NO_SUCH_NULL;
     if (!is_cell_number(cell))
         return PLOTASK_NOT_A_CELL;
-    for (uint32_t i = 0; i < header->used; i++)
+    for (uint32_t i = 0; i < used; i++)
         held += plot[i] == old;
     if (held == 0)
         return PLOTASK_NULL_ABSENT;
     if (*log_used > log_words || log_words - *log_used < held + 2)
         return PLOTASK_LOG_TOO_SHORT;
     uint32_t *to = log + *log_used;
-    for (uint32_t i = 0; i < header->used; i++) {
+    for (uint32_t i = 0; i < used; i++) {
         uint32_t here = plot[i] == old;
         *to = i; /* if it is no place, the next place or the mark is written over it */
         to += here;

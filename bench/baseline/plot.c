@@ -1,4 +1,7 @@
-/* The test of soundness, and substitute, null counts and insert. */
+/*
+ * The test of soundness, and substitute, null counts and insert. A loop that writes words keeps the header's words in
+ * use in a variable: they would be loaded again after each write, which might be to the header.
+ */
 #include "baseline.h"
 
 #include <string.h>
@@ -73,11 +76,11 @@ int is_sound(const struct plotask_header *header, const uint32_t *plot, size_t p
 uint32_t replace_null(const struct plotask_header *header, uint32_t *plot, size_t plot_words, uint32_t null,
                       uint32_t cell)
 {
-    uint32_t old = PLOTASK_MARK(null), count = 0;
+    uint32_t old = PLOTASK_MARK(null), used = header->used, count = 0;
 
     if (!is_sound(header, plot, plot_words) || null - 1 >= PLOTASK_MARKS || !is_cell_number(cell))
         return 0;
-    for (uint32_t i = 0; i < header->used; i++) {
+    for (uint32_t i = 0; i < used; i++) {
         uint32_t held = plot[i] == old;
         plot[i] = held ? cell : plot[i];
         count += held;
@@ -88,10 +91,12 @@ uint32_t replace_null(const struct plotask_header *header, uint32_t *plot, size_
 uint32_t count_nulls(const struct plotask_header *header, const uint32_t *plot, size_t plot_words,
                      uint32_t counts[PLOTASK_MARKS])
 {
+    uint32_t used = header->used;
+
     if (!is_sound(header, plot, plot_words))
         return 0;
     memset(counts, 0, PLOTASK_MARKS * sizeof *counts);
-    for (uint32_t i = 0; i < header->used; i++)
+    for (uint32_t i = 0; i < used; i++)
         if (plot[i] > PLOTASK_CONSTANTS)
             counts[plot[i] - PLOTASK_FIRST_MARK]++;
     return PLOTASK_MARKS;
