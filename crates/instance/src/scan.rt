@@ -71,14 +71,22 @@ fn scan_words(relations: u32, arities: &[u32; 8], counts: &[u32; 8], words: &[u3
 {
     let mut found = [0u32; 8];
     let mut rows: u32 = 0;
+    // the relation of the last row, and its arity: where rows of one relation follow each other, the next row's place
+    // does not wait for its relation to be read
+    let mut relation = 0;
+    let mut arity = arities[0] as usize;
     let mut i = 0;
     while i < words.len() {
         let w = words[i];
-        if relations <= w {
-            return Scanned::Unsound;
+        if w != relation {
+            if relations <= w {
+                return Scanned::Unsound;
+            }
+            relation = w;
+            arity = arities[w as usize] as usize;
         }
         let first = i + 1;
-        let next = first + arities[w as usize] as usize;
+        let next = first + arity;
         if words.len() < next {
             return Scanned::Unsound;
         }

@@ -1,13 +1,14 @@
 -- `instance::scan::scan_words` meets its contract: the words from index i, where a row starts, decide the result. Assumes nothing.
 use Prim.Native.Nat.{ℕ, _≤_, _<_, _-_, _+_}
-use mathlib.Core.Path.{_≡_, sym, ap, _∙_}
+use mathlib.Core.Path.{_≡_, refl, sym, ap, _∙_, subst}
 use mathlib.Core.Bool.{Bool, true, false, cond}
+use mathlib.Core.Logic.{⊎-elim}
 use mathlib.Core.List.{List, _∷_}
 use native.Mathlib.Nat.{zero-add}
 use native.Mathlib.Omega.{arith}
 use borrow.Author.Needs.{needs}
 use borrow.Author.Tests.{lt-ltb, le-ltb, not-true, not-false}
-use lib.ListN.{length, take, drop, getD, length-drop}
+use lib.ListN.{length, take, drop, getD, set, length-drop}
 use lib.Seq.{drop-length, drop-drop}
 use lib.Dec.{ltb}
 use Rattle.instance.specs.declared.scan.Scanned.the-variants.{Unsound}
@@ -27,17 +28,23 @@ use Rattle.instance.proofs.scan.scan_words.Statement.{statement}
 use Rattle.instance.proofs.scan.scan_words.Tie as tie
 
 abbrev Inv-loop : tie.InvT-loop
-Inv-loop relations arities counts words found₀ rows₀ i₀ found rows i =
+Inv-loop relations arities counts words found₀ rows₀ relation₀ arity₀ i₀ found rows relation arity i =
     (i ≤ length words) × (rows ≤ i) ×
     (scannedWords relations arities counts words ≡ scanFrom relations arities (identical counts (rowCounts (rowsFrom arities 0 words))) rows 0 (drop i words)) ×
-    RowsCounted (rowsFrom arities 0 words) (rowsFrom arities 0 (drop i words)) found
+    RowsCounted (rowsFrom arities 0 words) (rowsFrom arities 0 (drop i words)) found × (relation < relations) × (arity ≡ arityOf arities relation)
 
 abbrev μ-loop : tie.MeasureT-loop
-μ-loop relations arities counts words found₀ rows₀ i₀ found rows i = length words - i
+μ-loop relations arities counts words found₀ rows₀ relation₀ arity₀ i₀ found rows relation arity i = length words - i
+
+element-copy-out-arity : tie.Need-element-copy-out-arity Inv-loop μ-loop
+element-copy-out-arity c = search needs
+
+cast-arity : tie.Need-cast-arity Inv-loop μ-loop
+cast-arity c = omega (arith, headed _ _ (c .before .before .pre .0) .narrow 0)
 
 loop-holds : tie.Need-loop-holds Inv-loop μ-loop
 unfolding scannedWords scanFrom
-loop-holds c = (omega arith, omega arith, simp zero-add, counting-starts maxRelations _)
+loop-holds c = (omega arith, omega arith, simp zero-add, counting-starts maxRelations _, headed _ _ (c .before .before .pre .0) .some, refl)
 
 mul-w : tie.Need-mul-w Inv-loop μ-loop
 mul-w c = omega arith
@@ -48,16 +55,16 @@ shared-slice-read-w c = omega arith
 -- the row at index i, and the words after its relation's number
 module _ (c : tie.In-loop Inv-loop μ-loop) where
   abbrev n : ℕ
-  n = c .before .before .before .args .relations
+  n = c .before .before .before .before .args .relations
 
   abbrev ars : List ℕ
-  ars = c .before .before .before .args .arities .now
+  ars = c .before .before .before .before .args .arities .now
 
   abbrev ws : List ℕ
-  ws = c .before .before .before .args .words .now
+  ws = c .before .before .before .before .args .words .now
 
   abbrev counts : List ℕ
-  counts = c .before .before .before .args .counts .now
+  counts = c .before .before .before .before .args .counts .now
 
   abbrev right : Bool
   right = identical counts (rowCounts (rowsFrom ars 0 ws))
@@ -75,7 +82,7 @@ module _ (c : tie.In-loop Inv-loop μ-loop) where
   behind = drop (i + 1) ws
 
   abbrev well-formed : Headed n ars
-  well-formed = headed n ars (c .before .before .before .pre .0)
+  well-formed = headed n ars (c .before .before .before .before .pre .0)
 
   at-row : (b : Bool) → ltb w n ≡ b → scannedWords n ars counts ws ≡ cond b (scanFrom n ars right (k + 1) (arityOf ars w) behind) Unsound
   at-row b e =
@@ -106,28 +113,46 @@ module _ (c : tie.In-loop Inv-loop μ-loop) where
         (rows-past ars (arityOf ars w) behind (omega (arith, length-drop (i + 1) ws)) ∙ ap (rowsFrom ars 0) (drop-drop (arityOf ars w) (i + 1) ws))
 
 returns : tie.Need-returns Inv-loop μ-loop
-returns c = sym (at-row (c .before .before) false (le-ltb _ _ (c .if1 .taken)))
+returns c = sym (at-row (c .before .before .before) false (le-ltb _ _ (c .if2 .taken)))
+
+-- a relation other than the last row's
+abbrev new : tie.Else2 Inv-loop μ-loop → tie.In-loop Inv-loop μ-loop
+new c = c .before .before .before
+
+cast-arity-2 : tie.Need-cast-arity-2 Inv-loop μ-loop
+cast-arity-2 c = omega (arith, well-formed (new c) .few)
+
+mul-arity : tie.Need-mul-arity Inv-loop μ-loop
+mul-arity c = omega (arith, well-formed (new c) .few)
+
+element-copy-out-arity-2 : tie.Need-element-copy-out-arity-2 Inv-loop μ-loop
+element-copy-out-arity-2 c = omega (arith, well-formed (new c) .few)
+
+cast-arity-3 : tie.Need-cast-arity-3 Inv-loop μ-loop
+cast-arity-3 c = omega (arith, well-formed (new (c .before)) .narrow (w (new (c .before))))
+
+-- the relation of the row at index i, new or the last row's, and its arity
+module _ (c : tie.Joined1 Inv-loop μ-loop) where
+  abbrev here : tie.In-loop Inv-loop μ-loop
+  here = c .before .before
+
+  known : w here < n here
+  known = ⊎-elim (λ t. t .1 .left) (λ t. omega (arith, t .0 .left, here .before .loop .inv .4)) (c .if1 .came)
+
+  is-last : c .if1 .relation ≡ w here
+  is-last = ⊎-elim (λ t. t .3) (λ t. t .1 ∙ sym (t .0 .left)) (c .if1 .came)
+
+  arity-is : c .if1 .arity ≡ arityOf (ars here) (w here)
+  arity-is = ⊎-elim (λ t. t .4) (λ t. t .2 ∙ here .before .loop .inv .5 ∙ ap (arityOf (ars here)) (sym (t .0 .left))) (c .if1 .came)
 
 add-first : tie.Need-add-first Inv-loop μ-loop
 add-first c = omega arith
 
-cast-next : tie.Need-cast-next Inv-loop μ-loop
-cast-next c = omega (arith, well-formed (c .before .before) .few)
-
-mul-next : tie.Need-mul-next Inv-loop μ-loop
-mul-next c = omega (arith, well-formed (c .before .before) .few)
-
-element-copy-out-next : tie.Need-element-copy-out-next Inv-loop μ-loop
-element-copy-out-next c = omega (arith, well-formed (c .before .before) .few)
-
-cast-next-2 : tie.Need-cast-next-2 Inv-loop μ-loop
-cast-next-2 c = omega (arith, well-formed (c .before .before .before) .columns (w (c .before .before .before)) (c .before .if1 .left))
-
 add-next : tie.Need-add-next Inv-loop μ-loop
-add-next c = omega (arith, well-formed (c .before .before .before) .columns (w (c .before .before .before)) (c .before .if1 .left))
+add-next c = omega (arith, arity-is (c .before), well-formed (here (c .before)) .narrow (w (here (c .before))))
 
 returns-2 : tie.Need-returns-2 Inv-loop μ-loop
-returns-2 c = sym (too-few (c .before .before .before .before) (c .before .before .if1 .left) (c .if2 .taken))
+returns-2 c = let j = c .before .before in sym (too-few (here j) (known j) (omega (arith, c .if3 .taken, arity-is j)))
 
 mul-are-cells : tie.Need-mul-are-cells Inv-loop μ-loop
 mul-are-cells c = omega arith
@@ -145,42 +170,46 @@ are-cells-requires : tie.Need-are-cells-requires Inv-loop μ-loop
 are-cells-requires c κs = search needs
 
 -- what the call of are_cells says of the row's cells
-told : (c : tie.After-are-cells Inv-loop μ-loop) → areCells (take (arityOf (ars (c .before .before .before .before .before .before)) (w (c .before .before .before .before .before .before))) (behind (c .before .before .before .before .before .before))) ≡ c .are-cells .result
-told c =
-    let b = c .before .before .before .before .before .before in
-    let size : arityOf (ars b) (w b) ≡ i b + 1 + arityOf (ars b) (w b) - (i b + 1) = omega arith in
-    ap (λ (m : ℕ). areCells (take m (behind b))) size ∙ sym (c .are-cells .ensures)
+module _ (c : tie.After-are-cells Inv-loop μ-loop) where
+  abbrev joined : tie.Joined1 Inv-loop μ-loop
+  joined = c .before .before .before .before
+
+  abbrev row : tie.In-loop Inv-loop μ-loop
+  row = here joined
+
+  within : i row + 1 + arityOf (ars row) (w row) ≤ length (ws row)
+  within = omega (arith, c .before .before .if3 .left, arity-is joined)
+
+  told : areCells (take (arityOf (ars row) (w row)) (behind row)) ≡ c .are-cells .result
+  told =
+      let size : arityOf (ars row) (w row) ≡ i row + 1 + joined .if1 .arity - (i row + 1) = omega (arith, arity-is joined) in
+      ap (λ (m : ℕ). areCells (take m (behind row))) size ∙ sym (c .are-cells .ensures)
+
+  -- the row's relation is one of eight, and fewer rows than words were counted
+  few : w row < maxRelations
+  few = omega (arith, known joined, well-formed row .few)
+
+  count-few : getD (row .before .loop .found) (w row) 0 ≤ maxWords
+  count-few =
+      omega (arith, row .before .loop .inv .3 .each (w row) few, tuples-few (w row) (ars row) (ws row), row .before .before .before .before .pre .1)
 
 returns-3 : tie.Need-returns-3 Inv-loop μ-loop
-returns-3 c =
-    sym (past (c .before .before .before .before .before .before .before) (c .before .before .before .before .before .if1 .left) false (c .before .before .before .if2 .left) (told (c .before) ∙ not-true _ (c .if3 .taken)))
-
--- the row at index i, whose cells are cells
-abbrev row : tie.Else3 Inv-loop μ-loop → tie.In-loop Inv-loop μ-loop
-row c = c .before .before .before .before .before .before .before
-
--- its relation is one of eight, and fewer rows than words were counted
-few : (c : tie.Else3 Inv-loop μ-loop) → w (row c) < maxRelations
-few c = omega (arith, c .before .before .before .before .before .if1 .left, well-formed (row c) .few)
-
-count-few : (c : tie.Else3 Inv-loop μ-loop) → getD (row c .before .loop .found) (w (row c)) 0 ≤ maxWords
-count-few c =
-    omega (arith, row c .before .loop .inv .3 .each (w (row c)) (few c), tuples-few (w (row c)) (ars (row c)) (ws (row c)), row c .before .before .before .pre .1)
+returns-3 c = let b = c .before in sym (past (row b) (known (joined b)) false (within b) (told b ∙ not-true _ (c .if4 .taken)))
 
 cast-found : tie.Need-cast-found Inv-loop μ-loop
-cast-found c = omega (arith, few c)
+cast-found c = omega (arith, few (c .before))
 
 mul-found : tie.Need-mul-found Inv-loop μ-loop
-mul-found c = omega (arith, few c)
+mul-found c = omega (arith, few (c .before))
 
 array-read-found : tie.Need-array-read-found Inv-loop μ-loop
-array-read-found c = omega (arith, few c)
+array-read-found c = omega (arith, few (c .before))
 
 add-found : tie.Need-add-found Inv-loop μ-loop
-add-found c = omega (arith, count-few c)
+add-found c = omega (arith, count-few (c .before))
 
 array-write-found : tie.Need-array-write-found Inv-loop μ-loop
-array-write-found c = omega (arith, few c)
+array-write-found c = omega (arith, few (c .before))
 
 add-rows : tie.Need-add-rows Inv-loop μ-loop
 add-rows c = omega arith
@@ -190,18 +219,23 @@ loop-less c = omega arith
 
 loop-again : tie.Need-loop-again Inv-loop μ-loop
 loop-again c =
-    let known = c .before .before .before .before .before .if1 .left in
-    let within = c .before .before .before .if2 .left in (
+    let b = c .before in
+    let j = joined b in
+    let r = row b in (
       omega arith,
       omega arith,
-      past (row c) known true within (told (c .before) ∙ not-false _ (c .if3 .left)),
-      counted-row _ _ _ _ (few c) (rw (rows-here (row c) known within) at (row c .before .loop .inv .3)),
+      past r (known j) true (within b) (told b ∙ not-false _ (c .if4 .left)) ∙
+          ap (λ (a : ℕ). scanFrom (n r) (ars r) (right r) (k r + 1) 0 (drop (i r + 1 + a) (ws r))) (sym (arity-is j)),
+      subst (λ (a : ℕ). RowsCounted (rowsFrom (ars r) 0 (ws r)) (rowsFrom (ars r) 0 (drop (i r + 1 + a) (ws r))) (set (r .before .loop .found) (w r) (getD (r .before .loop .found) (w r) 0 + 1)))
+          (sym (arity-is j)) (counted-row _ _ _ _ (few b) (rw (rows-here r (known j) (within b)) at (r .before .loop .inv .3))),
+      omega (arith, is-last j, known j),
+      arity-is j ∙ ap (arityOf (ars r)) (sym (is-last j)),
     )
 
 -- all words are read
 module _ (c : tie.After-loop Inv-loop μ-loop) where
   abbrev start : tie.Start Inv-loop μ-loop
-  start = c .before .before .before
+  start = c .before .before .before .before
 
   ends : c .before .loop .i ≡ length (start .args .words .now)
   ends = omega arith
@@ -219,10 +253,10 @@ same-counts-requires : tie.Need-same-counts-requires Inv-loop μ-loop
 same-counts-requires c κs = (search needs, search needs)
 
 returns-4 : tie.Need-returns-4 Inv-loop μ-loop
-returns-4 c = sym (scanned-is (c .before .before .before) false (sym (c .before .same-counts .ensures) ∙ not-true _ (c .if4 .taken)))
+returns-4 c = sym (scanned-is (c .before .before .before) false (sym (c .before .same-counts .ensures) ∙ not-true _ (c .if5 .taken)))
 
 returns-5 : tie.Need-returns-5 Inv-loop μ-loop
-returns-5 c = sym (scanned-is (c .before .before .before) true (sym (c .before .same-counts .ensures) ∙ not-false _ (c .if4 .left)))
+returns-5 c = sym (scanned-is (c .before .before .before) true (sym (c .before .same-counts .ensures) ∙ not-false _ (c .if5 .left)))
 
 pub scan-words-spec : {M : Type 1} → statement M
 scan-words-spec =
@@ -230,15 +264,17 @@ scan-words-spec =
     (tie.spec
     Inv-loop
     μ-loop
+    element-copy-out-arity
+    cast-arity
     loop-holds
     mul-w
     shared-slice-read-w
     returns
+    cast-arity-2
+    mul-arity
+    element-copy-out-arity-2
+    cast-arity-3
     add-first
-    cast-next
-    mul-next
-    element-copy-out-next
-    cast-next-2
     add-next
     returns-2
     mul-are-cells
