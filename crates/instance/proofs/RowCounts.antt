@@ -1,16 +1,28 @@
 -- The rows of each relation, counted row by row. Assumes nothing.
-use Prim.Native.Nat.{ℕ, _+_, _<_}
+use Prim.Native.Nat.{ℕ, zero, suc, _+_, _<_}
 use mathlib.Core.Path.{_≡_, refl, sym, ap, _∙_}
 use mathlib.Core.List.{List, [], _∷_, _++_}
 use native.Mathlib.Omega.{arith}
-use lib.ListN.{length, getD, set, length-append}
+use lib.ListN.{length, getD, set, drop, length-append}
 use Rattle.calculus.specs.Row.{Row}
 use Rattle.calculus.specs.Closed.{tuples}
+use Rattle.calculus.proofs.Lists.{drop-step}
 use Rattle.calculus.proofs.Counting.{Counting, counting-one, counting-ends}
 use Rattle.calculus.proofs.Table.{table-size, table-at}
 use Rattle.calculus.proofs.Tuples.{tuples-here, tuples-other, tuples-append}
 use Rattle.instance.specs.Header.{maxRelations}
-use Rattle.instance.specs.RowCounts.{rowCounts}
+use Rattle.instance.specs.RowCounts.{rowCounts, sumOf}
+
+-- the sum of counts from index i on, and with one more row
+pub sum-step : (cs : List ℕ) (i : ℕ) → i < length cs → sumOf (drop i cs) ≡ getD cs i 0 + sumOf (drop (i + 1) cs)
+unfolding sumOf
+sum-step cs i l = rw (drop-step cs i l)
+
+pub sum-one : (cs : List ℕ) (i : ℕ) → i < length cs → sumOf (set cs i (getD cs i 0 + 1)) ≡ sumOf cs + 1
+unfolding sumOf
+sum-one [] i l = absurd (omega arith)
+sum-one (c ∷ cs) zero l = omega arith
+sum-one (c ∷ cs) (suc i) l = omega (arith, sum-one cs i (omega arith))
 
 -- the rows of each relation are being counted, and the rows `rest` are still to come
 abbrev pub RowsCounted : List Row → List Row → List ℕ → Type 0

@@ -6,6 +6,7 @@ ghost use lib.ListN.{length};
 ghost use Rattle.instance.specs.Header.{headerWellFormed, maxRelations, maxWords};
 ghost use Rattle.calculus.specs.Answer.{Tells};
 ghost use Rattle.calculus.specs.Closed.{identical};
+ghost use Rattle.instance.specs.RowCounts.{sumOf};
 ghost use Rattle.instance.specs.Sound.{rows, scanned, scannedWords, scannedAs, soundAnswer};
 use super::cells::are_cells;
 use super::header::COLUMNS;
@@ -62,6 +63,20 @@ fn same_counts(counts: &[u32; 8], others: &[u32; 8]) -> bool
     true
 }
 
+// How many rows eight counts add up to.
+fn all_rows(counts: &[u32; 8]) -> u32
+    requires { ⌜ (length (now counts) ≡ maxRelations) × (sumOf (now counts) ≤ maxWords) ⌝ }
+    ensures { λ r. ⌜ r ≡ sumOf (now (counts .entry)) ⌝ }
+{
+    let mut rows: u32 = 0;
+    let mut i = 0;
+    while i < 8 {
+        rows += counts[i];
+        i += 1;
+    }
+    rows
+}
+
 // The number of rows in the words, or `Unsound` if they are not whole rows of cells, as many of each relation as the
 // counts say.
 fn scan_words(relations: u32, arities: &[u32; 8], counts: &[u32; 8], words: &[u32]) -> Scanned
@@ -70,7 +85,6 @@ fn scan_words(relations: u32, arities: &[u32; 8], counts: &[u32; 8], words: &[u3
     ensures { λ r. ⌜ r ≡ scannedWords relations (now (arities .entry)) (now (counts .entry)) (now (words .entry)) ⌝ }
 {
     let mut found = [0u32; 8];
-    let mut rows: u32 = 0;
     // the relation of the last row, and its arity: where rows of one relation follow each other, the next row's place
     // does not wait for its relation to be read
     let mut relation = 0;
@@ -94,13 +108,12 @@ fn scan_words(relations: u32, arities: &[u32; 8], counts: &[u32; 8], words: &[u3
             return Scanned::Unsound;
         }
         found[w as usize] += 1;
-        rows += 1;
         i = next;
     }
     if !same_counts(counts, &found) {
         return Scanned::Unsound;
     }
-    Scanned::Rows(rows)
+    Scanned::Rows(all_rows(&found))
 }
 
 pub fn scan(header: Header, instance: &[u32]) -> Scanned

@@ -1,6 +1,6 @@
 -- `instance::scan::scan_words` meets its contract: the words from index i, where a row starts, decide the result. Assumes nothing.
 use Prim.Native.Nat.{ℕ, _≤_, _<_, _-_, _+_}
-use mathlib.Core.Path.{_≡_, refl, sym, ap, _∙_, subst}
+use mathlib.Core.Path.{_≡_, refl, sym, ap, ap₂, _∙_, subst}
 use mathlib.Core.Bool.{Bool, true, false, cond}
 use mathlib.Core.Logic.{⊎-elim}
 use mathlib.Core.List.{List, _∷_}
@@ -11,15 +11,15 @@ use borrow.Author.Tests.{lt-ltb, le-ltb, not-true, not-false}
 use lib.ListN.{length, take, drop, getD, set, length-drop}
 use lib.Seq.{drop-length, drop-drop}
 use lib.Dec.{ltb}
-use Rattle.instance.specs.declared.scan.Scanned.the-variants.{Unsound}
+use Rattle.instance.specs.declared.scan.Scanned.the-variants.{Rows, Unsound}
 use Rattle.instance.specs.Header.{arityOf, maxRelations, maxWords}
 use Rattle.instance.specs.Rows.{areCells, rowsFrom}
-use Rattle.instance.specs.RowCounts.{rowCounts}
+use Rattle.instance.specs.RowCounts.{rowCounts, sumOf}
 use Rattle.instance.specs.Sound.{tally, scannedWords}
 use Rattle.instance.proofs.Rows.{Headed, headed}
 use Rattle.instance.proofs.Walk.{rows-end, tuples-few}
 use Rattle.instance.proofs.ScanSteps.{scanFrom, scan-end, scan-row, scan-cells, scan-short, rows-past}
-use Rattle.instance.proofs.RowCounts.{RowsCounted, counted-row, counted-all}
+use Rattle.instance.proofs.RowCounts.{RowsCounted, counted-row, counted-all, sum-one}
 use Rattle.calculus.proofs.Counting.{counting-starts}
 use Rattle.calculus.specs.Closed.{identical}
 use Rattle.calculus.specs.Row.{Row}
@@ -28,13 +28,13 @@ use Rattle.instance.proofs.scan.scan_words.Statement.{statement}
 use Rattle.instance.proofs.scan.scan_words.Tie as tie
 
 abbrev Inv-loop : tie.InvT-loop
-Inv-loop relations arities counts words found₀ rows₀ relation₀ arity₀ i₀ found rows relation arity i =
-    (i ≤ length words) × (rows ≤ i) ×
-    (scannedWords relations arities counts words ≡ scanFrom relations arities (identical counts (rowCounts (rowsFrom arities 0 words))) rows 0 (drop i words)) ×
+Inv-loop relations arities counts words found₀ relation₀ arity₀ i₀ found relation arity i =
+    (i ≤ length words) × (sumOf found ≤ i) ×
+    (scannedWords relations arities counts words ≡ scanFrom relations arities (identical counts (rowCounts (rowsFrom arities 0 words))) (sumOf found) 0 (drop i words)) ×
     RowsCounted (rowsFrom arities 0 words) (rowsFrom arities 0 (drop i words)) found × (relation < relations) × (arity ≡ arityOf arities relation)
 
 abbrev μ-loop : tie.MeasureT-loop
-μ-loop relations arities counts words found₀ rows₀ relation₀ arity₀ i₀ found rows relation arity i = length words - i
+μ-loop relations arities counts words found₀ relation₀ arity₀ i₀ found relation arity i = length words - i
 
 element-copy-out-arity : tie.Need-element-copy-out-arity Inv-loop μ-loop
 element-copy-out-arity c = search needs
@@ -43,7 +43,7 @@ cast-arity : tie.Need-cast-arity Inv-loop μ-loop
 cast-arity c = omega (arith, headed _ _ (c .before .before .pre .0) .narrow 0)
 
 loop-holds : tie.Need-loop-holds Inv-loop μ-loop
-unfolding scannedWords scanFrom
+unfolding scannedWords scanFrom sumOf
 loop-holds c = (omega arith, omega arith, simp zero-add, counting-starts maxRelations _, headed _ _ (c .before .before .pre .0) .some, refl)
 
 mul-w : tie.Need-mul-w Inv-loop μ-loop
@@ -70,7 +70,7 @@ module _ (c : tie.In-loop Inv-loop μ-loop) where
   right = identical counts (rowCounts (rowsFrom ars 0 ws))
 
   abbrev k : ℕ
-  k = c .before .loop .rows
+  k = sumOf (c .before .loop .found)
 
   abbrev i : ℕ
   i = c .before .loop .i
@@ -211,9 +211,6 @@ add-found c = omega (arith, count-few (c .before))
 array-write-found : tie.Need-array-write-found Inv-loop μ-loop
 array-write-found c = omega (arith, few (c .before))
 
-add-rows : tie.Need-add-rows Inv-loop μ-loop
-add-rows c = omega arith
-
 loop-less : tie.Need-loop-less Inv-loop μ-loop
 loop-less c = omega arith
 
@@ -221,11 +218,12 @@ loop-again : tie.Need-loop-again Inv-loop μ-loop
 loop-again c =
     let b = c .before in
     let j = joined b in
-    let r = row b in (
+    let r = row b in
+    let one = sum-one (r .before .loop .found) (w r) (omega (arith, few b, r .before .loop .inv .3 .size)) in (
       omega arith,
-      omega arith,
+      omega (arith, one),
       past r (known j) true (within b) (told b ∙ not-false _ (c .if4 .left)) ∙
-          ap (λ (a : ℕ). scanFrom (n r) (ars r) (right r) (k r + 1) 0 (drop (i r + 1 + a) (ws r))) (sym (arity-is j)),
+          ap₂ (λ (m a : ℕ). scanFrom (n r) (ars r) (right r) m 0 (drop (i r + 1 + a) (ws r))) (sym one) (sym (arity-is j)),
       subst (λ (a : ℕ). RowsCounted (rowsFrom (ars r) 0 (ws r)) (rowsFrom (ars r) 0 (drop (i r + 1 + a) (ws r))) (set (r .before .loop .found) (w r) (getD (r .before .loop .found) (w r) 0 + 1)))
           (sym (arity-is j)) (counted-row _ _ _ _ (few b) (rw (rows-here r (known j) (within b)) at (r .before .loop .inv .3))),
       omega (arith, is-last j, known j),
@@ -244,10 +242,10 @@ module _ (c : tie.After-loop Inv-loop μ-loop) where
   found-is = counted-all _ _ (rw (rows-end (start .args .arities .now) (start .args .words .now) _ ends) at (c .before .loop .inv .3))
 
   scanned-is : (b : Bool) → identical (start .args .counts .now) (c .before .loop .found) ≡ b
-      → scannedWords (start .args .relations) (start .args .arities .now) (start .args .counts .now) (start .args .words .now) ≡ tally b (c .before .loop .rows)
+      → scannedWords (start .args .relations) (start .args .arities .now) (start .args .counts .now) (start .args .words .now) ≡ tally b (sumOf (c .before .loop .found))
   scanned-is b e =
       c .before .loop .inv .2 ∙ ap (scanFrom _ _ _ _ 0) (ap (λ (k : ℕ). drop k (start .args .words .now)) ends ∙ drop-length (start .args .words .now)) ∙ scan-end _ _ _ _ ∙
-      ap (λ (x : Bool). tally x (c .before .loop .rows)) (ap (identical (start .args .counts .now)) (sym found-is) ∙ e)
+      ap (λ (x : Bool). tally x (sumOf (c .before .loop .found))) (ap (identical (start .args .counts .now)) (sym found-is) ∙ e)
 
 same-counts-requires : tie.Need-same-counts-requires Inv-loop μ-loop
 same-counts-requires c κs = (search needs, search needs)
@@ -255,8 +253,15 @@ same-counts-requires c κs = (search needs, search needs)
 returns-4 : tie.Need-returns-4 Inv-loop μ-loop
 returns-4 c = sym (scanned-is (c .before .before .before) false (sym (c .before .same-counts .ensures) ∙ not-true _ (c .if5 .taken)))
 
+all-rows-requires : tie.Need-all-rows-requires Inv-loop μ-loop
+all-rows-requires c κs =
+    let loop = c .before .before .before .before .before .loop in
+    (search needs, omega (arith, loop .inv .0, loop .inv .1, start (c .before .before .before .before) .pre .1))
+
 returns-5 : tie.Need-returns-5 Inv-loop μ-loop
-returns-5 c = sym (scanned-is (c .before .before .before) true (sym (c .before .same-counts .ensures) ∙ not-false _ (c .if5 .left)))
+returns-5 c =
+    let e = c .before .before in
+    ap Rows (c .all-rows .ensures) ∙ sym (scanned-is (e .before .before .before) true (sym (e .before .same-counts .ensures) ∙ not-false _ (e .if5 .left)))
 
 pub scan-words-spec : {M : Type 1} → statement M
 scan-words-spec =
@@ -288,9 +293,9 @@ scan-words-spec =
     array-read-found
     add-found
     array-write-found
-    add-rows
     loop-less
     loop-again
     same-counts-requires
     returns-4
+    all-rows-requires
     returns-5)
