@@ -1,4 +1,4 @@
--- What the length of the header slice, that of a header or another, makes of an answer and of what is lent. Assumes nothing.
+-- What a call answers and leaves if the header slice is as long as a header, and if it is not. Assumes nothing.
 use Prim.Native.Nat.{ℕ}
 use mathlib.Core.Path.{_≡_, sym, ap, _∙_}
 use mathlib.Core.List.{List}
@@ -33,7 +33,7 @@ module _ (hs : List ℕ) where
       pub left : {A : Type 0} (call : Header → A) (old : A) {x : A} → x ≡ call h → x ≡ ifHeaded hs (call (headerOf hs)) old
       left call old e = e ∙ ap call is ∙ sym (kept-yes (call (headerOf hs)) old)
 
--- a call that returns a number, leaves a slice of type A and stores a count: with a header slice of another length, and with one of a header's
+-- a call that returns a number, leaves a slice of type A and stores a count: if the header slice is not as long as a header, and if it is
 module _ (hs : List ℕ) {A : Type 0} (call : Header → Answer) (leaves : Header → A) (old : A) (count : ℕ) where
   abbrev pub Counted : ℕ → A → ℕ → Type 0
   Counted r x n = (r ≡ numberOf (headed hs (call (headerOf hs)))) × ((x ≡ ifHeaded hs (leaves (headerOf hs)) old) × (n ≡ valueOf (headed hs (call (headerOf hs))) count))

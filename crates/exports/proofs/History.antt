@@ -1,26 +1,19 @@
 -- The exported calls follow the history: with a header slice of the right length they are the library's calls. Assumes nothing.
-use Prim.Native.Nat.{ℕ, suc, _+_}
+use Prim.Native.Nat.{ℕ}
 use mathlib.Core.Path.{_≡_, refl, sym, ap, ap₂, _∙_, subst}
 use mathlib.Core.Bool.{true, false≢true}
 use mathlib.Core.List.{List, [], _∷_, _++_, map}
 use native.Mathlib.Omega.{arith}
-use borrow.Author.Tests.{eqb-true}
-use lib.Dec.{eqb}
 use lib.ListN.{length}
 use Rattle.calculus.specs.declared.answer.Answer.{Answer}
 use Rattle.calculus.specs.declared.answer.Answer.the-variants.{Done, Refused}
 use Rattle.calculus.specs.Answer.{numberOf, after}
-use Rattle.calculus.specs.Refusal.{unsound, log-empty, bad-log}
-use Rattle.calculus.proofs.Answers.{demand-done}
+use Rattle.calculus.specs.Refusal.{log-empty, bad-log}
 use Rattle.instance.specs.declared.header.Header.{Header}
-use Rattle.instance.specs.Header.{maxRelations}
 use Rattle.calculus.specs.Row.{Row}
-use Rattle.instance.specs.Sound.{sound, rows, headerFor}
+use Rattle.instance.specs.Sound.{rows, headerFor}
 use Rattle.instance.specs.Insert.{inserted, insertedHeader, insertedWords}
 use Rattle.instance.proofs.RowCounts.{row-counts-size}
-use Rattle.instance.proofs.Sound.{sound-gives}
-use Rattle.card.specs.Decode.{decoded}
-use Rattle.card.proofs.Sound.{decoded-sound}
 use Rattle.log.specs.Log.{fresh, logged, loggedWords, loggedLog, loggedUsed, undone, undoneWords, undoneUsed}
 use Rattle.log.specs.History.{Event, answerBy, eventsAfter, answersBy, stepAnswers, stateAfter as libraryAfter}
 use Rattle.log.specs.History as library
@@ -30,7 +23,7 @@ use Rattle.exports.specs.Calls.{decodeAnswer, decodeHeader, decodeWords,
 use Rattle.exports.specs.Calls.{logAnswer, logWords, logLog, logUsed, undoAnswer, undoWords, undoUsed, insertAnswer, insertHeader, insertWords}
 use Rattle.exports.specs.Steps.{Seen, decodes}
 use Rattle.exports.specs.Numbers.{isDone}
-use Rattle.exports.specs.History.{Step, fills, undoes, inserts, State, stepAnswer, stepState, seenOf, stepsSeen, stateAfter, stepOf, historySeen, eventsOf, start, stateOf, Ended, ExportedHistory, HistoryFromCard}
+use Rattle.exports.specs.History.{Step, fills, undoes, inserts, State, stepAnswer, stepState, seenOf, stepsSeen, stateAfter, stepOf, historySeen, eventsOf, start, stateOf, ExportedHistory, HistoryFromCard}
 use Rattle.exports.proofs.Headed.{headed-yes, kept-yes}
 use Rattle.exports.proofs.Numbers.{every-return}
 use Rattle.exports.proofs.Kept.{read-sound}

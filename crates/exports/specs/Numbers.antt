@@ -1,5 +1,5 @@
--- The numbers that the exported calls return: the library's, and 41 if the header slice has another length than a header.
--- 0 means that the call was accepted.
+-- The numbers that the exported calls return: the library's, and 41 if the header slice is not as long as a header. 0
+-- means that the call was accepted.
 use Prim.Native.Nat.{ℕ}
 use mathlib.Core.Path.{_≡_}
 use mathlib.Core.Bool.{Bool, true, false}

@@ -21,16 +21,16 @@ aritiesAt = relationsAt + 1
 abbrev pub usedAt : ℕ
 usedAt = aritiesAt + maxRelations
 
-abbrev pub countsAt : ℕ
-countsAt = usedAt + 1
+abbrev pub rowCountsAt : ℕ
+rowCountsAt = usedAt + 1
 
 abbrev pub headerLength : ℕ
-headerLength = countsAt + maxRelations
+headerLength = rowCountsAt + maxRelations
 
 unfoldable pub headerOf : List ℕ → Header
 headerOf hs =
     headerWith (getD hs relationsAt 0) (take maxRelations (drop aritiesAt hs)) (getD hs usedAt 0)
-    (take maxRelations (drop countsAt hs))
+    (take maxRelations (drop rowCountsAt hs))
 
 unfoldable pub headerWords : Header → List ℕ
 headerWords h = h .relations ∷ h .arities ++ h .used ∷ h .counts

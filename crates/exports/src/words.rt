@@ -11,26 +11,27 @@ use calculus::truth::Truth;
 use instance::eight::eight;
 use instance::eight::put_eight;
 use instance::header::Header;
+use instance::header::RELATIONS;
 use instance::header::header_with;
 
 // where each part of a header begins among its words, and the number of these
-const RELATIONS: usize = 0;
+const RELATIONS_AT: usize = 0;
 
-const ARITIES: usize = RELATIONS + 1;
+const ARITIES_AT: usize = RELATIONS_AT + 1;
 
-const USED: usize = ARITIES + 8;
+const USED_AT: usize = ARITIES_AT + RELATIONS as usize;
 
-const COUNTS: usize = USED + 1;
+const ROW_COUNTS_AT: usize = USED_AT + 1;
 
-pub const HEADER: usize = COUNTS + 8;
+pub const HEADER: usize = ROW_COUNTS_AT + RELATIONS as usize;
 
 pub fn read_header(words: &[u32]) -> Header
     requires { ⌜ length (now words) ≡ headerLength ⌝ }
     ensures { λ r. ⌜ r ≡ headerOf (now (words .entry)) ⌝ }
 {
-    let arities = eight(words, ARITIES);
-    let counts = eight(words, COUNTS);
-    header_with(words[RELATIONS], arities, words[USED], counts)
+    let arities = eight(words, ARITIES_AT);
+    let counts = eight(words, ROW_COUNTS_AT);
+    header_with(words[RELATIONS_AT], arities, words[USED_AT], counts)
 }
 
 fn write_header(words: &mut [u32], header: Header)
@@ -39,10 +40,10 @@ fn write_header(words: &mut [u32], header: Header)
 {
     let arities = header.arities;
     let counts = header.counts;
-    words[RELATIONS] = header.relations;
-    put_eight(words, ARITIES, &arities);
-    words[USED] = header.used;
-    put_eight(words, COUNTS, &counts);
+    words[RELATIONS_AT] = header.relations;
+    put_eight(words, ARITIES_AT, &arities);
+    words[USED_AT] = header.used;
+    put_eight(words, ROW_COUNTS_AT, &counts);
 }
 
 // Writes the header that an accepted call leaves; a refused call leaves the words as they are.

@@ -78,17 +78,17 @@ unfolding Alike
 map-alike f [] = tt
 map-alike f (r ∷ rs) = (refl, length-map (r .cells) f, map-alike f rs)
 
-pub alike-same : (rs : List Row) → Alike rs rs
+pub alike-refl : (rs : List Row) → Alike rs rs
 unfolding Alike
-alike-same [] = tt
-alike-same (r ∷ rs) = (refl, refl, alike-same rs)
+alike-refl [] = tt
+alike-refl (r ∷ rs) = (refl, refl, alike-refl rs)
 
-pub alike-back : (rs ss : List Row) → Alike rs ss → Alike ss rs
+pub alike-sym : (rs ss : List Row) → Alike rs ss → Alike ss rs
 unfolding Alike
-alike-back [] [] a = tt
-alike-back [] (s ∷ ss) a = absurd a
-alike-back (r ∷ rs) [] a = absurd a
-alike-back (r ∷ rs) (s ∷ ss) a = (sym (a .0), sym (a .1), alike-back rs ss (a .2))
+alike-sym [] [] a = tt
+alike-sym [] (s ∷ ss) a = absurd a
+alike-sym (r ∷ rs) [] a = absurd a
+alike-sym (r ∷ rs) (s ∷ ss) a = (sym (a .0), sym (a .1), alike-sym rs ss (a .2))
 
 pub alike-trans : (rs ss ts : List Row) → Alike rs ss → Alike ss ts → Alike rs ts
 unfolding Alike
@@ -102,7 +102,7 @@ alike-trans (r ∷ rs) (s ∷ ss) (t ∷ ts) a b = (a .0 ∙ b .0, a .1 ∙ b .1
 -- with the same rows after them
 pub alike-append : (rs ss more : List Row) → Alike rs ss → Alike (rs ++ more) (ss ++ more)
 unfolding Alike
-alike-append [] [] more a = alike-same more
+alike-append [] [] more a = alike-refl more
 alike-append [] (s ∷ ss) more a = absurd a
 alike-append (r ∷ rs) [] more a = absurd a
 alike-append (r ∷ rs) (s ∷ ss) more a = (a .0, a .1, alike-append rs ss more (a .2))

@@ -14,7 +14,7 @@ use Rattle.instance.specs.declared.scan.Scanned.the-variants.{Rows, Unso
 use Rattle.instance.specs.Header.{maxRelations, maxWords}
 use lib.Dec.{ltb}
 use Rattle.instance.specs.Rows.{rowsWellFormed, wordsOf, rowsFrom}
-use Rattle.instance.specs.Sound.{sound, rows, headerFor, Counts, MeansCounts, tally, scanned}
+use Rattle.instance.specs.Sound.{sound, rows, headerFor, MeansCounts, tally, scanned}
 use Rattle.instance.specs.InstanceWellFormed.{InstanceWellFormed}
 use Rattle.instance.specs.RowCounts.{rowCounts}
 use Rattle.calculus.proofs.Bools.{and-parts}
@@ -68,7 +68,7 @@ no-tuples n ars (row ∷ rs) e r l =
     tuples-other r row rs (λ q. omega (arith, ltb-true (row .relation) n (p .0))) ∙ no-tuples n ars rs (p .3) r l
 
 pub counts-mean : MeansCounts
-counts-mean h ws e = record { stand = stand; absent = λ r l. absent r l (ltb r maxRelations) refl }
+counts-mean h ws e = record { eight = ap length (g .counted) ∙ row-counts-size (rows h ws); stand = stand; absent = λ r l. absent r l (ltb r maxRelations) refl }
   where
     g : Sound h ws
     g = sound-gives h ws e

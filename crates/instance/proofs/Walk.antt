@@ -16,12 +16,28 @@ use Rattle.instance.specs.Rows.{areCells, wordsWellFormed, rowsFrom}
 use Rattle.instance.specs.InstanceWellFormed.{InstanceWellFormed, InstanceOf}
 use Rattle.instance.proofs.Rows.{headed, at-row, at-cell, cells-first, cells-within}
 
+-- past the cells that are still to come, a row starts, or the words end
+rows-past : (ars : List ℕ) (left : ℕ) (ws : List ℕ) → left ≤ length ws → rowsFrom ars left ws ≡ rowsFrom ars 0 (drop left ws)
+unfolding rowsFrom
+rows-past ars zero ws l = refl
+rows-past ars (suc left) [] l = absurd (omega arith)
+rows-past ars (suc left) (w ∷ ws) l = rows-past ars left ws (omega arith)
+
+-- the row at index i, if the words have all its cells, and the rows after it
+pub rows-at : (ars ws : List ℕ) (i : ℕ) → i < length ws → i + 1 + arityOf ars (getD ws i 0) ≤ length ws
+    → rowsFrom ars 0 (drop i ws)
+    ≡ record { relation = getD ws i 0; cells = take (arityOf ars (getD ws i 0)) (drop (i + 1) ws) } ∷ rowsFrom ars 0 (drop (i + 1 + arityOf ars (getD ws i 0)) ws)
+unfolding rowsFrom
+rows-at ars ws i l m =
+    let a = arityOf ars (getD ws i 0) in
+    ap (rowsFrom ars 0) (drop-step ws i l)
+    ∙ ap (λ (rs : List Row). record { relation = getD ws i 0; cells = take a (drop (i + 1) ws) } ∷ rs)
+    (rows-past ars a (drop (i + 1) ws) (omega (arith, length-drop (i + 1) ws)) ∙ ap (rowsFrom ars 0) (drop-drop a (i + 1) ws))
+
 module _ (n : ℕ) (ars : List ℕ) where
-  -- past the cells that are still to come, a row starts
-  past-cells : (left : ℕ) (ws : List ℕ) → wordsWellFormed n ars left ws ≡ true
-      → (wordsWellFormed n ars 0 (drop left ws) ≡ true) × (rowsFrom ars left ws ≡ rowsFrom ars 0 (drop left ws))
-  unfolding wordsWellFormed rowsFrom
-  past-cells zero ws e = (e, refl)
+  past-cells : (left : ℕ) (ws : List ℕ) → wordsWellFormed n ars left ws ≡ true → wordsWellFormed n ars 0 (drop left ws) ≡ true
+  unfolding wordsWellFormed
+  past-cells zero ws e = e
   past-cells (suc left) [] e = absurd (false≢true e)
   past-cells (suc left) (w ∷ ws) e = past-cells left ws (at-cell n ars left w ws e .1)
 
@@ -53,7 +69,6 @@ pub record AtRow (n : ℕ) (ars ws : List ℕ) (i : ℕ) : Type 0 where
 
 module _ (n : ℕ) (ars ws : List ℕ) (i : ℕ) where
   pub row-here : i < length ws → Walk n ars ws i → AtRow n ars ws i
-  unfolding rowsFrom
   row-here l walk =
       let w = getD ws i 0 in
       let a = arityOf ars w in
@@ -68,8 +83,10 @@ module _ (n : ℕ) (ars ws : List ℕ) (i : ℕ) where
         relation = ltb-true w n (p .0);
         cells = c .1;
         size = c .0;
-        next = record { within = omega (arith, cells-within n ars a (drop (i + 1) ws) (p .1), length-drop (i + 1) ws); well-formed = rw next at (q .0) };
-        rows = ap (rowsFrom ars 0) here ∙ ap (λ (rs : List Row). record { relation = w; cells = take a (drop (i + 1) ws) } ∷ rs) (q .1 ∙ ap (rowsFrom ars 0) next);
+        next = record { within = omega (arith, cells-within n ars a (drop (i + 1) ws) (p .1), length-drop (i + 1) ws); well-formed = rw next at q };
+        rows =
+            rows-at ars ws i l (omega (arith, cells-within n ars a (drop (i + 1) ws) (p .1), length-drop (i + 1) ws)) ∙
+            ap (λ (k : ℕ). record { relation = w; cells = take a (drop (i + 1) ws) } ∷ rowsFrom ars 0 (drop k ws)) sum;
       }
 
 -- the cells of a row at index i, as a slice of the words

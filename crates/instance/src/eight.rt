@@ -3,11 +3,11 @@ ghost use mathlib.Core.Path.{_≡_};
 ghost use Prim.Native.Nat.{_+_, _≤_};
 ghost use lib.ListN.{length, take, drop};
 ghost use lib.Seq.{paste};
-ghost use Rattle.instance.specs.Header.{maxRelations, maxWords};
+ghost use Rattle.instance.specs.Header.{maxRelations};
 
 // The eight words from index `at`.
 pub fn eight(words: &[u32], at: usize) -> [u32; 8]
-    requires { ⌜ (at + maxRelations ≤ length (now words)) × (at ≤ maxWords) ⌝ }
+    requires { ⌜ at + maxRelations ≤ length (now words) ⌝ }
     ensures { λ r. ⌜ r ≡ take maxRelations (drop at (now (words .entry))) ⌝ }
 {
     let mut values = [0u32; 8];
@@ -21,7 +21,7 @@ pub fn eight(words: &[u32], at: usize) -> [u32; 8]
 
 // Writes eight words from index `at`; the other words stay.
 pub fn put_eight(words: &mut [u32], at: usize, values: &[u32; 8])
-    requires { ⌜ (at + maxRelations ≤ length (now words)) × (at ≤ maxWords) × (length (now values) ≡ maxRelations) ⌝ }
+    requires { ⌜ (at + maxRelations ≤ length (now words)) × (length (now values) ≡ maxRelations) ⌝ }
     ensures { λ _. ⌜ now (words .exit) ≡ paste (now (words .entry)) at (now (values .entry)) maxRelations ⌝ }
 {
     let mut i = 0;

@@ -77,16 +77,15 @@ fn all_rows(counts: &[u32; 8]) -> u32
     rows
 }
 
-// The number of rows in the words, or `Unsound` if they are not whole rows of cells, as many of each relation as the
-// counts say.
+// The number of rows in the words; `Unsound` if they are not whole rows of cells, or if a relation has another number of
+// rows than its count.
 fn scan_words(relations: u32, arities: &[u32; 8], counts: &[u32; 8], words: &[u32]) -> Scanned
     requires { ⌜ (headerWellFormed relations (now arities) ≡ true) × (length (now words) ≤ maxWords)
         × (length (now counts) ≡ maxRelations) ⌝ }
     ensures { λ r. ⌜ r ≡ scannedWords relations (now (arities .entry)) (now (counts .entry)) (now (words .entry)) ⌝ }
 {
     let mut found = [0u32; 8];
-    // the relation of the last row, and its arity: where rows of one relation follow each other, the next row's place
-    // does not wait for its relation to be read
+    // the last row's relation and arity, so that a row of the same relation needs no look into `arities`
     let mut relation = 0;
     let mut arity = arities[0] as usize;
     let mut i = 0;

@@ -10,12 +10,15 @@ use instance::eight::put_eight;
 pub mod arities;
 pub mod flags;
 
+// The counts come first.
+const COUNTS: usize = 0;
+
 // The row counts and the arities of a header, and no flag, in an array of zeros.
 pub fn describe(counts: &[u32; 8], arities: &[u32; 8], known: &mut [u32])
     requires { ⌜ (length (now counts) ≡ maxRelations) × (length (now arities) ≡ maxRelations)
         × (now known ≡ replicate knownWords 0) ⌝ }
     ensures { λ _. ⌜ now (known .exit) ≡ now (counts .entry) ++ now (arities .entry) ++ replicate flagWords 0 ⌝ }
 {
-    put_eight(known, 0, counts);
+    put_eight(known, COUNTS, counts);
     put_eight(known, ARITIES, arities);
 }

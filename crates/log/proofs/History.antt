@@ -31,7 +31,7 @@ use Rattle.instance.specs.Insert.{enterable, inserted, insertedHeader, inserted
 use Rattle.instance.specs.Substitute.{substituted}
 use Rattle.instance.proofs.Accepted.{insert-accepted, substitute-accepted}
 use Rattle.instance.proofs.Fillable.{words-done, words-refused}
-use Rattle.instance.proofs.Headers.{Holds, rows-sound, Alike, words-alike, header-alike, map-alike, alike-same, alike-back, alike-append}
+use Rattle.instance.proofs.Headers.{Holds, rows-sound, Alike, words-alike, header-alike, map-alike, alike-refl, alike-sym, alike-append}
 use Rattle.instance.proofs.Kept.{map-well-formed}
 use Rattle.instance.proofs.Rows.{words-append, row-well-formed}
 use Rattle.instance.proofs.Sound.{sound-gives}
@@ -77,9 +77,9 @@ append-size rs ss = ap length (words-append rs ss) ∙ length-append (wordsOf rs
 
 struck-alike : (es : List Event) (rs : List Row) → Alike (rowsBy (struck es) rs) (rowsBy es rs)
 unfolding struck rowsBy
-struck-alike [] rs = alike-same rs
+struck-alike [] rs = alike-refl rs
 struck-alike (insertion r ∷ es) rs = alike-append (rowsBy (struck es) rs) (rowsBy es rs) (r ∷ []) (struck-alike es rs)
-struck-alike (filling m c ∷ es) rs = alike-back (substitute m c (rowsBy es rs)) (rowsBy es rs) (map-alike (put m c) (rowsBy es rs))
+struck-alike (filling m c ∷ es) rs = alike-sym (substitute m c (rowsBy es rs)) (rowsBy es rs) (map-alike (put m c) (rowsBy es rs))
 
 struck-size : (es : List Event) (rs : List Row) → length (wordsOf (rowsBy (struck es) rs)) ≡ length (wordsOf (rowsBy es rs))
 struck-size es rs = words-alike (rowsBy (struck es) rs) (rowsBy es rs) (struck-alike es rs)

@@ -18,7 +18,7 @@ use Rattle.instance.specs.declared.header.Header.{Header}
 use Rattle.instance.specs.Rows.{rowWellFormed, rowsWellFormed, wordsOf}
 use Rattle.instance.specs.Sound.{sound, rows}
 use Rattle.instance.proofs.Blanks.{null-cell}
-use Rattle.instance.proofs.Headers.{rows-sound, Alike, header-alike, alike-same, alike-trans}
+use Rattle.instance.proofs.Headers.{rows-sound, Alike, header-alike, alike-refl, alike-trans}
 use Rattle.instance.proofs.Rows.{row-parts, row-well-formed}
 use Rattle.instance.proofs.Sound.{sound-gives}
 use Rattle.log.specs.Log.{lastMark, lastPlaces, undone, undoneWords}
@@ -70,7 +70,7 @@ module _ (n : ℕ) (ars : List ℕ) (x : ℕ) (cell : isCell x ≡ true) (post :
           record {
             left = row ∷ rs;
             words = begin ∙ ap (λ (l : List ℕ). r .relation ∷ l) (set-append-left (r .cells) (wordsOf rs ++ post) p x (ltb-true _ _ q)) ∙ apart cs rs;
-            alike = (refl, length-set (r .cells) p x, alike-same rs);
+            alike = (refl, length-set (r .cells) p x, alike-refl rs);
             well-formed =
                 and-intro
                 (row-well-formed n ars row (ltb-true _ _ (parts .0)) (length-set (r .cells) p x ∙ parts .1) (all-set isCell (r .cells) p x (parts .2) cell))
@@ -114,7 +114,7 @@ undo-kept h ws log used k e =
     let begin : ws ≡ wordsOf (rows h ws) ++ post = sym (ap (λ (l : List ℕ). l ++ post) (g .words) ∙ take-append-drop (h .used) ws) in
     let l =
     all-left (h .relations) (h .arities) (null (lastMark log used)) (null-cell (lastMark log used) (a .entry .low) (a .entry .high)) post (lastPlaces log used) (rows h ws) ws
-    (record { left = rows h ws; words = begin; alike = alike-same (rows h ws); well-formed = g .rows-well-formed }) (a .entry .places)
+    (record { left = rows h ws; words = begin; alike = alike-refl (rows h ws); well-formed = g .rows-well-formed }) (a .entry .places)
     in
     let same = header-alike (h .relations) (h .arities) (l .left) (rows h ws) (l .alike) ∙ g .header in
     rw (e, l .words)

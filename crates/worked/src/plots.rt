@@ -1,4 +1,4 @@
-// The headers of the worked plots. They are made only here, so a new field of `Header` changes few worked inputs.
+// The headers of the worked plots. They are made only here.
 use instance::header::Header;
 use instance::header::header_with;
 

@@ -1,4 +1,4 @@
--- `exports::plotask_substitute` meets its contract: 41 if the header slice has another length than a header, otherwise the library's call. Assumes nothing.
+-- `exports::plotask_substitute` meets its contract: 41 if the header slice is not as long as a header, otherwise the library's call. Assumes nothing.
 use Rattle.calculus.specs.Fill.{unlogged}
 use Rattle.instance.specs.Substitute.{substituted, substitutedWords}
 use Rattle.exports.proofs.Headed.{left, counted-no, counted-yes}

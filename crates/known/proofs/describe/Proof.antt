@@ -16,7 +16,7 @@ abbrev zeros : List ℕ
 zeros = replicate (maxRelations + flagWords) 0
 
 put-eight-requires : tie.Need-put-eight-requires
-put-eight-requires c κs = let p = c .before .before .pre in (omega (arith, ap length (p .2)), omega arith, p .0)
+put-eight-requires c κs = let p = c .before .before .pre in (omega (arith, ap length (p .2)), p .0)
 
 -- after the counts were written
 module _ (c : tie.After-put-eight) where
@@ -35,7 +35,7 @@ put-eight-requires-2 : tie.Need-put-eight-requires-2
 put-eight-requires-2 c κs =
     let b = c .before .before .before in
     let p = start b .pre in
-    (omega (arith, ap length (written b), length-append (counts b) zeros, p .0), omega arith, p .1)
+    (omega (arith, ap length (written b), length-append (counts b) zeros, p .0), p .1)
 
 -- after the arities were written
 module _ (c : tie.After-slice-known3) where

@@ -11,10 +11,10 @@ use Rattle.exports.proofs.words.read_header.Statement.{statement}
 use Rattle.exports.proofs.words.read_header.Tie as tie
 
 eight-requires : tie.Need-eight-requires
-eight-requires c κs = (omega (arith, c .before .pre), omega arith)
+eight-requires c κs = omega (arith, c .before .pre)
 
 eight-requires-2 : tie.Need-eight-requires-2
-eight-requires-2 c κs = (omega (arith, c .before .before .pre), omega arith)
+eight-requires-2 c κs = omega (arith, c .before .before .pre)
 
 shared-slice-read-header-with : tie.Need-shared-slice-read-header-with
 shared-slice-read-header-with c = search needs

@@ -9,7 +9,7 @@ use lib.ListN.{length, length-set, set}
 use lib.Seq.{length-paste, paste}
 use Rattle.instance.specs.declared.header.Header.{Header}
 use Rattle.instance.specs.Header.{maxRelations}
-use Rattle.exports.specs.Words.{relationsAt, aritiesAt, usedAt, countsAt, headerWords, headerLength}
+use Rattle.exports.specs.Words.{relationsAt, aritiesAt, usedAt, rowCountsAt, headerWords, headerLength}
 use Rattle.exports.proofs.HeaderWords.{Eight, words-size, parts-written}
 use Rattle.exports.proofs.words.write_header.Statement.{statement}
 use Rattle.exports.proofs.words.write_header.Tie as tie
@@ -18,7 +18,7 @@ slice-write-words : tie.Need-slice-write-words
 slice-write-words c = search needs
 
 put-eight-requires : tie.Need-put-eight-requires
-put-eight-requires c κs = (simp length-set (omega (arith, c .before .before .before .before .before .pre)), omega arith, search needs)
+put-eight-requires c κs = (simp length-set (omega (arith, c .before .before .before .before .before .pre)), search needs)
 
 -- after the arities were written
 module _ (c : tie.After-slice-known2) where
@@ -44,13 +44,13 @@ slice-write-words-2 : tie.Need-slice-write-words-2
 slice-write-words-2 c = omega (arith, long c)
 
 put-eight-requires-2 : tie.Need-put-eight-requires-2
-put-eight-requires-2 c κs = (simp length-set (omega (arith, long (c .before .before))), omega arith, search needs)
+put-eight-requires-2 c κs = (simp length-set (omega (arith, long (c .before .before))), search needs)
 
 -- after the counts were written
 written : (c : tie.After-slice-known3) → c .before .before .put-eight2 .last .0 ≡ headerWords (h (c .before .before .before .before .before))
 written c =
     let b = c .before .before .before .before .before in
-    c .before .before .put-eight2 .ensures ∙ ap (λ (l : List ℕ). paste (set l usedAt (h b .used)) countsAt (h b .counts) maxRelations) (b .before .before .put-eight .ensures) ∙
+    c .before .before .put-eight2 .ensures ∙ ap (λ (l : List ℕ). paste (set l usedAt (h b .used)) rowCountsAt (h b .counts) maxRelations) (b .before .before .put-eight .ensures) ∙
     parts-written (h b) (eight b) (ws b) (start b .pre)
 
 same-length : tie.Need-same-length

@@ -23,13 +23,13 @@ loop-holds : tie.Need-loop-holds Inv-loop μ-loop
 loop-holds c = (omega arith, refl)
 
 add-values : tie.Need-add-values Inv-loop μ-loop
-add-values c = omega (arith, c .before .before .pre .1)
+add-values c = omega (arith, c .before .before .pre)
 
 mul-values : tie.Need-mul-values Inv-loop μ-loop
-mul-values c = omega (arith, c .before .before .pre .1)
+mul-values c = omega (arith, c .before .before .pre)
 
 shared-slice-read-values : tie.Need-shared-slice-read-values Inv-loop μ-loop
-shared-slice-read-values c = omega (arith, c .before .before .before .pre .0)
+shared-slice-read-values c = omega (arith, c .before .before .before .pre)
 
 mul-values-2 : tie.Need-mul-values-2 Inv-loop μ-loop
 mul-values-2 c = omega arith
@@ -49,7 +49,7 @@ loop-again c =
     let at = args .at in
     let ws = args .words .now in
     let i = c .before .before .loop .i in
-    let long : i < length (drop at ws) = omega (arith, length-drop at ws, c .before .before .before .pre .0) in
+    let long : i < length (drop at ws) = omega (arith, length-drop at ws, c .before .before .before .pre) in
     (omega arith, rw (c .before .before .loop .inv .1, ← getD-drop at ws i 0) (copy-more i (drop at ws) zeros long (omega arith)))
 
 returns : tie.Need-returns Inv-loop μ-loop

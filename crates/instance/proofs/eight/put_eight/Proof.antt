@@ -26,10 +26,10 @@ element-copy-out-words : tie.Need-element-copy-out-words Inv-loop μ-loop
 element-copy-out-words c = omega arith
 
 add-words : tie.Need-add-words Inv-loop μ-loop
-add-words c = omega (arith, c .before .before .before .pre .1)
+add-words c = omega (arith, c .before .before .before .pre .0)
 
 mul-words-2 : tie.Need-mul-words-2 Inv-loop μ-loop
-mul-words-2 c = omega (arith, c .before .before .before .pre .1)
+mul-words-2 c = omega (arith, c .before .before .before .pre .0)
 
 slice-write-words : tie.Need-slice-write-words Inv-loop μ-loop
 slice-write-words c = omega (arith, c .before .before .before .pre .0, c .before .before .loop .inv .1)
@@ -49,7 +49,7 @@ loop-again c =
     let vs = s .args .values .now in (
       omega arith,
       length-set (c .before .before .loop .words) _ _ ∙ c .before .before .loop .inv .1,
-      ap (λ (l : List ℕ). set l (at + i) (getD vs i 0)) (c .before .before .loop .inv .2) ∙ paste-suc ws at vs i 0 (omega (arith, s .pre .0)) (omega (arith, s .pre .2)) ∙
+      ap (λ (l : List ℕ). set l (at + i) (getD vs i 0)) (c .before .before .loop .inv .2) ∙ paste-suc ws at vs i 0 (omega (arith, s .pre .0)) (omega (arith, s .pre .1)) ∙
           ap (paste ws at vs) (sym (add-one i)),
     )
 

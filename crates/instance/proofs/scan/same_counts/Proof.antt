@@ -50,7 +50,9 @@ module _ (c : tie.In-loop Inv-loop μ-loop) where
   step = c .before .loop .inv .1 ∙ identical-step xs ys here (omega (arith, c .before .before .pre .0)) (omega (arith, c .before .before .pre .1))
 
 returns : tie.Need-returns Inv-loop μ-loop
-returns c = rw (step (c .before .before .before)) (simp (ne-eqb _ _ (c .if1 .taken)))
+returns c =
+    let b = c .before .before .before in
+    rw (step b) (simp (ne-eqb (getD (xs b) (here b) 0) (getD (ys b) (here b) 0) (λ e. omega (arith, e, c .if1 .taken))))
 
 add-i : tie.Need-add-i Inv-loop μ-loop
 add-i c = omega arith
@@ -59,7 +61,9 @@ loop-less : tie.Need-loop-less Inv-loop μ-loop
 loop-less c = omega arith
 
 loop-again : tie.Need-loop-again Inv-loop μ-loop
-loop-again c = (omega arith, step (c .before .before .before) ∙ simp (eq-eqb _ _ (c .if1 .left)))
+loop-again c =
+    let b = c .before .before .before in
+    (omega arith, step b ∙ simp (eq-eqb (getD (xs b) (here b) 0) (getD (ys b) (here b) 0) (omega (arith, c .if1 .left))))
 
 returns-2 : tie.Need-returns-2 Inv-loop μ-loop
 unfolding identical

@@ -17,8 +17,8 @@ use Rattle.instance.specs.Rows.{areCells, rowsFrom}
 use Rattle.instance.specs.RowCounts.{rowCounts, sumOf}
 use Rattle.instance.specs.Sound.{tally, scannedWords}
 use Rattle.instance.proofs.Rows.{Headed, headed}
-use Rattle.instance.proofs.Walk.{rows-end, tuples-few}
-use Rattle.instance.proofs.ScanSteps.{scanFrom, scan-end, scan-row, scan-cells, scan-short, rows-past}
+use Rattle.instance.proofs.Walk.{rows-at, rows-end, tuples-few}
+use Rattle.instance.proofs.ScanSteps.{scanFrom, scan-end, scan-row, scan-cells, scan-short}
 use Rattle.instance.proofs.RowCounts.{RowsCounted, counted-row, counted-all, sum-one}
 use Rattle.calculus.proofs.Counting.{counting-starts}
 use Rattle.calculus.specs.Closed.{identical}
@@ -103,14 +103,6 @@ module _ (c : tie.In-loop Inv-loop μ-loop) where
         ∙ scan-cells n ars right (k + 1) (arityOf ars w) behind (omega (arith, length-drop (i + 1) ws))
         ∙ ap (λ (b : Bool). cond b (scanFrom n ars right (k + 1) 0 (drop (arityOf ars w) behind)) Unsound) e
         ∙ ap (λ (ws : List ℕ). cond b (scanFrom n ars right (k + 1) 0 ws) Unsound) (drop-drop (arityOf ars w) (i + 1) ws)
-
-    -- and the rows after it
-    rows-here : i + 1 + arityOf ars w ≤ length ws → rowsFrom ars 0 (drop i ws) ≡ record { relation = w; cells = take (arityOf ars w) behind } ∷ rowsFrom ars 0 (drop (i + 1 + arityOf ars w) ws)
-    unfolding rowsFrom
-    rows-here l =
-        ap (rowsFrom ars 0) (drop-step ws i (omega arith))
-        ∙ ap (λ (rs : List Row). record { relation = w; cells = take (arityOf ars w) behind } ∷ rs)
-        (rows-past ars (arityOf ars w) behind (omega (arith, length-drop (i + 1) ws)) ∙ ap (rowsFrom ars 0) (drop-drop (arityOf ars w) (i + 1) ws))
 
 returns : tie.Need-returns Inv-loop μ-loop
 returns c = sym (at-row (c .before .before .before) false (le-ltb _ _ (c .if2 .taken)))
@@ -225,7 +217,7 @@ loop-again c =
       past r (known j) true (within b) (told b ∙ not-false _ (c .if4 .left)) ∙
           ap₂ (λ (m a : ℕ). scanFrom (n r) (ars r) (right r) m 0 (drop (i r + 1 + a) (ws r))) (sym one) (sym (arity-is j)),
       subst (λ (a : ℕ). RowsCounted (rowsFrom (ars r) 0 (ws r)) (rowsFrom (ars r) 0 (drop (i r + 1 + a) (ws r))) (set (r .before .loop .found) (w r) (getD (r .before .loop .found) (w r) 0 + 1)))
-          (sym (arity-is j)) (counted-row _ _ _ _ (few b) (rw (rows-here r (known j) (within b)) at (r .before .loop .inv .3))),
+          (sym (arity-is j)) (counted-row _ _ _ _ (few b) (rw (rows-at (ars r) (ws r) (i r) (omega arith) (within b)) at (r .before .loop .inv .3))),
       omega (arith, is-last j, known j),
       arity-is j ∙ ap (arityOf (ars r)) (sym (is-last j)),
     )
