@@ -115,7 +115,7 @@
  *   null counts    1,040
  *   insert           368
  *   encode           304
- *   decode           360
+ *   decode           352
  *   logged fill      272
  *   undo             304
  *   substitute       240
