@@ -459,10 +459,10 @@ uint32_t plotask_ask(const uint32_t *header, size_t header_words, const uint32_t
  * case, with thousands of them, each cell is searched for among the words before it: that takes at most as many tests
  * of a word as the plot's cells times its words in use.
  *
- * Measured on full plots (docs/BENCHMARKS.md), beside plotask_ask: a question without "some" and "every" takes about
- * half as long. With them, and with up to 205 different values, it takes 1.06 to 1.9 times as long, or less than that
- * if many values share a bucket of the library's hash. With 3,510 different values the pass alone takes about 2
- * milliseconds, where plotask_ask takes 28 microseconds for a question of one "every".
+ * Measured on full plots (docs/BENCHMARKS.md), beside plotask_ask: a question without "some" and "every" takes 0.27 to
+ * 0.42 of the time. With them, and with up to 205 different values, it takes 1.06 to 2.0 times as long, or less than
+ * that if many values share a bucket of the library's hash. With 3,510 different values the pass alone takes about 2
+ * milliseconds, where plotask_ask takes 26 microseconds for a question of one "every".
  *
  * Which to choose: this call if there is no memory for the list, and for questions without "some" and "every", since
  * plotask_ask lists the plot's values for these too; plotask_ask if there is memory and the plot may have thousands of
