@@ -18,8 +18,8 @@ pub record SoundInstance (hs ws : List ℕ) : Type 0 where
   pub long : length hs ≡ headerLength
   pub is-sound : sound (headerOf hs) ws ≡ true
 
--- Document 02, request 10, of the row counts: "All calls that add or drop rows keep them right." Every call, accepted or
--- refused, leaves a sound plot sound, whatever else it is given, an undo too, whatever its log holds.
+-- Document 02, request 10, of the row counts: "All calls that add or drop rows keep them right." Every call, accepted
+-- or refused, leaves a sound plot sound, whatever else it is given, an undo too, whatever its log holds.
 abbrev pub KeptSound : Type 0
 KeptSound = (j : Job) (hs ws : List ℕ) → SoundInstance hs ws → SoundInstance (headerLeft j hs ws) (wordsLeft j hs ws)
 

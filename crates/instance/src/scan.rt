@@ -77,8 +77,8 @@ fn all_rows(counts: &[u32; 8]) -> u32
     rows
 }
 
-// The number of rows in the words; `Unsound` if they are not whole rows of cells, or if a relation has another number of
-// rows than its count.
+// The number of rows in the words; `Unsound` if they are not whole rows of cells, or if a relation has another number
+// of rows than its count.
 fn scan_words(relations: u32, arities: &[u32; 8], counts: &[u32; 8], words: &[u32]) -> Scanned
     requires { ⌜ (headerWellFormed relations (now arities) ≡ true) × (length (now words) ≤ maxWords)
         × (length (now counts) ≡ maxRelations) ⌝ }
