@@ -16,7 +16,7 @@ const struct build *build = &this_build;
 /* A header as the chosen build takes it. */
 #define HEADER(header) plotask_header_words(header), build->header_words
 
-static uint32_t list[PLOTASK_CELLS];
+static uint32_t list[PLOTASK_LIST_WORDS];
 static uint8_t card[PLOTASK_CARD_BYTES], written[PLOTASK_CARD_BYTES];
 static uint32_t card_bytes;
 static struct plotask_header read_header;
@@ -29,7 +29,7 @@ static const uint32_t row[PLOTASK_COLUMNS] = {1, 2, 3, 4, 5, 6};
 static uint32_t ask_nodes(const uint32_t *nodes, size_t words, uint32_t budget)
 {
     return build->ask(HEADER(&now.header), now.plot, PLOTASK_WORDS, nodes, words, now.candidate, now.candidate_cells,
-                      list, PLOTASK_CELLS, budget, &truth, &count);
+                      list, PLOTASK_LIST_WORDS, budget, &truth, &count);
 }
 
 void ask(void)
@@ -84,7 +84,7 @@ void ask_hashing(void)
 void ask_reference(void)
 {
     refusal = ref_ask(PLOTASK_HEADER(&now.header), now.plot, PLOTASK_WORDS, now.query, now.query_words, now.candidate,
-                      now.candidate_cells, list, PLOTASK_CELLS, UINT32_MAX, &truth, &count);
+                      now.candidate_cells, list, PLOTASK_CELLS + 300, UINT32_MAX, &truth, &count);
 }
 
 void decode(void)

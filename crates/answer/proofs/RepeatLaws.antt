@@ -4,7 +4,7 @@ use mathlib.Core.Path.{_≡_, refl, sym, ap, ap₂, _∙_}
 use mathlib.Core.Bool.{Bool, true, false}
 use mathlib.Core.List.{List}
 use native.Mathlib.Omega.{arith}
-use lib.ListN.{length}
+use lib.ListN.{length, length-append}
 use lib.Dec.{leb}
 use borrow.Author.Tests.{leb-true, leb-false}
 use Rattle.calculus.specs.declared.truth.Truth.{Truth}
@@ -16,10 +16,11 @@ use Rattle.calculus.proofs.Repeats.{Cheaper, repeat-kept, repeat-cells}
 use Rattle.instance.specs.declared.header.Header.{Header}
 use Rattle.instance.specs.Sound.{rows}
 use Rattle.instance.specs.Run.{modelOf}
+use Rattle.query.specs.Named.{namedIn, queryOf}
 use Rattle.query.specs.Tree.{formulaOf}
 use Rattle.query.specs.Check.{checkQuery, passed}
 use Rattle.answer.specs.declared.asked.Asked.the-variants.{Verdict}
-use Rattle.answer.specs.Ask.{Lent, hasPlace, ask, evaluatedAs}
+use Rattle.answer.specs.Ask.{Lent, hasPlace, needed, ask, evaluatedAs}
 use Rattle.answer.specs.Repeats.{SameVerdict, SameOrSpent, same, spent, Repeat, RepeatMeansOne}
 use Rattle.evaluate.proofs.Budget.{was-verdict}
 use Rattle.evaluate.proofs.Budget as budgets
@@ -28,16 +29,26 @@ use Rattle.answer.proofs.AskLaws.{evaluated-asked}
 
 module _ (h h′ : Header) (ws ws′ qs candidate : List ℕ) (lent : Lent) (budget : ℕ) (r : Repeat h h′ ws ws′) where
   abbrev twice : Outcome
-  twice = outcomeOf (modelOf h ws candidate) (formulaOf (h .arities) qs)
+  twice = outcomeOf (modelOf h ws candidate) (queryOf (h .arities) qs)
 
   abbrev once : Outcome
-  once = outcomeOf (modelOf h′ ws′ candidate) (formulaOf (h′ .arities) qs)
+  once = outcomeOf (modelOf h′ ws′ candidate) (queryOf (h′ .arities) qs)
 
   kept : Cheaper twice once
-  kept = rw (r .twice, r .once, r .arities) (repeat-kept (r .before) (r .row) (r .between) (r .behind) (formulaOf (h .arities) qs) (assignment candidate))
+  kept = rw (r .twice, r .once, r .arities) (repeat-kept (r .before) (r .row) (r .between) (r .behind) (namedIn (h .arities) qs) (formulaOf (h .arities) qs) (assignment candidate))
 
-  fewer : length (cellsOf (rows h′ ws′)) ≤ length (cellsOf (rows h ws))
-  fewer = rw (r .twice, r .once) (repeat-cells (r .before) (r .row) (r .between) (r .behind))
+  cells : length (cellsOf (rows h′ ws′)) ≤ length (cellsOf (rows h ws))
+  cells = rw (r .twice, r .once) (repeat-cells (r .before) (r .row) (r .between) (r .behind))
+
+  fewer : length (needed h′ ws′ qs) ≤ length (needed h ws qs)
+  fewer =
+      omega (
+        arith,
+        cells,
+        length-append (cellsOf (rows h ws)) (namedIn (h .arities) qs),
+        length-append (cellsOf (rows h′ ws′)) (namedIn (h′ .arities) qs),
+        ap (λ (ars : List ℕ). length (namedIn ars qs)) (r .arities),
+      )
 
   -- the second instance gives the first one's verdict
   second-asks : (t : Truth) (n : ℕ) → ask h ws qs candidate lent budget ≡ Verdict t n → SameVerdict (ask h′ ws′ qs candidate lent budget) t n
@@ -56,7 +67,7 @@ module _ (h h′ : Header) (ws ws′ qs candidate : List ℕ) (lent : Lent) (bud
 
   -- the first instance gives the second one's verdict, if the buffer is long enough and the budget suffices
   to-first :
-      (t : Truth) (n : ℕ) → ask h′ ws′ qs candidate lent budget ≡ Verdict t n → hasPlace lent (length (cellsOf (rows h ws))) ≡ true →
+      (t : Truth) (n : ℕ) → ask h′ ws′ qs candidate lent budget ≡ Verdict t n → hasPlace lent (length (needed h ws qs)) ≡ true →
       SameOrSpent (ask h ws qs candidate lent budget) t n
   to-first t n e room =
       let a = verdict-asked h′ ws′ qs candidate lent budget t n e in

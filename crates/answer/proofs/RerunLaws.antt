@@ -4,7 +4,7 @@ use mathlib.Core.Path.{_≡_, refl, sym, ap, _∙_, subst}
 use mathlib.Core.Bool.{true}
 use mathlib.Core.List.{List}
 use native.Mathlib.Omega.{arith}
-use lib.ListN.{length, length-map}
+use lib.ListN.{length, length-map, length-append}
 use borrow.Author.Tests.{le-leb, leb-true}
 use Rattle.calculus.specs.declared.answer.Answer.{Answer}
 use Rattle.calculus.specs.declared.answer.Answer.the-variants as answer
@@ -24,7 +24,9 @@ use Rattle.instance.specs.Sound.{sound, rows}
 use Rattle.instance.specs.Run.{filledWords, modelOf}
 use Rattle.instance.proofs.Run.{fills-follow-model, candidate-cells}
 use Rattle.query.specs.Words.{nodeCount, rightLength}
-use Rattle.query.specs.Tree.{formulaOf}
+use Rattle.query.specs.Named.{namedIn, queryOf}
+use Rattle.query.proofs.Named.{named-constant}
+use Rattle.calculus.specs.Formula.{inkedQuery}
 use Rattle.query.specs.Scope.{Scopes}
 use Rattle.query.specs.Check.{passed, checkQuery}
 use Rattle.calculus.specs.Reading.{refused}
@@ -33,13 +35,13 @@ use Rattle.answer.specs.declared.asked.Asked.the-variants.{Verdict, Refu
 use Rattle.evaluate.specs.declared.evaluated.Evaluated.{Evaluated}
 use Rattle.evaluate.specs.declared.evaluated.Evaluated.the-variants as evaluated
 use Rattle.evaluate.specs.Within.{within}
-use Rattle.answer.specs.Ask.{evaluatedAs, answeredBy, admitted, Lent, list, none, hasPlace, outcomeBy, ifDone, askable, ask}
+use Rattle.answer.specs.Ask.{evaluatedAs, answeredBy, admitted, Lent, list, none, hasPlace, needed, outcomeBy, ifDone, askable, ask}
 use Rattle.answer.specs.Ways.{NoShorter}
 use Rattle.answer.proofs.Admitted.{none-refused, admitted-done}
 use Rattle.answer.proofs.Ways.{outcome-by}
 use Rattle.answer.specs.Rerun.{DemandThree}
 use Rattle.evaluate.proofs.Budget.{verdict, was-verdict}
-use Rattle.calculus.proofs.Bools.{zero-not-one}
+use Rattle.calculus.proofs.Bools.{and-intro, zero-not-one}
 
 -- what follows from a verdict: nothing before it was refused
 pub record Asks (h : Header) (ws qs candidate : List ℕ) (lent : Lent) : Type 0 where
@@ -47,7 +49,7 @@ pub record Asks (h : Header) (ws qs candidate : List ℕ) (lent : Lent) : Type 0
   pub right : rightLength qs ≡ true
   pub scopes : Scopes
   pub passes : checkQuery (h .relations) (h .arities) qs candidate ≡ passed scopes
-  pub room : hasPlace lent (length (cellsOf (rows h ws))) ≡ true
+  pub room : hasPlace lent (length (needed h ws qs)) ≡ true
 
 -- fewer cells have place in a list that is no shorter
 pub place-kept : (lent lent′ : Lent) (n m : ℕ) → NoShorter lent lent′ → m ≤ n → hasPlace lent n ≡ true → hasPlace lent′ m ≡ true
@@ -66,11 +68,11 @@ asks-done h ws qs candidate lent k e = go (admitted h ws qs candidate) refl e
   where
     go :
         (a : Answer) → admitted h ws qs candidate ≡ a →
-        ifDone a (demand (hasPlace lent (length (cellsOf (rows h ws)))) (answer.Refused buffer-too-short) (answer.Done 0)) ≡ answer.Done k →
+        ifDone a (demand (hasPlace lent (length (needed h ws qs))) (answer.Refused buffer-too-short) (answer.Done 0)) ≡ answer.Done k →
         Asks h ws qs candidate lent
     go (answer.Done m) p d =
         let a = admitted-done h ws qs candidate m p in
-        let r = demand-done (hasPlace lent (length (cellsOf (rows h ws)))) buffer-too-short (answer.Done 0) k d in
+        let r = demand-done (hasPlace lent (length (needed h ws qs))) buffer-too-short (answer.Done 0) k d in
         record { is-sound = a .is-sound; right = a .right; scopes = a .scopes; passes = a .passes; room = r .0 }
     go (answer.Refused r) p d = let z : _≡_ {A = ℕ} 0 1 = cc in absurd (zero-not-one z)
 
@@ -82,17 +84,17 @@ askable-done h ws qs candidate lent a =
 -- a verdict: nothing is refused, and the outcome is within the budget
 pub verdict-asked :
     (h : Header) (ws qs candidate : List ℕ) (lent : Lent) (budget : ℕ) (t : Truth) (n : ℕ) → ask h ws qs candidate lent budget ≡ Verdict t n →
-    Asks h ws qs candidate lent × (within budget (outcomeOf (modelOf h ws candidate) (formulaOf (h .arities) qs)) ≡ evaluated.Verdict t n)
+    Asks h ws qs candidate lent × (within budget (outcomeOf (modelOf h ws candidate) (queryOf (h .arities) qs)) ≡ evaluated.Verdict t n)
 unfolding ask
 verdict-asked h ws qs candidate lent budget t n =
-    go (askable h ws qs candidate lent) refl (within budget (outcomeBy lent (modelOf h ws candidate) (formulaOf (h .arities) qs)))
-    (ap (within budget) (sym (outcome-by lent (modelOf h ws candidate) (formulaOf (h .arities) qs))))
+    go (askable h ws qs candidate lent) refl (within budget (outcomeBy lent (modelOf h ws candidate) (queryOf (h .arities) qs)))
+    (ap (within budget) (sym (outcome-by lent (modelOf h ws candidate) (queryOf (h .arities) qs))))
   where
     go :
         (a : Answer) → askable h ws qs candidate lent ≡ a →
-        (e : Evaluated) → within budget (outcomeOf (modelOf h ws candidate) (formulaOf (h .arities) qs)) ≡ e →
+        (e : Evaluated) → within budget (outcomeOf (modelOf h ws candidate) (queryOf (h .arities) qs)) ≡ e →
         answeredBy a e ≡ Verdict t n →
-        Asks h ws qs candidate lent × (within budget (outcomeOf (modelOf h ws candidate) (formulaOf (h .arities) qs)) ≡ evaluated.Verdict t n)
+        Asks h ws qs candidate lent × (within budget (outcomeOf (modelOf h ws candidate) (queryOf (h .arities) qs)) ≡ evaluated.Verdict t n)
     go (answer.Done k) p (evaluated.Verdict u m) q r =
         let truths : u ≡ t = cc in
         let costs : m ≡ n = cc in
@@ -103,28 +105,35 @@ verdict-asked h ws qs candidate lent budget t n =
 -- conversely, if nothing is refused and the cost is within the budget, the question gets its verdict
 pub asked-verdict :
     (h : Header) (ws qs candidate : List ℕ) (lent : Lent) (budget : ℕ) → Asks h ws qs candidate lent →
-    outcomeOf (modelOf h ws candidate) (formulaOf (h .arities) qs) .cost ≤ budget →
+    outcomeOf (modelOf h ws candidate) (queryOf (h .arities) qs) .cost ≤ budget →
     ask h ws qs candidate lent budget ≡
-    Verdict (outcomeOf (modelOf h ws candidate) (formulaOf (h .arities) qs) .truth) (outcomeOf (modelOf h ws candidate) (formulaOf (h .arities) qs) .cost)
+    Verdict (outcomeOf (modelOf h ws candidate) (queryOf (h .arities) qs) .truth) (outcomeOf (modelOf h ws candidate) (queryOf (h .arities) qs) .cost)
 unfolding ask
 asked-verdict h ws qs candidate lent budget a fits =
-    let o = outcomeOf (modelOf h ws candidate) (formulaOf (h .arities) qs) in
-    ap (λ (x : Answer). answeredBy x (within budget (outcomeBy lent (modelOf h ws candidate) (formulaOf (h .arities) qs)))) (askable-done h ws qs candidate lent a) ∙
-    ap (λ (o : Outcome). evaluatedAs (within budget o)) (outcome-by lent (modelOf h ws candidate) (formulaOf (h .arities) qs)) ∙ ap evaluatedAs (verdict budget o fits)
+    let o = outcomeOf (modelOf h ws candidate) (queryOf (h .arities) qs) in
+    ap (λ (x : Answer). answeredBy x (within budget (outcomeBy lent (modelOf h ws candidate) (queryOf (h .arities) qs)))) (askable-done h ws qs candidate lent a) ∙
+    ap (λ (o : Outcome). evaluatedAs (within budget o)) (outcome-by lent (modelOf h ws candidate) (queryOf (h .arities) qs)) ∙ ap evaluatedAs (verdict budget o fits)
 
 -- a refusal is not a verdict
 pub not-refused : {t : Truth} {n r : ℕ} → Refused r ≡ Verdict t n → ⊥
 not-refused e = let z : _≡_ {A = ℕ} 0 1 = cc in omega arith
+
+-- every constant of the question is an inked value
+pub asks-inked : (h : Header) (ws qs candidate : List ℕ) (lent : Lent) → Asks h ws qs candidate lent → inkedQuery (queryOf (h .arities) qs) ≡ true
+asks-inked h ws qs candidate lent a =
+    and-intro
+    (passed-inked (h .relations) (h .arities) qs candidate (a .right) (a .scopes) (a .passes) (nodeCount qs) 0 (count-within qs (a .right) .0))
+    (named-constant (h .arities) qs)
 
 -- run B passes the checks of run A: of the candidate they use only the length and that its words are cells, and fills keep both
 pub demand-three : DemandThree
 demand-three h ws qs candidate lent budget fs lent′ budget′ longer larger t n e =
     let a = verdict-asked h ws qs candidate lent budget t n e in
     let b = modelOf h ws candidate in
-    let was = was-verdict budget (outcomeOf b (formulaOf (h .arities) qs)) t n (a .1) in
+    let was = was-verdict budget (outcomeOf b (queryOf (h .arities) qs)) t n (a .1) in
     let r = fills-follow-model h fs ws candidate (a .0 .is-sound) in
     let m = mapped-run fs b in
-    let shared = runs-share fs b (formulaOf (h .arities) qs) (passed-inked (h .relations) (h .arities) qs candidate (a .0 .right) (a .0 .scopes) (a .0 .passes) (nodeCount qs) 0 (count-within qs (a .0 .right) .0)) in
+    let shared = runs-share fs b (queryOf (h .arities) qs) (asks-inked h ws qs candidate lent (a .0)) in
     let after = run fs b in
     let ws′ = filledWords h fs ws in
     let cells = are-cells (h .relations) (h .arities) qs candidate (a .0 .right) (a .0 .scopes) (a .0 .passes) in
@@ -133,11 +142,12 @@ demand-three h ws qs candidate lent budget fs lent′ budget′ longer larger t 
     let same-cells : length (cellsOf (rows h ws′)) ≡ length (cellsOf (rows h ws)) =
     ap (λ (rs : List Row). length (cellsOf rs)) (r .holds ∙ m .rows) ∙ ap length (cells-map (m .by) (rows h ws)) ∙ length-map (cellsOf (rows h ws)) (m .by)
     in
-    let room = place-kept lent lent′ (length (cellsOf (rows h ws))) (length (cellsOf (rows h ws′))) longer (omega (arith, same-cells)) (a .0 .room) in
-    let o = outcomeOf after (formulaOf (h .arities) qs) in
+    let room = place-kept lent lent′ (length (needed h ws qs)) (length (needed h ws′ qs)) longer
+    (omega (arith, same-cells, length-append (cellsOf (rows h ws)) (namedIn (h .arities) qs), length-append (cellsOf (rows h ws′)) (namedIn (h .arities) qs))) (a .0 .room) in
+    let o = outcomeOf after (queryOf (h .arities) qs) in
     let same-model : modelOf h ws′ (after .candidate) ≡ after = ap (λ (rs : List Row). record { rows = rs; candidate = after .candidate }) (r .holds) in
-    let same-outcome : outcomeOf (modelOf h ws′ (after .candidate)) (formulaOf (h .arities) qs) ≡ o = ap (λ (x : Model). outcomeOf x (formulaOf (h .arities) qs)) same-model in
-    let fits : outcomeOf (modelOf h ws′ (after .candidate)) (formulaOf (h .arities) qs) .cost ≤ budget′ =
+    let same-outcome : outcomeOf (modelOf h ws′ (after .candidate)) (queryOf (h .arities) qs) ≡ o = ap (λ (x : Model). outcomeOf x (queryOf (h .arities) qs)) same-model in
+    let fits : outcomeOf (modelOf h ws′ (after .candidate)) (queryOf (h .arities) qs) .cost ≤ budget′ =
     omega (arith, ap (λ (x : Outcome). x .cost) same-outcome, shared .kept .cost, was .cost, was .fits)
     in
     record {

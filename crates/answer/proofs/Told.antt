@@ -9,7 +9,7 @@ use Rattle.calculus.specs.Eval.{Outcome}
 use Rattle.calculus.specs.Model.{outcomeOf}
 use Rattle.instance.specs.declared.header.Header.{Header}
 use Rattle.instance.specs.Run.{modelOf}
-use Rattle.query.specs.Tree.{formulaOf}
+use Rattle.query.specs.Named.{queryOf}
 use Rattle.answer.specs.declared.asked.Asked.{Asked}
 use Rattle.answer.specs.declared.asked.Asked.the-variants.{Verdict, Refused}
 use Rattle.answer.specs.Ask.{Lent, ask}
@@ -37,12 +37,12 @@ tells-verdict {r} {a} o e of = record {
     cost (Refused r) of old = refl
 
 module _ (h : Header) (ws qs cs : List ℕ) (lent : Lent) (budget : ℕ) where
-  pub ask-outcome : Of (outcomeOf (modelOf h ws cs) (formulaOf (h .arities) qs)) (ask h ws qs cs lent budget)
+  pub ask-outcome : Of (outcomeOf (modelOf h ws cs) (queryOf (h .arities) qs)) (ask h ws qs cs lent budget)
   ask-outcome t n e =
-      let w = was-verdict budget (outcomeOf (modelOf h ws cs) (formulaOf (h .arities) qs)) t n (verdict-asked h ws qs cs lent budget t n e .1) in
+      let w = was-verdict budget (outcomeOf (modelOf h ws cs) (queryOf (h .arities) qs)) t n (verdict-asked h ws qs cs lent budget t n e .1) in
       (w .truth, w .cost)
 
   pub ask-told :
       {r : Asked} → r ≡ ask h ws qs cs lent budget →
-      TellsVerdict r (ask h ws qs cs lent budget) (outcomeOf (modelOf h ws cs) (formulaOf (h .arities) qs))
-  ask-told p = tells-verdict (outcomeOf (modelOf h ws cs) (formulaOf (h .arities) qs)) p ask-outcome
+      TellsVerdict r (ask h ws qs cs lent budget) (outcomeOf (modelOf h ws cs) (queryOf (h .arities) qs))
+  ask-told p = tells-verdict (outcomeOf (modelOf h ws cs) (queryOf (h .arities) qs)) p ask-outcome

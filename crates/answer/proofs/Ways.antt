@@ -11,38 +11,37 @@ use Rattle.calculus.specs.Demand.{demand}
 use Rattle.calculus.specs.Listed.{listed}
 use Rattle.calculus.specs.Closed.{closedOver}
 use Rattle.calculus.specs.Eval.{eval}
-use Rattle.calculus.specs.Formula.{Formula, assignment}
+use Rattle.calculus.specs.Formula.{Query, assignment}
 use Rattle.calculus.specs.Model.{Model, outcomeOf}
 use Rattle.calculus.specs.Reading.{refused, read, refusedIn}
 use Rattle.calculus.specs.Refusal.{unsound, buffer-too-short, bad-query-length}
-use Rattle.calculus.specs.Row.{cellsOf}
 use Rattle.calculus.proofs.Bools.{false-not-true}
 use Rattle.instance.specs.Run.{modelOf}
 use Rattle.instance.specs.Sound.{sound, rows}
-use Rattle.range.proofs.Walked.{walked-values}
+use Rattle.range.proofs.Walked.{walked-range}
 use Rattle.query.specs.Check.{Checked, checkQuery, checkNumbers}
-use Rattle.query.specs.Tree.{formulaOf}
+use Rattle.query.specs.Named.{queryOf}
 use Rattle.query.specs.Words.{rightLength}
 use Rattle.query.proofs.Passed.{query-numbered}
 use Rattle.evaluate.specs.declared.evaluated.Evaluated.{Evaluated}
 use Rattle.evaluate.specs.declared.evaluated.Evaluated.the-variants as evaluated
 use Rattle.evaluate.specs.Within.{within}
 use Rattle.answer.specs.declared.asked.Asked.the-variants.{Refused}
-use Rattle.answer.specs.Ask.{ifPassed, evaluatedAs, answeredBy, admitted, Lent, list, none, hasPlace, outcomeBy, ifDone, askable, ask}
+use Rattle.answer.specs.Ask.{ifPassed, evaluatedAs, answeredBy, admitted, Lent, list, none, hasPlace, needed, outcomeBy, ifDone, askable, ask}
 use Rattle.answer.specs.Numbers.{askedNumber}
 use Rattle.answer.specs.Ways.{WaysAgree, NeverShort}
 
--- the walked values are the plot's, so by either way the outcome is that of the rules
-pub outcome-by : (lent : Lent) (b : Model) (f : Formula) → outcomeBy lent b f ≡ outcomeOf b f
-outcome-by (list buffer) b f = refl
-outcome-by none b f = ap (λ (range : List ℕ). eval (closedOver range (b .rows)) f (assignment (b .candidate))) (walked-values (b .rows))
+-- what is walked is the range, so by either way the outcome is that of the rules
+pub outcome-by : (lent : Lent) (b : Model) (q : Query) → outcomeBy lent b q ≡ outcomeOf b q
+outcome-by (list buffer) b q = refl
+outcome-by none b q = ap (λ (range : List ℕ). eval (closedOver range (b .rows)) (q .formula) (assignment (b .candidate))) (walked-range (q .named) (b .rows))
 
 -- of the refusals they differ in one: the list's
 pub ways-agree : WaysAgree
 unfolding ask askable
 ways-agree h ws qs cs buffer budget not-short =
-    go (admitted h ws qs cs) (hasPlace (list buffer) (length (cellsOf (rows h ws))))
-    (ap (within budget) (outcome-by none (modelOf h ws cs) (formulaOf (h .arities) qs))) not-short
+    go (admitted h ws qs cs) (hasPlace (list buffer) (length (needed h ws qs)))
+    (ap (within budget) (outcome-by none (modelOf h ws cs) (queryOf (h .arities) qs))) not-short
   where
     go :
         (a : Answer) (b : Bool) {e e′ : Evaluated} → e ≡ e′ →
@@ -57,7 +56,7 @@ pub never-short : NeverShort
 unfolding ask askable admitted listed
 never-short h ws qs cs budget short =
     go (sound h ws) (rightLength qs) (checkQuery (h .relations) (h .arities) qs cs) (query-numbered (h .relations) (h .arities) qs cs)
-    (within budget (outcomeBy none (modelOf h ws cs) (formulaOf (h .arities) qs))) (ap askedNumber short)
+    (within budget (outcomeBy none (modelOf h ws cs) (queryOf (h .arities) qs))) (ap askedNumber short)
   where
     go :
         (a l : Bool) (c : Checked) → refusedIn checkNumbers c ≡ true → (e : Evaluated) →

@@ -2,7 +2,7 @@
 -- refusal."
 use Prim.Native.Nat.{ℕ}
 use mathlib.Core.Bool.{Bool, true}
-use mathlib.Core.List.{List}
+use mathlib.Core.List.{List, _++_}
 use lib.ListN.{length}
 use lib.Dec.{leb}
 use Rattle.calculus.specs.declared.answer.Answer.{Answer}
@@ -10,16 +10,16 @@ use Rattle.calculus.specs.declared.answer.Answer.the-variants as answer
 use Rattle.calculus.specs.Answer.{after}
 use Rattle.calculus.specs.Refusal.{unsound, buffer-too-short, budget-spent, bad-query-length}
 use Rattle.calculus.specs.Row.{Row, cellsOf}
-use Rattle.calculus.specs.Domain.{domain}
+use Rattle.calculus.specs.Domain.{rangeOver}
 use Rattle.calculus.specs.Closed.{closedOver}
 use Rattle.calculus.specs.Eval.{Outcome, eval}
-use Rattle.calculus.specs.Formula.{Formula, assignment}
+use Rattle.calculus.specs.Formula.{Query, assignment}
 use Rattle.calculus.specs.Model.{Model}
 use Rattle.instance.specs.declared.header.Header.{Header}
 use Rattle.instance.specs.Sound.{sound, rows}
 use Rattle.instance.specs.Run.{modelOf}
-use Rattle.range.specs.Walked.{walkedValues}
-use Rattle.query.specs.Tree.{formulaOf}
+use Rattle.range.specs.Walked.{walkedRange}
+use Rattle.query.specs.Named.{namedIn, queryOf}
 use Rattle.query.specs.Check.{Checked, checkQuery}
 use Rattle.calculus.specs.Reading.{refused, read}
 use Rattle.answer.specs.declared.asked.Asked.{Asked}
@@ -53,25 +53,29 @@ admitted h ws qs candidate =
     (demand (rightLength qs) (answer.Refused bad-query-length)
     (ifPassed (checkQuery (h .relations) (h .arities) qs candidate) (answer.Done (length (rows h ws)))))
 
--- what is lent to a question besides: a list for the plot's values, or none (document 02, request 4: "Asking with no working list")
+-- what is lent to a question besides: a list for what quantifiers range over, or none (document 02, request 4: "Asking with no working list")
 pub data Lent : Type 0 where
   list : List ℕ → Lent
   none : Lent
 
--- "45: working list shorter than the plot's cells", for n cells; document 02: "45 never occurs on this way"
+-- "45: working list shorter than" its need, n words; document 02: "45 never occurs on this way"
 abbrev pub hasPlace : Lent → ℕ → Bool
 hasPlace (list buffer) n = leb n (length buffer)
 hasPlace none n = true
 
--- Where "some" and "every" get the plot's values from: the list has them; or, document 02, "finds the plot's values by walking the rows and passing over any
--- cell that stood earlier".
-abbrev pub rangeOf : Lent → List Row → List ℕ
-rangeOf (list buffer) rs = domain rs
-rangeOf none rs = walkedValues rs
+-- Document 02, request 6: "The working list needs a word for each cell of the plot and each inked term"
+abbrev pub needed : Header → (ws qs : List ℕ) → List ℕ
+needed h ws qs = cellsOf (rows h ws) ++ namedIn (h .arities) qs
+
+-- Where "some" and "every" get their values from: the list has them; or, document 02, "finds the plot's values by walking the rows and passing over any
+-- cell that stood earlier", and then the question's inked terms in the same way.
+abbrev pub rangeOf : Lent → List ℕ → List Row → List ℕ
+rangeOf (list buffer) named rs = rangeOver named rs
+rangeOf none named rs = walkedRange named rs
 
 -- the question's outcome with that range
-abbrev pub outcomeBy : Lent → Model → Formula → Outcome
-outcomeBy lent b f = eval (closedOver (rangeOf lent (b .rows)) (b .rows)) f (assignment (b .candidate))
+abbrev pub outcomeBy : Lent → Model → Query → Outcome
+outcomeBy lent b q = eval (closedOver (rangeOf lent (q .named) (b .rows)) (b .rows)) (q .formula) (assignment (b .candidate))
 
 -- goes on only if nothing is refused so far
 abbrev pub ifDone : Answer → Answer → Answer
@@ -82,11 +86,11 @@ module _ (h : Header) (ws qs candidate : List ℕ) (lent : Lent) where
   -- the refusals before the evaluation
   unfoldable pub askable : Answer
   askable =
-      ifDone (admitted h ws qs candidate) (demand (hasPlace lent (length (cellsOf (rows h ws)))) (answer.Refused buffer-too-short) (answer.Done 0))
+      ifDone (admitted h ws qs candidate) (demand (hasPlace lent (length (needed h ws qs))) (answer.Refused buffer-too-short) (answer.Done 0))
 
   unfoldable pub ask : ℕ → Asked
-  ask budget = answeredBy askable (within budget (outcomeBy lent (modelOf h ws candidate) (formulaOf (h .arities) qs)))
+  ask budget = answeredBy askable (within budget (outcomeBy lent (modelOf h ws candidate) (queryOf (h .arities) qs)))
 
--- "After a verdict or number 46 it holds the plot's values first, and its other words keep their content. No other refusal touches it."
+-- "After a verdict or number 46 it holds" what the question ranges over "first, and its other words keep their content. No other refusal touches it."
 unfoldable pub askedBuffer : Header → (ws qs candidate buffer : List ℕ) → List ℕ
-askedBuffer h ws qs candidate buffer = after (askable h ws qs candidate (list buffer)) (overwrite (domain (rows h ws)) buffer) buffer
+askedBuffer h ws qs candidate buffer = after (askable h ws qs candidate (list buffer)) (overwrite (rangeOver (namedIn (h .arities) qs) (rows h ws)) buffer) buffer

@@ -6,12 +6,12 @@ use mathlib.Core.List.{List, _∷_, _++_}
 use lib.ListN.{length}
 use Rattle.calculus.specs.declared.truth.Truth.{Truth}
 use Rattle.calculus.specs.Refusal.{budget-spent}
-use Rattle.calculus.specs.Row.{Row, cellsOf}
+use Rattle.calculus.specs.Row.{Row}
 use Rattle.instance.specs.declared.header.Header.{Header}
 use Rattle.instance.specs.Sound.{sound, rows}
 use Rattle.answer.specs.declared.asked.Asked.{Asked}
 use Rattle.answer.specs.declared.asked.Asked.the-variants.{Verdict, Refused}
-use Rattle.answer.specs.Ask.{Lent, hasPlace, ask}
+use Rattle.answer.specs.Ask.{Lent, hasPlace, needed, ask}
 
 -- the verdict t, with a cost of at most n
 pub record SameVerdict (a : Asked) (t : Truth) (n : ℕ) : Type 0 where
@@ -42,7 +42,7 @@ pub record Repeat (h h′ : Header) (ws ws′ : List ℕ) : Type 0 where
 pub record MeansOne (h h′ : Header) (ws ws′ qs candidate : List ℕ) (lent : Lent) (budget : ℕ) (t : Truth) (n : ℕ) : Type 0 where
   pub to-second : ask h ws qs candidate lent budget ≡ Verdict t n → SameVerdict (ask h′ ws′ qs candidate lent budget) t n
   pub to-first :
-      ask h′ ws′ qs candidate lent budget ≡ Verdict t n → hasPlace lent (length (cellsOf (rows h ws))) ≡ true →
+      ask h′ ws′ qs candidate lent budget ≡ Verdict t n → hasPlace lent (length (needed h ws qs)) ≡ true →
       SameOrSpent (ask h ws qs candidate lent budget) t n
 
 abbrev pub RepeatMeansOne : Type 0

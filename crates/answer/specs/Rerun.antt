@@ -8,7 +8,7 @@ use Rattle.calculus.specs.Order.{_⊑_, ofBool}
 use Rattle.calculus.specs.Model.{Fill, run, plain, saysYes}
 use Rattle.instance.specs.declared.header.Header.{Header}
 use Rattle.instance.specs.Run.{filledWords, modelOf, Ran}
-use Rattle.query.specs.Tree.{formulaOf}
+use Rattle.query.specs.Named.{queryOf}
 use Rattle.answer.specs.declared.asked.Asked.{Asked}
 use Rattle.answer.specs.declared.asked.Asked.the-variants.{Verdict}
 use Rattle.answer.specs.Ask.{Lent, ask}
@@ -25,7 +25,7 @@ pub record Rerun (h : Header) (ws qs candidate : List ℕ) (fs : List Fill) (t :
   pub no-more : cost ≤ n
   pub two-valued :
       plain (run fs (modelOf h ws candidate)) ≡ true →
-      truth ≡ ofBool (saysYes (run fs (modelOf h ws candidate)) (formulaOf (h .arities) qs))
+      truth ≡ ofBool (saysYes (run fs (modelOf h ws candidate)) (queryOf (h .arities) qs))
 
 -- the whole of demand 3: every instance, question, candidate, budget and list of fills, by every way of asking; run B asks by the same way as run A
 abbrev pub DemandThree : Type 0

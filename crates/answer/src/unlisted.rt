@@ -1,16 +1,17 @@
-// Asking a question of an instance with no list: the quantifiers walk the instance's own words.
+// Asking a question of an instance with no list: the quantifiers walk the instance's own words, and then the question's.
 ghost use mathlib.Core.Path.{_≡_};
-ghost use mathlib.Core.Bool.{false, cond};
-ghost use mathlib.Core.List.{[]};
-ghost use Prim.Native.Nat.{ℕ, _*_};
-ghost use lib.ListN.{length, take, getD};
+ghost use mathlib.Core.Bool.{true, false};
+ghost use mathlib.Core.List.{_++_};
+ghost use Prim.Native.Nat.{ℕ, _*_, _≤_};
+ghost use lib.ListN.{length, take};
 ghost use Rattle.calculus.specs.Model.{outcomeOf};
 ghost use Rattle.instance.specs.InstanceWellFormed.{InstanceOf};
 ghost use Rattle.instance.specs.Run.{modelOf};
-ghost use Rattle.known.specs.Known.{knownWords, flagsFrom, aritiesIn, flagAt};
+ghost use Rattle.known.specs.Known.{knownWords, flagsFrom, aritiesIn, flagAt, unpassed};
 ghost use Rattle.query.specs.Words.{nodeCount, nodeWords};
-ghost use Rattle.query.specs.Tree.{formulaOf};
-ghost use Rattle.range.specs.Walked.{passes};
+ghost use Rattle.query.specs.Named.{namedIn, queryOf, HasTerms};
+ghost use Rattle.instance.specs.Rows.{rowsFrom};
+ghost use Rattle.range.specs.Walked.{walkedRange};
 ghost use Rattle.answer.specs.Ask.{ask, none};
 ghost use Rattle.answer.specs.Numbers.{TellsVerdict};
 ghost use Rattle.answer.specs.Ranging.{rangesAmong};
@@ -21,7 +22,7 @@ use calculus::answer::Answer;
 use instance::header::Header;
 use known::describe;
 use query::words::NODE_WORDS;
-use range::pass::pass_over;
+use range::terms::pass_over;
 
 // The kinds of the two quantifiers.
 const SOME: u32 = 6;
@@ -46,16 +47,15 @@ fn ranging(query: &[u32]) -> bool
     false
 }
 
-// Sets the flag of each word that a walk over the values passes over, if a node ranges over values.
-fn pass_for(words: &[u32], query: &[u32], known: &mut [u32; 144])
-    requires { ⌜ InstanceOf (aritiesIn (now known)) (now words) ⌝ }
-    requires { ⌜ nodeCount (now query) * nodeWords ≡ length (now query) ⌝ }
+// Sets the flag of each place that a walk over the range passes over, if a node ranges over values.
+fn pass_for(words: &[u32], query: &[u32], arities: &[u32; 8], known: &mut [u32; 170])
+    requires { ⌜ InstanceOf (aritiesIn (now known)) (now words) × HasTerms (now arities) (now query) × (aritiesIn (now known) ≡ now arities) × (length (now query) ≤ 800) ⌝ }
     requires { ⌜ (length (now known) ≡ knownWords) × ((p : ℕ) → flagAt (now known) p ≡ false) ⌝ }
     ensures kept { λ _. ⌜ (length (now (known .exit)) ≡ knownWords) × (take flagsFrom (now (known .exit)) ≡ take flagsFrom (now (known .entry))) ⌝ }
-    ensures flags { λ _. ⌜ ((p : ℕ) → flagAt (now (known .exit)) p ≡ cond (rangesAmong (now (query .entry)) (nodeCount (now (query .entry)))) (getD (passes (aritiesIn (now (known .entry))) [] 0 (now (words .entry))) p false) false) ⌝ }
+    ensures walked { λ _. ⌜ (rangesAmong (now (query .entry)) (nodeCount (now (query .entry))) ≡ true → unpassed (now (known .exit)) 0 (now (words .entry) ++ now (query .entry)) ≡ walkedRange (namedIn (now (arities .entry)) (now (query .entry))) (rowsFrom (now (arities .entry)) 0 (now (words .entry)))) ⌝ }
 {
     if ranging(query) {
-        pass_over(words, known);
+        pass_over(words, query, arities, known);
     }
 }
 
@@ -67,7 +67,7 @@ pub fn ask_unlisted(
     budget: u32,
 ) -> Asked
     ensures answer { λ r. ⌜ r ≡ ask header (now (instance .entry)) (now (query .entry)) (now (candidate .entry)) none budget ⌝ }
-    ensures told { λ r. ⌜ TellsVerdict r (ask header (now (instance .entry)) (now (query .entry)) (now (candidate .entry)) none budget) (outcomeOf (modelOf header (now (instance .entry)) (now (candidate .entry))) (formulaOf (header .arities) (now (query .entry)))) ⌝ }
+    ensures told { λ r. ⌜ TellsVerdict r (ask header (now (instance .entry)) (now (query .entry)) (now (candidate .entry)) none budget) (outcomeOf (modelOf header (now (instance .entry)) (now (candidate .entry))) (queryOf (header .arities) (now (query .entry)))) ⌝ }
 {
     match admit(header, instance, query, candidate) {
         Answer::Refused(why) => Asked::Refused(why),
@@ -75,9 +75,9 @@ pub fn ask_unlisted(
             let used = header.used as usize;
             let arities = header.arities;
             let counts = header.counts;
-            let mut known = [0u32; 144];
-            describe(&counts, &arities, &mut known);
-            pass_for(&instance[..used], query, &mut known);
+            let mut known = [0u32; 170];
+            describe(&counts, &arities, (used + query.len()) as u32, &mut known);
+            pass_for(&instance[..used], query, &arities, &mut known);
             answer_top(
                 &instance[..used],
                 query,

@@ -2,7 +2,7 @@
 ghost use mathlib.Core.Path.{_≡_};
 ghost use Rattle.calculus.specs.Model.{outcomeOf};
 ghost use Rattle.instance.specs.Run.{modelOf};
-ghost use Rattle.query.specs.Tree.{formulaOf};
+ghost use Rattle.query.specs.Named.{queryOf};
 ghost use Rattle.answer.specs.Ask.{ask as askOf};
 ghost use Rattle.answer.specs.Numbers.{TellsVerdict};
 ghost use Rattle.answer.specs.Ways.{lentBy, leftBy};
@@ -28,7 +28,7 @@ pub fn ask_by(
 ) -> Asked
     ensures answer { λ r. ⌜ r ≡ askOf header (now (instance .entry)) (now (query .entry)) (now (candidate .entry)) (lentBy way (now (buffer .entry))) budget ⌝ }
     ensures buffer { λ r. ⌜ now (buffer .exit) ≡ leftBy way header (now (instance .entry)) (now (query .entry)) (now (candidate .entry)) (now (buffer .entry)) ⌝ }
-    ensures told { λ r. ⌜ TellsVerdict r (askOf header (now (instance .entry)) (now (query .entry)) (now (candidate .entry)) (lentBy way (now (buffer .entry))) budget) (outcomeOf (modelOf header (now (instance .entry)) (now (candidate .entry))) (formulaOf (header .arities) (now (query .entry)))) ⌝ }
+    ensures told { λ r. ⌜ TellsVerdict r (askOf header (now (instance .entry)) (now (query .entry)) (now (candidate .entry)) (lentBy way (now (buffer .entry))) budget) (outcomeOf (modelOf header (now (instance .entry)) (now (candidate .entry))) (queryOf (header .arities) (now (query .entry)))) ⌝ }
 {
     match way {
         Way::Listed => ask(header, instance, query, candidate, buffer, budget),

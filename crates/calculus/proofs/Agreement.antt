@@ -13,15 +13,14 @@ use Rattle.calculus.specs.Kleene.{Junction, conj, disj, join, unit, nega
 use Rattle.calculus.specs.Formula.{Formula, atom, equal, negation, junction, quantified, value, values, termInked, inked}
 use Rattle.calculus.specs.Eval.{Outcome, over, eval}
 use Rattle.calculus.specs.Unify.{under, unifies}
-use Rattle.calculus.specs.Domain.{domain}
-use Rattle.calculus.specs.Closed.{tuples, some, identical, stands, equality, closed}
+use Rattle.calculus.specs.Closed.{tuples, some, identical, stands, equality, closedOver}
 use Rattle.calculus.specs.TwoValued.{joinB, overB, says}
 use Rattle.calculus.specs.Order.{ofBool}
 use Rattle.calculus.proofs.Bools.{false-not-true, and-parts, and-intro}
 use Rattle.calculus.proofs.Valuations.{under-keeps}
 use Rattle.calculus.proofs.Unification.{unifies-agrees}
 use Rattle.calculus.proofs.Tuples.{or-mono, identical-refl}
-use Rattle.calculus.proofs.Constants.{constant-distinct, keeps-all, constant-value, constant-values}
+use Rattle.calculus.proofs.Constants.{keeps-all, constant-value, constant-values}
 use Rattle.calculus.specs.All.{all}
 use Rattle.calculus.proofs.All.{all-set, all-split, all-parts}
 
@@ -101,22 +100,22 @@ over-bool j f g (c ∷ cs) k each =
     ap (λ (t : Truth). join j (ofBool (g c)) t) (over-bool j f g cs (b .1) each) ∙
     join-bool j (g c) (overB j g cs)
 
-module _ (rs : List Row) (plain : allConstant (cellsOf rs) ≡ true) where
+module _ (range : List ℕ) (known-range : allConstant range ≡ true) (rs : List Row) (plain : allConstant (cellsOf rs) ≡ true) where
   -- the verdict is true exactly if two-valued logic says yes, and false exactly if it says no
   pub two-valued :
       (f : Formula) → inked f ≡ true → (e : List ℕ) → allConstant e ≡ true →
-      eval (closed rs) f e .truth ≡ ofBool (says rs f e)
+      eval (closedOver range rs) f e .truth ≡ ofBool (says range rs f e)
   unfolding eval says inked
   two-valued (atom r ts) k e known = stands-bool (values e ts) (tuples r rs) (constant-values e known ts k) (tuples-known r rs plain)
   two-valued (equal s t) k e known =
       let b = and-parts (termInked s) (termInked t) k in
       equality-bool (value e s) (value e t) (constant-value e known s (b .0)) (constant-value e known t (b .1))
-  two-valued (negation f) k e known = ap negate (two-valued f k e known) ∙ negate-bool (says rs f e)
+  two-valued (negation f) k e known = ap negate (two-valued f k e known) ∙ negate-bool (says range rs f e)
   two-valued (junction j f g) k e known =
       let b = and-parts (inked f) (inked g) k in
-      ap (λ (t : Truth). join j t (eval (closed rs) g e .truth)) (two-valued f (b .0) e known) ∙
-      ap (λ (t : Truth). join j (ofBool (says rs f e)) t) (two-valued g (b .1) e known) ∙
-      join-bool j (says rs f e) (says rs g e)
+      ap (λ (t : Truth). join j t (eval (closedOver range rs) g e .truth)) (two-valued f (b .0) e known) ∙
+      ap (λ (t : Truth). join j (ofBool (says range rs f e)) t) (two-valued g (b .1) e known) ∙
+      join-bool j (says range rs f e) (says range rs g e)
   two-valued (quantified j v f) k e known =
-      over-bool j (λ c. eval (closed rs) f (set e v c)) (λ c. says rs f (set e v c)) (domain rs) (constant-distinct (cellsOf rs) plain)
+      over-bool j (λ c. eval (closedOver range rs) f (set e v c)) (λ c. says range rs f (set e v c)) range known-range
       (λ c m. two-valued f k (set e v c) (all-set isConstant e v c known m))

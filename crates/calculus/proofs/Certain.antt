@@ -2,18 +2,20 @@
 use Prim.Native.Nat.{ℕ, _-_}
 use mathlib.Core.Path.{_≡_, refl, sym, ap, _∙_}
 use mathlib.Core.Bool.{Bool, true, false}
-use mathlib.Core.List.{List, map}
+use mathlib.Core.List.{List, _++_, map}
 use lib.ListN.{length, replicate}
 use Rattle.calculus.specs.declared.truth.Truth.{Truth}
 use Rattle.calculus.specs.Cell.{isConstant, isCell, allConstant}
 use Rattle.calculus.specs.Row.{cellsOf}
-use Rattle.calculus.specs.Formula.{Formula, inked, assignment, variables}
+use Rattle.calculus.specs.Formula.{Query, inked, inkedQuery, assignment, variables}
+use Rattle.calculus.specs.Domain.{rangeOver}
 use Rattle.calculus.specs.Unify.{Valuation, under}
 use Rattle.calculus.specs.Order.{_⊑_, unknown, alike, _⊑ₒ_, ofBool}
 use Rattle.calculus.specs.Model.{Fill, Model, run, outcomeOf, saysYes, plain, valued, Shared}
 use Rattle.calculus.proofs.Bools.{and-parts, and-intro, zero-not-one}
 use Rattle.calculus.proofs.Rows.{cells-map}
 use Rattle.calculus.proofs.Valuations.{under-keeps, under-constant}
+use Rattle.calculus.proofs.Constants.{constant-distinct}
 use Rattle.calculus.proofs.Agreement.{two-valued}
 use Rattle.calculus.proofs.Fills.{mapped-kept, fills-kept}
 use Rattle.calculus.proofs.All.{all-map, all-always, all-append, all-replicate}
@@ -24,10 +26,13 @@ valued-constant : (v : Valuation) (cs : List ℕ) → allConstant (map (under v)
 valued-constant v cs = all-map isConstant (under v) (λ c. true) (λ c t. under-constant v c) cs (all-always (λ c. true) (λ c. refl) cs)
 
 -- without nulls, the verdict is that of two-valued logic
-pub plain-verdict : (b : Model) (f : Formula) → inked f ≡ true → plain b ≡ true → outcomeOf b f .truth ≡ ofBool (saysYes b f)
+pub plain-verdict : (b : Model) (f : Query) → inkedQuery f ≡ true → plain b ≡ true → outcomeOf b f .truth ≡ ofBool (saysYes b f)
 plain-verdict b f k p =
     let c = and-parts (allConstant (cellsOf (b .rows))) (allConstant (b .candidate)) p in
-    two-valued (b .rows) (c .0) f k (assignment (b .candidate))
+    let i = and-parts (inked (f .formula)) (allConstant (f .named)) k in
+    two-valued (rangeOver (f .named) (b .rows))
+    (constant-distinct (cellsOf (b .rows) ++ f .named) (all-append isConstant (cellsOf (b .rows)) (f .named) (c .0) (i .1))) (b .rows) (c .0) (f .formula) (i .0)
+    (assignment (b .candidate))
     (all-append isConstant (b .candidate) (replicate (variables - length (b .candidate)) 0) (c .1) (all-replicate isConstant (variables - length (b .candidate)) 0 refl))
 
 -- ---- every valuation
@@ -43,7 +48,7 @@ unfolding isCell
 constant-cell c k = rw k
 
 -- every valuation of all nulls keeps a true or false verdict
-pub valuation-kept : (v : Valuation) (b : Model) (f : Formula) → inked f ≡ true → outcomeOf b f ⊑ₒ outcomeOf (valued v b) f
+pub valuation-kept : (v : Valuation) (b : Model) (f : Query) → inkedQuery f ≡ true → outcomeOf b f ⊑ₒ outcomeOf (valued v b) f
 valuation-kept v b f k =
     mapped-kept {b = b} {b′ = valued v b}
     (record { by = under v; keeps = under-keeps v; cells = λ c h. constant-cell (under v c) (under-constant v c); rows = refl; candidate = refl })
@@ -62,16 +67,16 @@ of-bool false false e = refl
 
 -- if the verdict is true, two-valued logic says yes under every valuation; if it is false, no
 pub certain :
-    (v : Valuation) (b : Model) (f : Formula) (t : Bool) → inked f ≡ true → outcomeOf b f .truth ≡ ofBool t → saysYes (valued v b) f ≡ t
+    (v : Valuation) (b : Model) (f : Query) (t : Bool) → inkedQuery f ≡ true → outcomeOf b f .truth ≡ ofBool t → saysYes (valued v b) f ≡ t
 certain v b f t k e =
     of-bool (saysYes (valued v b) f) t
     (sym (plain-verdict (valued v b) f k (valued-plain v b)) ∙ settled t (valuation-kept v b f k .truth) e)
 
 -- ---- runs A and B
 
-pub runs-share : (fs : List Fill) (b : Model) (f : Formula) → inked f ≡ true → Shared fs b f
+pub runs-share : (fs : List Fill) (b : Model) (f : Query) → inkedQuery f ≡ true → Shared fs b f
 runs-share fs b f k = record { kept = fills-kept fs b f k; two-valued = plain-verdict (run fs b) f k }
 
 -- if A's verdict is true or false, B's is the same
-pub verdict-kept : (fs : List Fill) (b : Model) (f : Formula) (t : Bool) → inked f ≡ true → outcomeOf b f .truth ≡ ofBool t → outcomeOf (run fs b) f .truth ≡ ofBool t
+pub verdict-kept : (fs : List Fill) (b : Model) (f : Query) (t : Bool) → inkedQuery f ≡ true → outcomeOf b f .truth ≡ ofBool t → outcomeOf (run fs b) f .truth ≡ ofBool t
 verdict-kept fs b f t k e = settled t (fills-kept fs b f k .truth) e

@@ -4,16 +4,16 @@ use Prim.Native.Nat.{ℕ, _+_, _≤_}
 use native.Mathlib.Omega.{arith}
 use mathlib.Core.Path.{_≡_, refl, sym, ap, _∙_, subst}
 use mathlib.Core.Bool.{Bool, true, false, _&&_, cond}
-use mathlib.Core.List.{List, map, map-map}
+use mathlib.Core.List.{List, _++_, map, map-map, map-append}
 use lib.Dec.{eqb}
 use borrow.Author.Tests.{eqb-true, eq-eqb}
 use Rattle.calculus.specs.declared.truth.Truth.the-variants.{False, Unknown, True}
-use Rattle.calculus.specs.Cell.{isConstant}
+use Rattle.calculus.specs.Cell.{isConstant, allConstant}
 use Rattle.calculus.specs.Row.{Row, mapRow, cellsOf}
 use Rattle.calculus.specs.Unify.{under, unifies}
 use Rattle.calculus.specs.Formula.{Formula, inked}
 use Rattle.calculus.specs.Eval.{eval}
-use Rattle.calculus.specs.Domain.{distinct, domain}
+use Rattle.calculus.specs.Domain.{distinct, rangeOver}
 use Rattle.calculus.specs.Closed.{tuples, some, identical, stands, equality, examined, closed}
 use Rattle.calculus.proofs.Bools.{false-not-true, and-parts}
 use Rattle.calculus.specs.Order.{_⊑_, unknown, alike, _⊑ₒ_, Keeps}
@@ -23,6 +23,7 @@ use Rattle.calculus.proofs.Valuations.{after, after-is}
 use Rattle.calculus.proofs.Unification.{unifies-agrees}
 use Rattle.calculus.proofs.Distinct.{distinct-map}
 use Rattle.calculus.proofs.Tuples.{tuples-map, some-mono, some-of-map, identical-refl, identical-is}
+use Rattle.calculus.proofs.Constants.{keeps-all}
 use Rattle.calculus.proofs.UpTo.{up-to-map}
 use Rattle.calculus.proofs.Lists.{map-same}
 
@@ -80,13 +81,16 @@ module _ (h : ℕ → ℕ) (keeps : Keeps h) where
       go false e true k = let c = and-parts (isConstant a) (isConstant b) k in rw (keeps a (c .0), keeps b (c .1), e, k) alike
       go false e false k = unknown
 
-  -- the range of the mapped rows is the mapped range, each value once, at its first occurrence
-  pub domain-map : (rs : List Row) → domain (map (mapRow h) rs) ≡ distinct (map h (domain rs))
-  domain-map rs = ap distinct (cells-map h rs) ∙ distinct-map h (cellsOf rs)
+  -- the range of the mapped rows is the mapped range, each value once, at its first occurrence: the constants that a question names stay
+  pub range-map : (named : List ℕ) → allConstant named ≡ true → (rs : List Row) → rangeOver named (map (mapRow h) rs) ≡ distinct (map h (rangeOver named rs))
+  range-map named k rs =
+      ap (λ (l : List ℕ). distinct (l ++ named)) (cells-map h rs) ∙
+      ap (λ (l : List ℕ). distinct (map h (cellsOf rs) ++ l)) (sym (keeps-all h keeps named k)) ∙
+      ap distinct (sym (map-append h (cellsOf rs) named)) ∙ distinct-map h (cellsOf rs ++ named)
 
   -- the rows after the map are an image of the rows before it
-  pub closed-image : (rs : List Row) → Image h (closed rs) (closed (map (mapRow h) rs))
-  closed-image rs = record {
+  pub closed-image : (named : List ℕ) → allConstant named ≡ true → (rs : List Row) → Image h (closed named rs) (closed named (map (mapRow h) rs))
+  closed-image named k rs = record {
     keeps = keeps;
     atoms = λ r row. record {
       truth = subst (λ (ts : List (List ℕ)). stands (tuples r rs) row ⊑ stands ts (map h row)) (sym (tuples-map h r rs)) (stands-map (tuples r rs) row);
@@ -94,11 +98,11 @@ module _ (h : ℕ → ℕ) (keeps : Keeps h) where
     };
     equals = equality-map;
     starts = λ j. alike;
-    ranges = domain-map rs;
+    ranges = range-map named k rs;
   }
 
   -- a map of cells that leaves constants as they are unsettles no verdict and raises no cost, for every formula, list of rows and assignment
   pub closed-kept :
-      (f : Formula) → inked f ≡ true → (rs : List Row) (e : List ℕ) →
-      eval (closed rs) f e ⊑ₒ eval (closed (map (mapRow h) rs)) f (map h e)
-  closed-kept f k rs e = eval-image h (closed rs) (closed (map (mapRow h) rs)) (closed-image rs) f k e
+      (f : Formula) → inked f ≡ true → (named : List ℕ) → allConstant named ≡ true → (rs : List Row) (e : List ℕ) →
+      eval (closed named rs) f e ⊑ₒ eval (closed named (map (mapRow h) rs)) f (map h e)
+  closed-kept f k named c rs e = eval-image h (closed named rs) (closed named (map (mapRow h) rs)) (closed-image named c rs) f k e

@@ -10,9 +10,9 @@ use borrow.Author.Tests.{ltb-true, leb-true}
 use Rattle.calculus.specs.declared.answer.Answer.{Answer}
 use Rattle.calculus.specs.declared.answer.Answer.the-variants.{Done, Refused}
 use Rattle.calculus.specs.Answer.{after}
-use Rattle.calculus.specs.Cell.{constants, isCell, isMark, put}
+use Rattle.calculus.specs.Cell.{constants, isCell, isMark, put, allConstant}
 use Rattle.calculus.specs.Row.{Row, mapRow}
-use Rattle.calculus.specs.Formula.{Formula, inked, assignment, variables}
+use Rattle.calculus.specs.Formula.{Query, inked, inkedQuery, assignment, variables}
 use Rattle.calculus.specs.Eval.{eval}
 use Rattle.calculus.specs.Closed.{closed}
 use Rattle.calculus.specs.Order.{_⊑ₒ_, Keeps}
@@ -26,11 +26,11 @@ use Rattle.calculus.proofs.Lists.{map-identity}
 
 -- ---- the assignment of a candidate
 
-zeros-kept : (h : ℕ → ℕ) → Keeps h → (n : ℕ) → map h (replicate n 0) ≡ replicate n 0
+zeros-kept : (h : ℕ → ℕ) → h 0 ≡ 0 → (n : ℕ) → map h (replicate n 0) ≡ replicate n 0
 zeros-kept h keeps zero = refl
-zeros-kept h keeps (suc n) = rw (keeps 0 refl, zeros-kept h keeps n) refl
+zeros-kept h keeps (suc n) = rw (keeps, zeros-kept h keeps n) refl
 
-pub assignment-map : (h : ℕ → ℕ) → Keeps h → (cs : List ℕ) → map h (assignment cs) ≡ assignment (map h cs)
+pub assignment-map : (h : ℕ → ℕ) → h 0 ≡ 0 → (cs : List ℕ) → map h (assignment cs) ≡ assignment (map h cs)
 assignment-map h keeps cs =
     map-append h cs (replicate (variables - length cs) 0) ∙
     ap (λ (l : List ℕ). map h cs ++ l) (zeros-kept h keeps (variables - length cs)) ∙
@@ -46,11 +46,13 @@ pub record Mapped (b b′ : Model) : Type 0 where
   pub rows : b′ .rows ≡ map (mapRow by) (b .rows)
   pub candidate : b′ .candidate ≡ map by (b .candidate)
 
-pub mapped-kept : {b b′ : Model} → Mapped b b′ → (f : Formula) → inked f ≡ true → outcomeOf b f ⊑ₒ outcomeOf b′ f
+pub mapped-kept : {b b′ : Model} → Mapped b b′ → (f : Query) → inkedQuery f ≡ true → outcomeOf b f ⊑ₒ outcomeOf b′ f
 mapped-kept {b} {b′} m f k =
+    let i = and-parts (inked (f .formula)) (allConstant (f .named)) k in
     rw (m .rows, m .candidate)
-    (subst (λ (e : List ℕ). outcomeOf b f ⊑ₒ eval (closed (map (mapRow (m .by)) (b .rows))) f e) (assignment-map (m .by) (m .keeps) (b .candidate))
-    (closed-kept (m .by) (m .keeps) f k (b .rows) (assignment (b .candidate))))
+    (subst (λ (e : List ℕ). outcomeOf b f ⊑ₒ eval (closed (f .named) (map (mapRow (m .by)) (b .rows))) (f .formula) e)
+    (assignment-map (m .by) (m .keeps 0 refl) (b .candidate))
+    (closed-kept (m .by) (m .keeps) (f .formula) (i .0) (f .named) (i .1) (b .rows) (assignment (b .candidate))))
 
 rows-none : (rs : List Row) → map (mapRow (λ c. c)) rs ≡ rs
 rows-none [] = refl
@@ -110,9 +112,9 @@ mapped-run [] b = mapped-none b
 mapped-run (f ∷ fs) b = mapped-twice (mapped-next f b) (mapped-run fs (next f b))
 
 -- one fill, refused or not, unsettles no verdict and raises no cost
-pub fill-kept : (f : Fill) (b : Model) (g : Formula) → inked g ≡ true → outcomeOf b g ⊑ₒ outcomeOf (next f b) g
+pub fill-kept : (f : Fill) (b : Model) (g : Query) → inkedQuery g ≡ true → outcomeOf b g ⊑ₒ outcomeOf (next f b) g
 fill-kept f b = mapped-kept (mapped-next f b)
 
 -- the same for the whole list, refused fills included
-pub fills-kept : (fs : List Fill) (b : Model) (g : Formula) → inked g ≡ true → outcomeOf b g ⊑ₒ outcomeOf (run fs b) g
+pub fills-kept : (fs : List Fill) (b : Model) (g : Query) → inkedQuery g ≡ true → outcomeOf b g ⊑ₒ outcomeOf (run fs b) g
 fills-kept fs b = mapped-kept (mapped-run fs b)

@@ -9,7 +9,7 @@ use Rattle.calculus.specs.Cell.{isConstant}
 use Rattle.calculus.specs.Row.{Row}
 use Rattle.calculus.specs.Kleene.{unit}
 use Rattle.calculus.specs.Unify.{unifies}
-use Rattle.calculus.specs.Domain.{domain}
+use Rattle.calculus.specs.Domain.{rangeOver}
 use Rattle.calculus.specs.Eval.{Structure}
 
 -- the tuples of relation r, in the order of their rows
@@ -55,6 +55,6 @@ closedOver range rs = record {
   range = range;
 }
 
--- "some" and "every" range over the active domain
-abbrev pub closed : List Row → Structure
-closed rs = closedOver (domain rs) rs
+-- "some" and "every" range over the rows' values and then the inked terms that a question names
+abbrev pub closed : List ℕ → List Row → Structure
+closed named rs = closedOver (rangeOver named rs) rs

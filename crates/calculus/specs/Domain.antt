@@ -1,4 +1,5 @@
--- The active domain. Document 01: "The plot's values are its cells, marks included, each once, in order of first standing."
+-- The active domain, and what quantifiers range over. Document 01: "The plot's values are its cells, marks included, each once, in order of first
+-- standing."
 use Prim.Native.Nat.{ℕ}
 use mathlib.Core.Bool.{cond}
 use mathlib.Core.List.{List, [], _∷_, _++_}
@@ -21,6 +22,10 @@ unfoldable pub listing : List ℕ → List ℕ → List ℕ
 listing vs [] = vs
 listing vs (c ∷ cs) = listing (cond (listed c vs) vs (vs ++ c ∷ [])) cs
 
--- in Libkin's paper adom(D), the quantifiers' range, here as a list
+-- in Libkin's paper adom(D), here as a list
 abbrev pub domain : List Row → List ℕ
 domain rs = distinct (cellsOf rs)
+
+-- Document 02, request 6: ""Some" and "every" now range over the plot's values and then the question's own inked terms, by node and word, each value once."
+abbrev pub rangeOver : List ℕ → List Row → List ℕ
+rangeOver named rs = distinct (cellsOf rs ++ named)

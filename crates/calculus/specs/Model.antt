@@ -9,7 +9,8 @@ use Rattle.calculus.specs.declared.answer.Answer.{Answer}
 use Rattle.calculus.specs.Answer.{after}
 use Rattle.calculus.specs.Cell.{put, allConstant}
 use Rattle.calculus.specs.Row.{Row, mapRow, cellsOf}
-use Rattle.calculus.specs.Formula.{Formula, assignment}
+use Rattle.calculus.specs.Formula.{Query, assignment}
+use Rattle.calculus.specs.Domain.{rangeOver}
 use Rattle.calculus.specs.Eval.{Outcome, eval}
 use Rattle.calculus.specs.Closed.{closed}
 use Rattle.calculus.specs.TwoValued.{says}
@@ -28,11 +29,11 @@ pub record Model : Type 0 where
   pub candidate : List ℕ
 
 -- a question asked of the model, by the three-valued rules and by two-valued logic
-abbrev pub outcomeOf : Model → Formula → Outcome
-outcomeOf b f = eval (closed (b .rows)) f (assignment (b .candidate))
+abbrev pub outcomeOf : Model → Query → Outcome
+outcomeOf b q = eval (closed (q .named) (b .rows)) (q .formula) (assignment (b .candidate))
 
-abbrev pub saysYes : Model → Formula → Bool
-saysYes b f = says (b .rows) f (assignment (b .candidate))
+abbrev pub saysYes : Model → Query → Bool
+saysYes b q = says (rangeOver (q .named) (b .rows)) (b .rows) (q .formula) (assignment (b .candidate))
 
 -- no cell of the rows or of the candidate holds a null
 abbrev pub plain : Model → Bool
@@ -67,6 +68,6 @@ valued v b = record { rows = map (mapRow (under v)) (b .rows); candidate = map (
 -- What run A and run B share, for one question and a whole list of fills. "if A's verdict is true or false, B's is the same .. the looks it
 -- answers are at most those that A answered. If B's plot and candidate hold no mark, B's verdict is true exactly when ordinary two-valued
 -- logic .. says yes, and false exactly when it says no."
-pub record Shared (fs : List Fill) (b : Model) (f : Formula) : Type 0 where
-  pub kept : outcomeOf b f ⊑ₒ outcomeOf (run fs b) f
-  pub two-valued : plain (run fs b) ≡ true → outcomeOf (run fs b) f .truth ≡ ofBool (saysYes (run fs b) f)
+pub record Shared (fs : List Fill) (b : Model) (q : Query) : Type 0 where
+  pub kept : outcomeOf b q ⊑ₒ outcomeOf (run fs b) q
+  pub two-valued : plain (run fs b) ≡ true → outcomeOf (run fs b) q .truth ≡ ofBool (saysYes (run fs b) q)

@@ -7,7 +7,6 @@ use lib.Dec.{eqb}
 use Rattle.calculus.specs.Row.{Row}
 use Rattle.calculus.specs.Kleene.{Junction, conj, disj}
 use Rattle.calculus.specs.Formula.{Formula, atom, equal, negation, junction, quantified, value, values}
-use Rattle.calculus.specs.Domain.{domain}
 use Rattle.calculus.specs.Closed.{tuples, some, identical}
 
 abbrev pub joinB : Junction → Bool → Bool → Bool
@@ -23,10 +22,10 @@ abbrev pub overB : Junction → (ℕ → Bool) → List ℕ → Bool
 overB j f [] = unitB j
 overB j f (c ∷ cs) = joinB j (f c) (overB j f cs)
 
--- in Libkin's paper Eval_FO, the evaluation of first-order logic
-unfoldable pub says : List Row → Formula → List ℕ → Bool
-says rs (atom r ts) e = some (identical (values e ts)) (tuples r rs)
-says rs (equal s t) e = eqb (value e s) (value e t)
-says rs (negation f) e = not (says rs f e)
-says rs (junction j f g) e = joinB j (says rs f e) (says rs g e)
-says rs (quantified j v f) e = overB j (λ c. says rs f (set e v c)) (domain rs)
+-- In Libkin's paper Eval_FO, the evaluation of first-order logic. "The values are those that the question ranges over": they are given.
+unfoldable pub says : List ℕ → List Row → Formula → List ℕ → Bool
+says range rs (atom r ts) e = some (identical (values e ts)) (tuples r rs)
+says range rs (equal s t) e = eqb (value e s) (value e t)
+says range rs (negation f) e = not (says range rs f e)
+says range rs (junction j f g) e = joinB j (says range rs f e) (says range rs g e)
+says range rs (quantified j v f) e = overB j (λ c. says range rs f (set e v c)) range

@@ -7,8 +7,13 @@ ghost use Rattle.instance.specs.Header.{maxWords};
 ghost use Rattle.calculus.specs.Listed.{listed};
 ghost use Rattle.domain.specs.Chains.{linkUnit, wordValue, valuesOf, InBucket, Linked, Chained, Added};
 ghost use Rattle.instance.specs.Rows.{areCells};
+ghost use Rattle.query.specs.Named.{constantsAmong, namedIn, HasTerms};
 ghost use mathlib.Core.Bool.{true};
 use super::bucket::bucket_of;
+use calculus::cell::CONSTANTS;
+use query::inked::term_count;
+use query::inked::terms_start;
+use query::words::NODE_WORDS;
 
 // Each word packs a value (low 20 bits) and a link (high 12 bits): cells are below 2^20, and a link is at most 4,095.
 const LINK_UNIT: u32 = 1_048_576;
@@ -56,6 +61,47 @@ pub fn add_cells(list: &mut [u32], heads: &mut [u16; 1024], n: usize, cells: &[u
     while i < cells.len() {
         count = add_value(list, heads, count, cells[i]);
         i += 1;
+    }
+    count
+}
+
+// Adds the constants among words after the first n values of a list, each if it is not listed yet, and returns the new number of values.
+fn add_constants(list: &mut [u32], heads: &mut [u16; 1024], n: usize, words: &[u32]) -> usize
+    requires { ⌜ (n + length (constantsAmong (now words)) ≤ length (now list)) × (n + length (constantsAmong (now words)) ≤ maxWords) × Chained (now heads) (now list) n ⌝ }
+    ensures chained { λ r. ⌜ Chained (now (heads .exit)) (now (list .exit)) r ⌝ }
+    ensures added { λ r. ⌜ Added (now (list .entry)) n (constantsAmong (now (words .entry))) (now (list .exit)) r ⌝ }
+{
+    let mut count = n;
+    let mut i = 0;
+    while i < words.len() {
+        if words[i] < CONSTANTS {
+            count = add_value(list, heads, count, words[i]);
+        }
+        i += 1;
+    }
+    count
+}
+
+// Adds a question's inked terms after the first n values of a list, by node and word, each if it is not listed yet, and returns the new number of values.
+pub fn add_named(
+    list: &mut [u32],
+    heads: &mut [u16; 1024],
+    n: usize,
+    query: &[u32],
+    arities: &[u32; 8],
+) -> usize
+    requires { ⌜ HasTerms (now arities) (now query) × Chained (now heads) (now list) n ⌝ }
+    requires { ⌜ (n + length (namedIn (now arities) (now query)) ≤ length (now list)) × (n + length (namedIn (now arities) (now query)) ≤ maxWords) ⌝ }
+    ensures chained { λ r. ⌜ Chained (now (heads .exit)) (now (list .exit)) r ⌝ }
+    ensures added { λ r. ⌜ Added (now (list .entry)) n (namedIn (now (arities .entry)) (now (query .entry))) (now (list .exit)) r ⌝ }
+{
+    let mut count = n;
+    let mut node = 0;
+    while node < query.len() / NODE_WORDS {
+        let start = terms_start(query, node);
+        let end = start + term_count(query, arities, node);
+        count = add_constants(list, heads, count, &query[start..end]);
+        node += 1;
     }
     count
 }

@@ -2,15 +2,15 @@
 ghost use mathlib.Core.Path.{_≡_};
 ghost use Rattle.calculus.specs.Eval.{settles as settlesOf, Structure};
 ghost use Rattle.calculus.specs.Kleene.{join as joinOf, unit as unitOf};
-ghost use Prim.Native.Nat.{_<_, ℕ};
-ghost use lib.ListN.{length, set};
+ghost use Prim.Native.Nat.{_<_, _+_, ℕ};
+ghost use lib.ListN.{length, getD, set};
 ghost use Rattle.instance.specs.Header.{maxRelations};
 ghost use Rattle.calculus.specs.Formula.{variables};
 ghost use Rattle.known.specs.Known.{knownWords, aritiesIn, countIn};
 ghost use Rattle.query.specs.Words.{nodeCount, nodeWords, wordAt, kindOf, rowStands, equals, negates, joins, ranges};
 ghost use Rattle.evaluate.specs.Ready.{Evaluable, Right, junctionOf, Ready, RightIn};
 ghost use Rattle.calculus.specs.Closed.{equality as equalityOf};
-ghost use mathlib.Core.List.{List};
+ghost use mathlib.Core.List.{List, _++_};
 ghost use mathlib.Core.Bool.{true};
 ghost use Rattle.query.specs.Check.{isTerm};
 use super::evaluated::Evaluated;
@@ -24,6 +24,7 @@ use calculus::truth::or;
 use known::arities::arity_in;
 use known::flags::gap;
 use known::flags::passed;
+use known::places_in;
 use lookup::relation::stands;
 use query::words::NODE_WORDS;
 
@@ -36,7 +37,7 @@ fn word(query: &[u32], node: usize, j: usize) -> usize
 }
 
 // The number of rows of a relation.
-fn rows_of(known: &[u32; 144], relation: usize) -> u32
+fn rows_of(known: &[u32; 170], relation: usize) -> u32
     requires { ⌜ (length (now known) ≡ knownWords) × (relation < maxRelations) ⌝ }
     ensures { λ r. ⌜ r ≡ countIn (now (known .entry)) relation ⌝ }
 {
@@ -58,7 +59,7 @@ fn atom(
     env: &[u32; 16],
     budget: u32,
     words: &[u32],
-    known: &[u32; 144],
+    known: &[u32; 170],
 ) -> Evaluated
     requires { ⌜ Ready (aritiesIn (now known)) (now words) (now query) (now known) × (node < nodeCount (now query)) × (length (now env) ≡ variables) ⌝ }
     requires { ⌜ kindOf (wordAt (now query) node 0) ≡ rowStands ⌝ }
@@ -103,6 +104,17 @@ fn equality(query: &[u32], node: usize, env: &[u32; 16], budget: u32) -> Evaluat
     Evaluated::Verdict(same(a, b), 1)
 }
 
+// The word at a place of the values, or of the question's words after them.
+fn value_at(values: &[u32], query: &[u32], place: usize) -> u32
+    requires { ⌜ place < length (now values) + length (now query) ⌝ }
+    ensures { λ r. ⌜ r ≡ getD (now (values .entry) ++ now (query .entry)) place 0 ⌝ }
+{
+    if place < values.len() {
+        return values[place];
+    }
+    query[place - values.len()]
+}
+
 // `and` if `every`, otherwise `or`.
 fn join(every: bool, a: Truth, b: Truth) -> Truth
     ensures { λ r. ⌜ r ≡ joinOf (junctionOf every) a b ⌝ }
@@ -134,7 +146,7 @@ fn negated(
     budget: u32,
     values: &[u32],
     words: &[u32],
-    known: &[u32; 144],
+    known: &[u32; 170],
 ) -> Evaluated
     requires { ⌜ Evaluable (aritiesIn (now known)) (now words) (now query) (now known) (now values) node (now env) ⌝ }
     requires { ⌜ kindOf (wordAt (now query) node 0) ≡ negates ⌝ }
@@ -157,7 +169,7 @@ fn both(
     budget: u32,
     values: &[u32],
     words: &[u32],
-    known: &[u32; 144],
+    known: &[u32; 170],
 ) -> Evaluated
     requires { ⌜ Evaluable (aritiesIn (now known)) (now words) (now query) (now known) (now values) node (now env) ⌝ }
     requires { ⌜ kindOf (wordAt (now query) node 0) ≡ joins (junctionOf every) ⌝ }
@@ -197,24 +209,25 @@ fn walk(
     budget: u32,
     values: &[u32],
     words: &[u32],
-    known: &[u32; 144],
+    known: &[u32; 170],
 ) -> Evaluated
     requires { ⌜ Evaluable (aritiesIn (now known)) (now words) (now query) (now known) (now values) node (now env) ⌝ }
     requires { ⌜ kindOf (wordAt (now query) node 0) ≡ ranges (junctionOf every) ⌝ }
     ensures kept { λ r. ⌜ now (env .exit) ≡ now (env .entry) ⌝ }
     ensures right { λ r. ⌜ Right (aritiesIn (now (known .entry))) (now (words .entry)) (now (query .entry)) node (now (env .entry)) budget r ⌝ }
 {
+    let places = places_in(known) as usize;
     let variable = word(query, node, 1);
     let child = word(query, node, 2);
     let old = env[variable];
     let mut truth = unit(every);
     let mut cost: u32 = 0;
     let mut i = 0;
-    while i < values.len() {
+    while i < places {
         if passed(known, i) {
             i += gap(known, i);
         } else {
-            assign(env, variable, values[i]);
+            assign(env, variable, value_at(values, query, i));
             let Evaluated::Verdict(one, paid) = evaluate(
                 query,
                 child,
@@ -247,7 +260,7 @@ pub fn evaluate(
     budget: u32,
     values: &[u32],
     words: &[u32],
-    known: &[u32; 144],
+    known: &[u32; 170],
 ) -> Evaluated
     requires { ⌜ Evaluable (aritiesIn (now known)) (now words) (now query) (now known) (now values) node (now env) ⌝ }
     ensures kept { λ r. ⌜ now (env .exit) ≡ now (env .entry) ⌝ }

@@ -17,7 +17,7 @@ use Rattle.instance.specs.NullCounts.{counted, countedWords}
 use Rattle.log.specs.Log.{logged, loggedLog, loggedUsed, undone, undoneUsed}
 use Rattle.instance.specs.Run.{modelOf}
 use Rattle.card.specs.Encode.{encoded, encodedBytes}
-use Rattle.query.specs.Tree.{formulaOf}
+use Rattle.query.specs.Named.{queryOf}
 use Rattle.evaluate.specs.declared.evaluated.Evaluated.{Evaluated}
 use Rattle.evaluate.specs.declared.evaluated.Evaluated.the-variants as evaluated
 use Rattle.evaluate.specs.Within.{within}
@@ -116,7 +116,7 @@ buffer-kept :
     (numberOf (askedAs (askAnswer hs ws qs candidate (list buffer) budget)) ≡ budget-spent → ⊥) → askBuffer hs ws qs candidate buffer ≡ buffer
 unfolding askAnswer askBuffer ask askedBuffer
 buffer-kept hs ws qs candidate buffer budget =
-    go (eqb (length hs) headerLength) (askable (headerOf hs) ws qs candidate (list buffer)) (within budget (outcomeOf (modelOf (headerOf hs) ws candidate) (formulaOf (headerOf hs .arities) qs))) _
+    go (eqb (length hs) headerLength) (askable (headerOf hs) ws qs candidate (list buffer)) (within budget (outcomeOf (modelOf (headerOf hs) ws candidate) (queryOf (headerOf hs .arities) qs))) _
   where
     go :
         (b : Bool) (a : Answer) (e : Evaluated) (new : List ℕ) → (numberOf (askedAs (cond b (answeredBy a e) (asked.Refused unsound))) ≡ 0 → ⊥) →

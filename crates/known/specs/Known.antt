@@ -1,5 +1,6 @@
--- What evaluation knows of an instance besides its words, in one array: the number of rows of each of the eight relations, their arities, and then a flag
--- for each place of the slice that quantifiers walk. A walk passes over the places whose flag stands.
+-- What evaluation knows of an instance besides its words, in one array: the number of rows of each of the eight relations, their arities, how many places a
+-- quantifier walks, and then a flag for each of them. The places are those of a slice of values and then those of the question's words. A walk passes over
+-- the places whose flag stands.
 use Prim.Native.Nat.{ℕ, suc, _+_, _-_, _/_, _%_, _^_, _≤_, _<_}
 use mathlib.Core.Path.{_≡_}
 use mathlib.Core.Bool.{Bool, true, false, cond}
@@ -9,12 +10,20 @@ use lib.ListN.{getD, take, drop}
 use Rattle.calculus.specs.Bit.{bitAt}
 use Rattle.instance.specs.Header.{maxRelations, maxWords}
 
--- where the flags begin, their words (a flag for each of 4,096 places, 32 to a word), and the length of the array
+-- where the number of places is
+abbrev pub placesAt : ℕ
+placesAt = maxRelations + maxRelations
+
+-- 4,096 values or words of an instance, and then the 800 words of the longest question
+abbrev pub maxPlaces : ℕ
+maxPlaces = maxWords + 800
+
+-- where the flags begin, their words (32 flags to a word), and the length of the array
 abbrev pub flagsFrom : ℕ
-flagsFrom = maxRelations + maxRelations
+flagsFrom = placesAt + 1
 
 abbrev pub flagWords : ℕ
-flagWords = maxWords / 32
+flagWords = maxPlaces / 32
 
 abbrev pub knownWords : ℕ
 knownWords = flagsFrom + flagWords
@@ -24,6 +33,9 @@ countIn known r = getD known r 0
 
 abbrev pub aritiesIn : List ℕ → List ℕ
 aritiesIn known = take maxRelations (drop maxRelations known)
+
+abbrev pub placesIn : List ℕ → ℕ
+placesIn known = getD known placesAt 0
 
 abbrev pub flagAt : List ℕ → ℕ → Bool
 flagAt known p = bitAt (getD known (flagsFrom + p / 32) 0) (p % 32)

@@ -8,7 +8,7 @@ ghost use Rattle.known.specs.Known.{knownWords, aritiesIn};
 // The arities come after the counts.
 pub const ARITIES: usize = 8;
 
-pub fn arity_in(known: &[u32; 144], relation: usize) -> u32
+pub fn arity_in(known: &[u32; 170], relation: usize) -> u32
     requires { ⌜ (length (now known) ≡ knownWords) × (relation < maxRelations) ⌝ }
     ensures { λ r. ⌜ r ≡ arityOf (aritiesIn (now (known .entry))) relation ⌝ }
 {

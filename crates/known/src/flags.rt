@@ -3,18 +3,17 @@ ghost use mathlib.Core.Path.{_≡_};
 ghost use Prim.Native.Nat.{_-_, _/_, _^_, _<_};
 ghost use lib.Count.{trailingZeros};
 ghost use lib.ListN.{length};
-ghost use Rattle.instance.specs.Header.{maxWords};
-ghost use Rattle.known.specs.Known.{knownWords, flagAt, gapAt, Gap};
+ghost use Rattle.known.specs.Known.{knownWords, maxPlaces, flagAt, gapAt, Gap};
 
-// The flags come after the counts and the arities.
-pub const FLAGS: usize = 16;
+// The flags come after the counts, the arities and the number of places.
+pub const FLAGS: usize = 17;
 
 // A word whose flags all stand.
 const FULL: u32 = 4_294_967_295;
 
 // Whether a walk passes over a place.
-pub fn passed(known: &[u32; 144], place: usize) -> bool
-    requires { ⌜ (length (now known) ≡ knownWords) × (place < maxWords) ⌝ }
+pub fn passed(known: &[u32; 170], place: usize) -> bool
+    requires { ⌜ (length (now known) ≡ knownWords) × (place < maxPlaces) ⌝ }
     ensures { λ r. ⌜ r ≡ flagAt (now (known .entry)) place ⌝ }
 {
     let v = (place % 32) as u32;
@@ -30,8 +29,8 @@ fn run(flags: u32, v: u32) -> usize
 }
 
 // How many places from one on are passed over, as far as its flag word tells: 0 if it is not passed over itself.
-pub fn gap(known: &[u32; 144], place: usize) -> usize
-    requires { ⌜ (length (now known) ≡ knownWords) × (place < maxWords) ⌝ }
+pub fn gap(known: &[u32; 170], place: usize) -> usize
+    requires { ⌜ (length (now known) ≡ knownWords) × (place < maxPlaces) ⌝ }
     ensures length { λ r. ⌜ r ≡ gapAt (now (known .entry)) place ⌝ }
     ensures gap { λ r. ⌜ Gap (now (known .entry)) place r ⌝ }
 {

@@ -18,6 +18,7 @@ use Rattle.parse.specs.Parse.{readByte, readEach}
 use Rattle.parse.specs.Number.{readDigits}
 use Rattle.card.specs.Format.{readHead, readField, readFields as readCardFields, readRecord, readCard}
 use Rattle.query.specs.Tree.{termOf, termsAt, formulaAt}
+use Rattle.query.specs.Named.{inkedAt, namedFrom}
 use Rattle.query.specs.Check.{zerosFrom, checkTerms, checkChild, checkNode, checkNodes, checkQuery}
 use Rattle.query.specs.Words.{rightLength, kindOf}
 use Rattle.evaluate.specs.Within.{within}
@@ -32,5 +33,5 @@ abbrev pub input : List ℕ
 input = 0 ∷ 12 ∷ 2 ∷ 1 ∷ 1 ∷ 0 ∷ 2 ∷ 0 ∷ 1 ∷ 0 ∷ 0 ∷ 201 ∷ 1 ∷ 0 ∷ 0 ∷ 32 ∷ 0 ∷ 0 ∷ 0 ∷ 4 ∷ 0 ∷ 0 ∷ 0 ∷ 1 ∷ 0 ∷ 0 ∷ 0 ∷ 2 ∷ 0 ∷ 0 ∷ 0 ∷ 0 ∷ 0 ∷ 0 ∷ 0 ∷ 0 ∷ 0 ∷ 0 ∷ 0 ∷ 0 ∷ 0 ∷ 0 ∷ 0 ∷ 0 ∷ 0 ∷ 0 ∷ 0 ∷ 0 ∷ 0 ∷ 0 ∷ 0 ∷ 1 ∷ 0 ∷ 0 ∷ 0 ∷ 0 ∷ 0 ∷ 30 ∷ 132 ∷ 128 ∷ 0 ∷ 0 ∷ 0 ∷ 0 ∷ 0 ∷ 0 ∷ 0 ∷ 0 ∷ 0 ∷ 0 ∷ 0 ∷ 0 ∷ 0 ∷ 0 ∷ 0 ∷ 0 ∷ 0 ∷ 0 ∷ 0 ∷ 0 ∷ 0 ∷ 0 ∷ 0 ∷ 3 ∷ 0 ∷ 0 ∷ 0 ∷ 3 ∷ 0 ∷ 0 ∷ 0 ∷ 0 ∷ 0 ∷ 0 ∷ 0 ∷ 0 ∷ 0 ∷ 0 ∷ 0 ∷ 0 ∷ 0 ∷ 0 ∷ 0 ∷ 0 ∷ 0 ∷ 0 ∷ 0 ∷ 0 ∷ 0 ∷ 0 ∷ 0 ∷ 0 ∷ 0 ∷ 0 ∷ 0 ∷ 1 ∷ 0 ∷ 0 ∷ 0 ∷ 1 ∷ 0 ∷ 30 ∷ 132 ∷ 128 ∷ 0 ∷ 0 ∷ 0 ∷ 0 ∷ 0 ∷ 0 ∷ 0 ∷ 0 ∷ 0 ∷ 0 ∷ 0 ∷ 0 ∷ 0 ∷ 0 ∷ 0 ∷ 0 ∷ 0 ∷ 0 ∷ 0 ∷ 0 ∷ 1 ∷ 0 ∷ 0 ∷ 201 ∷ 0 ∷ 0 ∷ 0 ∷ 100 ∷ []
 
 pub whole-case : lineOf input ≡ 117 ∷ 110 ∷ 107 ∷ 110 ∷ 111 ∷ 119 ∷ 110 ∷ 32 ∷ 52 ∷ 10 ∷ []
-unfolding eval without distinct counts.table tuples some identical stands upTo examined equality unifiesWith cellsOf isCell sound rows aritiesWellFormed headerWellFormed all wordsWellFormed rowsFrom wordsOf accepted decodedFrom decoded blanksIn blanks highestOf writtenOf highest numbered numberedRows readByte readEach readDigits readHead readField readCardFields readRecord readCard termOf termsAt formulaAt zerosFrom checkTerms checkChild checkNode checkNodes checkQuery rightLength kindOf within admitted askable ask blank askedCard answered lineOf digitsIn lineWith readFields readInput
+unfolding eval without distinct counts.table tuples some identical stands upTo examined equality unifiesWith cellsOf isCell sound rows aritiesWellFormed headerWellFormed all wordsWellFormed rowsFrom wordsOf accepted decodedFrom decoded blanksIn blanks highestOf writtenOf highest numbered numberedRows readByte readEach readDigits readHead readField readCardFields readRecord readCard termOf termsAt formulaAt namedFrom inkedAt zerosFrom checkTerms checkChild checkNode checkNodes checkQuery rightLength kindOf within admitted askable ask blank askedCard answered lineOf digitsIn lineWith readFields readInput
 whole-case = refl

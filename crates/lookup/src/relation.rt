@@ -44,7 +44,7 @@ fn compare_after(words: &[u32], place: usize, row: &[u32], possible: bool) -> Ma
 // a later one may be identical. A row is not compared if a probe of one column tells enough.
 pub fn stands(
     words: &[u32],
-    known: &[u32; 144],
+    known: &[u32; 170],
     relation: u32,
     most: u32,
     row: &[u32; 6],

@@ -19,7 +19,7 @@ pub struct Near {
 
 // The place of the relation's next row. While rows of another relation follow one another, their length is not looked up again: that look-up would have
 // to end before the next word can be read. Such rows are passed over two at a time.
-fn next_row(words: &[u32], known: &[u32; 144], relation: u32, place: usize) -> usize
+fn next_row(words: &[u32], known: &[u32; 170], relation: u32, place: usize) -> usize
     requires { ⌜ RowsLeft (aritiesIn (now known)) (now words) relation place 1 × (length (now known) ≡ knownWords) ⌝ }
     ensures here { λ r. ⌜ getD (now (words .entry)) r 0 ≡ relation ⌝ }
     ensures rows { λ r. ⌜ tuples relation (rowsFrom (aritiesIn (now (known .entry))) 0 (drop r (now (words .entry)))) ≡ tuples relation (rowsFrom (aritiesIn (now (known .entry))) 0 (drop place (now (words .entry)))) ⌝ }
@@ -49,7 +49,7 @@ fn next_row(words: &[u32], known: &[u32; 144], relation: u32, place: usize) -> u
 // loop that does nothing else. If all are, none is left.
 pub fn next_near(
     words: &[u32],
-    known: &[u32; 144],
+    known: &[u32; 170],
     relation: u32,
     column: usize,
     asked: u32,

@@ -3,3 +3,6 @@ pub mod Steps
 pub mod Parts
 pub mod Trees
 pub mod Passed
+pub mod Named
+pub mod KindTerms
+pub mod FewTerms

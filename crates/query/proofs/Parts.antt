@@ -87,7 +87,7 @@ terms-more : (qs : List ℕ) (mask i j k : ℕ) → isTerm (wordAt qs i j) ≡ t
 terms-more qs mask i j k p q r zero l = rw add-zero (p, q)
 terms-more qs mask i j k p q r (suc m) l = let f : suc j + m ≡ j + suc m = omega arith in rw f at (r m (omega arith))
 
-terms-passed : (qs : List ℕ) (mask i j k : ℕ) (s : Scopes) {t : Scopes} → checkTerms qs mask i j k s ≡ passed t → BoundTerms qs mask i j k × (t ≡ s)
+pub terms-passed : (qs : List ℕ) (mask i j k : ℕ) (s : Scopes) {t : Scopes} → checkTerms qs mask i j k s ≡ passed t → BoundTerms qs mask i j k × (t ≡ s)
 unfolding checkTerms
 terms-passed qs mask i j zero s e = (λ m l. absurd (omega arith), cc)
 terms-passed qs mask i j (suc k) s {t} e =

@@ -4,3 +4,4 @@ pub mod Scope
 pub mod Check
 pub mod Answers
 pub mod Passed
+pub mod Named

@@ -1,5 +1,6 @@
 // The question: the check of its words.
 pub mod check;
+pub mod inked;
 mod node;
 mod term;
 pub mod words;

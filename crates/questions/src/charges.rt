@@ -13,7 +13,7 @@ const ROWS: [u32; 12] = [0, 5, 1, 7, 0, 6, 0, 1_000_001, 0, 6, 0, 9];
 // Asks whether a cell is in a sheet.
 fn stands(name: &[u8], header: Header, plot: &[u32], sheet: u32, cell: u32, budget: u32) {
     let query = [1u32, sheet, 2_000_000, 0, 0, 0, 0, 0];
-    let mut list = [9u32; 6];
+    let mut list = [9u32; 8];
     let answer = ask(header, plot, &query, &[cell], &mut list, budget);
     show::asked(name, answer);
 }
@@ -53,7 +53,7 @@ pub fn after_a_fill() {
 // Rows of two columns that agree with the row asked for in one column, or unify with it, come before it.
 pub fn two_columns() {
     let query = [1u32, 0, 2_000_000, 7, 0, 0, 0, 0];
-    let mut list = [9u32; 6];
+    let mut list = [9u32; 8];
     let answer = ask(
         one_sheet(2, 9, 3),
         &[0, 5, 6, 0, 5, 1_000_001, 0, 5, 7],
@@ -82,7 +82,7 @@ pub fn every_value() {
     query[24] = 1;
     query[25] = 1;
     query[26] = 2_000_000;
-    let mut list = [9u32; 6];
+    let mut list = [9u32; 8];
     let answer = ask(
         two_sheets(1, 1, 12, 5, 1),
         &ROWS,

@@ -81,7 +81,7 @@ const ONE: [u32; 3] = [1, 0, 1];
 pub fn full() {
     let mut plot = [0u32; 4096];
     plot[4095] = 1;
-    let mut list = [9u32; 2048];
+    let mut list = [9u32; 2049];
     chained(
         b"2 to the 12 atoms of 2,049 looks",
         12,
@@ -109,6 +109,6 @@ pub fn full() {
         &mut list,
         4_294_967_295,
     );
-    let some = [list[0], list[1], list[2], list[2047]];
+    let some = [list[0], list[1], list[2], list[2048]];
     show::words(&some);
 }

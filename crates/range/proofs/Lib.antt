@@ -2,3 +2,4 @@ pub mod Places
 pub mod Walked
 pub mod Cache
 pub mod Passing
+pub mod Asked

@@ -7,7 +7,7 @@ use native.Mathlib.Omega.{arith}
 use borrow.Author.Tests.{ltb-true, ltb-false, eqb-true, eqb-false}
 use lib.Dec.{ltb, eqb}
 use lib.ListN.{length, getD, take, drop, replicate}
-use lib.Seq.{drop-drop, drop-length, getD-drop}
+use lib.Seq.{drop-drop, drop-length, getD-drop, take-length}
 use Rattle.calculus.specs.Listed.{listed}
 use Rattle.calculus.proofs.Lists.{drop-step}
 use Rattle.instance.specs.Header.{arityOf}
@@ -130,6 +130,14 @@ module _ {n : ℕ} {ars ws before known heads : List ℕ} {left i : ℕ} (s : Pa
         later = later-next all f more (s .later);
         rest = rest-next all f more;
       }
+
+-- at the end the heads are those of all cells
+pub passing-cached :
+    {n : ℕ} {ars ws before known heads : List ℕ} {left i : ℕ} → Passing n ars ws before known heads left i → length ws ≤ i →
+    Cached heads ws (unpassed known 0 ws) (length ws)
+passing-cached {ws = ws} {known = known} {heads = heads} {i = i} s l =
+    let e : i ≡ length ws = omega (arith, s .inside) in
+    rw (take-length ws) at (rw e at (s .cached))
 
 -- at the end the flags are those of the walk, and none stands after the words
 pub passing-ends :

@@ -8,13 +8,13 @@ use native.Mathlib.Numerals.{add-one}
 use borrow.Author.Tests.{eqb-true, eqb-false, eq-eqb, ne-eqb}
 use lib.Bits.{bitOr}
 use lib.Dec.{eqb}
-use lib.ListN.{length, getD, set, take, drop, length-set}
+use lib.ListN.{length, getD, set, take, drop, length-set, drop-of-length-le}
 use lib.Seq.{take-suc, take-set-le, getD-set-same, getD-set-other, length-take-le}
 use Rattle.calculus.specs.Bit.{bitAt}
 use Rattle.calculus.specs.Listed.{listed}
 use Rattle.calculus.proofs.Bits.{bit-set}
 use Rattle.known.specs.Known.{flagsFrom, flagAt, unpassed}
-use Rattle.known.proofs.Walking.{unpassed-end, unpassed-here, unpassed-not}
+use Rattle.calculus.proofs.Lists.{drop-step}
 use Rattle.range.specs.Flagged.{Flagged, stoodBefore}
 
 -- a flag is set
@@ -47,7 +47,7 @@ module _ (known : List ℕ) (p : ℕ) (l : flagsFrom + p / 32 < length known) wh
   }
 
 -- what is not passed over depends on the flags of its own places alone
-unpassed-same : (known after ws : List ℕ) (p : ℕ) → ((q : ℕ) → q < p + length ws → flagAt after q ≡ flagAt known q) → unpassed after p ws ≡ unpassed known p ws
+pub unpassed-same : (known after ws : List ℕ) (p : ℕ) → ((q : ℕ) → q < p + length ws → flagAt after q ≡ flagAt known q) → unpassed after p ws ≡ unpassed known p ws
 unfolding unpassed
 unpassed-same known after [] p same = refl
 unpassed-same known after (w ∷ ws) p same = rw (same p (omega arith), unpassed-same known after ws (suc p) (λ q l. same q (omega arith))) refl
@@ -80,24 +80,30 @@ stood-next {known} {after} {i} {b} ws l f =
     go true = append-nil (stoodBefore known ws i)
     go false = refl
 
--- a scan for a cell among the words that are not passed over, at place j
-module _ (known ws : List ℕ) (cell j : ℕ) where
-  pub scan-end : length ws ≤ j → listed cell (unpassed known j (drop j ws)) ≡ false
-  unfolding listed
-  scan-end l = ap (listed cell) (unpassed-end known ws j l)
+-- a scan for a cell among the words that are not passed over, at word j; the first word has place b
+module _ (known : List ℕ) (b : ℕ) (ws : List ℕ) (cell j : ℕ) where
+  at-word : j < length ws → unpassed known (b + j) (drop j ws) ≡ cond (flagAt known (b + j)) (unpassed known (b + (j + 1)) (drop (j + 1) ws)) (getD ws j 0 ∷ unpassed known (b + (j + 1)) (drop (j + 1) ws))
+  unfolding unpassed
+  at-word l =
+      let e : suc (b + j) ≡ b + (j + 1) = omega arith in
+      ap (unpassed known (b + j)) (drop-step ws j l) ∙ rw e refl
 
-  pub scan-passed : flagAt known j ≡ true → listed cell (unpassed known j (drop j ws)) ≡ listed cell (unpassed known (j + 1) (drop (j + 1) ws))
-  scan-passed e = ap (listed cell) (unpassed-not known ws j e)
+  pub scan-end : length ws ≤ j → listed cell (unpassed known (b + j) (drop j ws)) ≡ false
+  unfolding listed unpassed
+  scan-end l = ap (λ (vs : List ℕ). listed cell (unpassed known (b + j) vs)) (drop-of-length-le ws {i = j} l)
 
   module _ (l : j < length ws) where
-    pub scan-here : getD ws j 0 ≡ cell → flagAt known j ≡ false → listed cell (unpassed known j (drop j ws)) ≡ true
-    unfolding listed
-    scan-here is e = ap (listed cell) (unpassed-here known ws j l e) ∙ rw (eq-eqb (getD ws j 0) cell is) refl
+    pub scan-passed : flagAt known (b + j) ≡ true → listed cell (unpassed known (b + j) (drop j ws)) ≡ listed cell (unpassed known (b + (j + 1)) (drop (j + 1) ws))
+    scan-passed e = ap (listed cell) (at-word l) ∙ rw e refl
 
-    pub scan-other : (getD ws j 0 ≡ cell → ⊥) → listed cell (unpassed known j (drop j ws)) ≡ listed cell (unpassed known (j + 1) (drop (j + 1) ws))
+    pub scan-here : getD ws j 0 ≡ cell → flagAt known (b + j) ≡ false → listed cell (unpassed known (b + j) (drop j ws)) ≡ true
     unfolding listed
-    scan-other ne = go (flagAt known j) refl
+    scan-here is e = ap (listed cell) (at-word l) ∙ rw (e, eq-eqb (getD ws j 0) cell is) refl
+
+    pub scan-other : (getD ws j 0 ≡ cell → ⊥) → listed cell (unpassed known (b + j) (drop j ws)) ≡ listed cell (unpassed known (b + (j + 1)) (drop (j + 1) ws))
+    unfolding listed
+    scan-other ne = go (flagAt known (b + j)) refl
       where
-        go : (b : Bool) → flagAt known j ≡ b → listed cell (unpassed known j (drop j ws)) ≡ listed cell (unpassed known (j + 1) (drop (j + 1) ws))
+        go : (t : Bool) → flagAt known (b + j) ≡ t → listed cell (unpassed known (b + j) (drop j ws)) ≡ listed cell (unpassed known (b + (j + 1)) (drop (j + 1) ws))
         go true e = scan-passed e
-        go false e = ap (listed cell) (unpassed-here known ws j l e) ∙ rw (ne-eqb (getD ws j 0) cell ne) refl
+        go false e = ap (listed cell) (at-word l) ∙ rw (e, ne-eqb (getD ws j 0) cell ne) refl

@@ -7,14 +7,14 @@ use native.Mathlib.Omega.{arith}
 use borrow.Author.Tests.{eqb-true}
 use lib.Dec.{eqb}
 use lib.ListN.{getD, take}
-use Rattle.calculus.specs.Domain.{listing, domain}
+use Rattle.calculus.specs.Domain.{listing, rangeOver}
 use Rattle.calculus.specs.Listed.{listed}
 use Rattle.calculus.specs.Row.{Row, cellsOf}
-use Rattle.calculus.proofs.Listing.{listing-distinct}
+use Rattle.calculus.proofs.Listing.{listing-append, listing-distinct}
 use Rattle.instance.specs.Header.{arityOf}
 use Rattle.instance.specs.Rows.{rowsFrom}
 use Rattle.known.specs.Known.{flagAt, unpassed}
-use Rattle.range.specs.Walked.{walked, walkedValues, passes}
+use Rattle.range.specs.Walked.{walked, walkedRange, passes}
 
 -- two lists of the same cells
 abbrev pub SameCells : List ℕ → List ℕ → Type 0
@@ -51,9 +51,16 @@ listing-walked vs earlier (c ∷ cs) same =
     go true e ih = ih vs (same-more vs earlier c same true e)
     go false e ih = ih (vs ++ c ∷ []) (same-more vs earlier c same false e) ∙ append-assoc vs (c ∷ []) (walked (earlier ++ c ∷ []) cs)
 
--- the cells that a walk does not pass over are the active domain
-pub walked-values : (rs : List Row) → walkedValues rs ≡ domain rs
-walked-values rs = sym (listing-walked [] [] (cellsOf rs) (λ d. refl)) ∙ listing-distinct (cellsOf rs)
+walked-listing : (cs : List ℕ) → listing [] cs ≡ walked [] cs
+walked-listing cs = listing-walked [] [] cs (λ d. refl)
+
+-- what a walk does not pass over is the range
+pub walked-range : (named : List ℕ) (rs : List Row) → walkedRange named rs ≡ rangeOver named rs
+walked-range named rs = sym (walked-listing (cellsOf rs ++ named)) ∙ listing-distinct (cellsOf rs ++ named)
+
+-- a walk that goes on lists what is new
+pub walked-more : (cs ds : List ℕ) → listing (walked [] cs) ds ≡ walked [] (cs ++ ds)
+walked-more cs ds = ap (λ (l : List ℕ). listing l ds) (sym (walked-listing cs)) ∙ sym (listing-append [] cs ds) ∙ walked-listing (cs ++ ds)
 
 -- from place p on, with `left` cells of a row still to come
 walk-from :
@@ -75,6 +82,6 @@ walk-from ars known earlier (suc left) p (w ∷ ws) flags =
 
 -- what the flags leave of the words is what the walk over the rows finds
 pub unpassed-walked :
-    (ars ws known : List ℕ) → ((p : ℕ) → flagAt known p ≡ getD (passes ars [] 0 ws) p false) → unpassed known 0 ws ≡ walkedValues (rowsFrom ars 0 ws)
+    (ars ws known : List ℕ) → ((p : ℕ) → flagAt known p ≡ getD (passes ars [] 0 ws) p false) → unpassed known 0 ws ≡ walked [] (cellsOf (rowsFrom ars 0 ws))
 unpassed-walked ars ws known flags =
     walk-from ars known [] 0 0 ws (λ q. let e : 0 + q ≡ q = omega arith in ap (flagAt known) e ∙ flags q)

@@ -12,9 +12,9 @@ unfoldable pub walked : List ℕ → List ℕ → List ℕ
 walked earlier [] = []
 walked earlier (c ∷ cs) = cond (listed c earlier) (walked (earlier ++ c ∷ []) cs) (c ∷ walked (earlier ++ c ∷ []) cs)
 
--- the rows' cells, walked from the first (`proofs/Walked.antt`, `walked-values`: they are the active domain)
-abbrev pub walkedValues : List Row → List ℕ
-walkedValues rs = walked [] (cellsOf rs)
+-- the rows' cells, walked from the first, and then the constants that a question names (`proofs/Walked.antt`, `walked-range`: they are the range)
+abbrev pub walkedRange : List ℕ → List Row → List ℕ
+walkedRange named rs = walked [] (cellsOf rs ++ named)
 
 -- The same, word by word: whether the walk passes over each of the words ws, of which the first `left` are the remaining cells of a row. It passes
 -- over a relation's number, and over a cell that stood earlier.

@@ -1,2 +1,3 @@
 // The values of an instance without a list of them: flags for the words that a walk passes over.
-pub mod pass;
+mod pass;
+pub mod terms;

@@ -20,7 +20,7 @@ use Rattle.answer.specs.declared.asked.Asked.the-variants as asked
 use Rattle.answer.specs.Ask.{ask}
 use Rattle.answer.specs.Ways.{NoShorter, lentBy, leftBy}
 use Rattle.answer.specs.declared.way.Way.{Way}
-use Rattle.query.specs.Tree.{formulaOf}
+use Rattle.query.specs.Named.{queryOf}
 use Rattle.answer.specs.Numbers.{TellsVerdict}
 use Rattle.answer.specs.Rerun.{Rerun}
 use Rattle.rerun.specs.declared.reran.Reran.{Reran}
@@ -147,8 +147,8 @@ module _ (g : Given) (ws : List ℕ) where
 
   -- the answer in the paper's numbers: that of run A, and that of run B on what the fills left
   pub record TellsRuns (r : Reran) : Type 0 where
-    pub first : TellsVerdict (firstOf r) (firstOf reran) (outcome (start .model) (formulaOf (g .header .arities) (g .query)))
-    pub second : TellsVerdict (secondOf r) (secondOf reran) (outcome (modelOf (g .header) modelWords (end .model .candidate)) (formulaOf (g .header .arities) (g .query)))
+    pub first : TellsVerdict (firstOf r) (firstOf reran) (outcome (start .model) (queryOf (g .header .arities) (g .query)))
+    pub second : TellsVerdict (secondOf r) (secondOf reran) (outcome (modelOf (g .header) modelWords (end .model .candidate)) (queryOf (g .header .arities) (g .query)))
 
   -- what a rerun returns, and what it leaves of everything that it was lent
   pub record Reruns (r : Reran) (ws′ candidate′ buffer′ answers′ log′ : List ℕ) (used′ : ℕ) (buffer2′ : List ℕ) : Type 0 where

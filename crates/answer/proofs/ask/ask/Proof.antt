@@ -1,15 +1,15 @@
 -- `answer::ask::ask` meets its contract: if nothing is refused, the values are listed, and the question is answered by the list. Assumes nothing.
-use Prim.Native.Nat.{ℕ, _+_, _≤_}
+use Prim.Native.Nat.{ℕ, _+_, _-_, _≤_}
 use mathlib.Core.Path.{_≡_, sym, _∙_}
 use mathlib.Core.List.{List}
 use native.Mathlib.Omega.{arith}
 use borrow.Author.Needs.{needs}
-use lib.ListN.{length, take}
+use lib.ListN.{length, take, length-append}
 use lib.Seq.{length-take-le}
 use Rattle.calculus.specs.declared.answer.Answer.{Answer}
 use Rattle.calculus.specs.declared.answer.Answer.the-variants as answer
 use Rattle.calculus.specs.Row.{cellsOf}
-use Rattle.calculus.specs.Domain.{domain}
+use Rattle.calculus.specs.Domain.{rangeOver}
 use Rattle.calculus.specs.Model.{outcomeOf}
 use Rattle.instance.specs.declared.header.Header.{Header}
 use Rattle.instance.specs.Header.{maxRelations}
@@ -18,15 +18,15 @@ use Rattle.instance.specs.Rows.{rowsFrom}
 use Rattle.instance.specs.Run.{modelOf}
 use Rattle.instance.specs.Sound.{rows}
 use Rattle.instance.proofs.Sound.{Sound, sound-gives}
-use Rattle.query.specs.Tree.{formulaOf}
-use Rattle.answer.specs.Ask.{admitted, askable, ask, askedBuffer, list}
+use Rattle.query.specs.Named.{namedIn, queryOf}
+use Rattle.answer.specs.Ask.{admitted, needed, askable, ask, askedBuffer, list}
 use Rattle.answer.specs.Admitted.{Admitted}
 use Rattle.answer.specs.Numbers.{TellsVerdict}
 use Rattle.answer.specs.declared.asked.Asked.{Asked}
 use Rattle.answer.specs.declared.asked.Asked.the-variants.{Refused}
 use Rattle.answer.proofs.RerunLaws.{Asks}
 use Rattle.answer.proofs.Admitted.{admitted-done}
-use Rattle.answer.proofs.AskLaws.{admitted-refused, refused-asked, refused-buffer, evaluated-asked, evaluated-buffer, short-list, long-list, cells-count}
+use Rattle.answer.proofs.AskLaws.{admitted-refused, refused-asked, refused-buffer, evaluated-asked, evaluated-buffer, short-list, long-list, cells-count, need-few, has-terms}
 use Rattle.answer.proofs.AskLaws.{listed-part}
 use Rattle.answer.proofs.Told.{ask-told}
 use Rattle.answer.proofs.ask.ask.Statement.{statement}
@@ -59,13 +59,13 @@ module _ (c : tie.After-admit) where
   told :
       {r : Asked} {left : List ℕ} → r ≡ ask h ws qs cs (list buffer) budget → left ≡ askedBuffer h ws qs cs buffer →
       (r ≡ ask h ws qs cs (list buffer) budget) ×
-      ((left ≡ askedBuffer h ws qs cs buffer) × TellsVerdict r (ask h ws qs cs (list buffer) budget) (outcomeOf (modelOf h ws cs) (formulaOf (h .arities) qs)))
+      ((left ≡ askedBuffer h ws qs cs buffer) × TellsVerdict r (ask h ws qs cs (list buffer) budget) (outcomeOf (modelOf h ws cs) (queryOf (h .arities) qs)))
   told p q = (p, (q, ask-told h ws qs cs (list buffer) budget p))
 
   refused-told :
       (r : ℕ) → askable h ws qs cs (list buffer) ≡ answer.Refused r →
       (Refused r ≡ ask h ws qs cs (list buffer) budget) ×
-      ((buffer ≡ askedBuffer h ws qs cs buffer) × TellsVerdict (Refused r) (ask h ws qs cs (list buffer) budget) (outcomeOf (modelOf h ws cs) (formulaOf (h .arities) qs)))
+      ((buffer ≡ askedBuffer h ws qs cs buffer) × TellsVerdict (Refused r) (ask h ws qs cs (list buffer) budget) (outcomeOf (modelOf h ws cs) (queryOf (h .arities) qs)))
   refused-told r e = told (refused-asked h ws qs cs (list buffer) budget r e) (refused-buffer h ws qs cs buffer r e)
 
   module _ (a : Answer) (is : c .admit .result ≡ a) where
@@ -95,13 +95,30 @@ module _ (c : tie.After-arities) where
   eight : length (h at .arities) ≡ maxRelations
   eight = search needs
 
+-- the need of the list: cells and inked terms
+module _ (c : tie.After-count-named) where
+  abbrev of : tie.After-arities
+  of = c .before .before
+
+  need : h (at of) .used - count of + c .count-named .result ≡ length (needed (h (at of)) (ws (at of)) (qs (at of)))
+  need =
+      omega (
+        arith,
+        cells of,
+        c .count-named .ensures,
+        length-append (cellsOf (rows (h (at of)) (ws (at of)))) (namedIn (h (at of) .arities) (qs (at of))),
+      )
+
 -- the list is long enough
 module _ (c : tie.Else1) where
-  abbrev first : tie.After-arities
-  first = c .before
+  abbrev counted : tie.After-count-named
+  counted = c .before
 
-  long : length (cellsOf (rows (h (at first)) (ws (at first)))) ≤ length (buffer (at first))
-  long = omega (arith, cells first, c .if1 .left)
+  abbrev first : tie.After-arities
+  first = counted .before .before
+
+  long : length (needed (h (at first)) (ws (at first)) (qs (at first))) ≤ length (buffer (at first))
+  long = omega (arith, need counted, c .if1 .left)
 
   asks : Asks (h (at first)) (ws (at first)) (qs (at first)) (cs (at first)) (list (buffer (at first)))
   asks = long-list (h (at first)) (ws (at first)) (qs (at first)) (cs (at first)) (buffer (at first)) (count first) (passes first) long
@@ -115,13 +132,13 @@ module _ (c : tie.After-buffer) where
   begins = at (first tested)
 
   abbrev left : List ℕ
-  left = c .before .list-values .last .1 .1 .0
+  left = c .before .list-range .last .1 .1 .1 .0
 
   abbrev values : List ℕ
-  values = domain (rowsFrom (h begins .arities) 0 (take (h begins .used) (ws begins)))
+  values = rangeOver (namedIn (h begins .arities) (qs begins)) (rowsFrom (h begins .arities) 0 (take (h begins .used) (ws begins)))
 
-  are-listed : (c .before .list-values .result ≤ length left) × (take (c .before .list-values .result) left ≡ values)
-  are-listed = listed-part values (buffer begins) left (c .before .list-values .result) (c .before .list-values .ensures .0) (c .before .list-values .ensures .1)
+  are-listed : (c .before .list-range .result ≤ length left) × (take (c .before .list-range .result) left ≡ values)
+  are-listed = listed-part values (buffer begins) left (c .before .list-range .result) (c .before .list-range .ensures .0) (c .before .list-range .ensures .1)
 
 admit-requires : tie.Need-admit-requires
 admit-requires c κs = search needs
@@ -135,24 +152,41 @@ enum-known-count c = search needs
 cast-used : tie.Need-cast-used
 cast-used c = search needs
 
-cast-if1 : tie.Need-cast-if1
-cast-if1 c = search needs
+cast-cells : tie.Need-cast-cells
+cast-cells c = search needs
 
-sub-if1 : tie.Need-sub-if1
-sub-if1 c = omega (arith, cells c)
+sub-cells : tie.Need-sub-cells
+sub-cells c = omega (arith, cells c)
+
+count-named-requires : tie.Need-count-named-requires
+count-named-requires c κs =
+    let f = c .before in
+    let b = at f in
+    has-terms (h b) (ws b) (qs b) (cs b) (count f) (passes f) (eight f)
+
+add-if1 : tie.Need-add-if1
+add-if1 c =
+    let f = of c in
+    let b = at f in
+    omega (arith, need c, need-few (h b) (ws b) (qs b) (cs b) (count f) (passes f))
 
 returns : tie.Need-returns
 returns c =
-    let f = c .before in
+    let n = c .before in
+    let f = of n in
     let b = at f in
-    refused-told b _ (short-list (h b) (ws b) (qs b) (cs b) (buffer b) (count f) (passes f) (omega (arith, cells f, c .if1 .taken)))
+    refused-told b _ (short-list (h b) (ws b) (qs b) (cs b) (buffer b) (count f) (passes f) (omega (arith, need n, c .if1 .taken)))
 
-slice-aggregate-list-values : tie.Need-slice-aggregate-list-values
-slice-aggregate-list-values c = sym (given (first (c .before)) .in-use)
+slice-aggregate-list-range : tie.Need-slice-aggregate-list-range
+slice-aggregate-list-range c = sym (given (first (c .before)) .in-use)
 
-list-values-requires : tie.Need-list-values-requires
+list-range-requires : tie.Need-list-range-requires
 unfolding rows
-list-values-requires c κs = let t = c .before .before .before in (lent (first t), long t)
+list-range-requires c κs =
+    let t = c .before .before .before in
+    let f = first t in
+    let b = at f in
+    ((lent f, has-terms (h b) (ws b) (qs b) (cs b) (count f) (passes f) (eight f)), (long t, need-few (h b) (ws b) (qs b) (cs b) (count f) (passes f)))
 
 slice-reshare-prefix-answer-listed : tie.Need-slice-reshare-prefix-answer-listed
 slice-reshare-prefix-answer-listed c = are-listed (c .before) .0
@@ -180,7 +214,7 @@ returns-3 c =
     let b = begins l in
     told b
     (c .answer-listed .ensures ∙ evaluated-asked (h b) (ws b) (qs b) (cs b) (list (buffer b)) (budget b) (asks t))
-    (l .before .list-values .ensures .1 ∙ evaluated-buffer (h b) (ws b) (qs b) (cs b) (buffer b) (asks t))
+    (l .before .list-range .ensures .1 ∙ evaluated-buffer (h b) (ws b) (qs b) (cs b) (buffer b) (asks t))
 
 pub ask-spec : {M : Type 1} → statement M
 ask-spec =
@@ -190,11 +224,13 @@ ask-spec =
     enum-known-why
     enum-known-count
     cast-used
-    cast-if1
-    sub-if1
+    cast-cells
+    sub-cells
+    count-named-requires
+    add-if1
     returns
-    slice-aggregate-list-values
-    list-values-requires
+    slice-aggregate-list-range
+    list-range-requires
     slice-reshare-prefix-answer-listed
     slice-aggregate-answer-listed
     answer-listed-requires

@@ -35,14 +35,14 @@ module _ (c : tie.After-evaluate) where
   whole :
       c .evaluate .result ≡
       within (start .args .budget)
-      (eval (world (aritiesIn (start .args .known .now)) (start .args .words .now)) (formulaOf (aritiesIn (start .args .known .now)) (start .args .query .now))
+      (eval (world (aritiesIn (start .args .known .now)) (start .args .words .now) (start .args .query .now)) (formulaOf (aritiesIn (start .args .known .now)) (start .args .query .now))
       (assignment (start .args .candidate .now)))
   whole =
       c .evaluate .ensures .1 (nodeCount (start .args .query .now)) (omega arith) ∙
       ap
       (λ (e : List ℕ).
       within (start .args .budget)
-      (eval (world (aritiesIn (start .args .known .now)) (start .args .words .now)) (formulaOf (aritiesIn (start .args .known .now)) (start .args .query .now)) e))
+      (eval (world (aritiesIn (start .args .known .now)) (start .args .words .now) (start .args .query .now)) (formulaOf (aritiesIn (start .args .known .now)) (start .args .query .now)) e))
       (c .before .before .assigned .ensures)
 
 returns : tie.Need-returns

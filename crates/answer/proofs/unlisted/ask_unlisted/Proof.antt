@@ -1,6 +1,7 @@
 -- `answer::unlisted::ask_unlisted` meets its contract: if nothing is refused, the instance is described, what is no new value is passed over, and the top node
 -- is evaluated. Assumes nothing.
-use Prim.Native.Nat.{ℕ}
+use Prim.Native.Nat.{ℕ, _≤_}
+use native.Mathlib.Omega.{arith}
 use mathlib.Core.Path.{_≡_, refl, sym, subst, _∙_}
 use mathlib.Core.List.{List}
 use borrow.Author.Needs.{needs}
@@ -12,7 +13,7 @@ use Rattle.instance.specs.Header.{maxRelations}
 use Rattle.instance.specs.InstanceWellFormed.{InstanceOf}
 use Rattle.instance.specs.Run.{modelOf}
 use Rattle.instance.proofs.Sound.{Sound, sound-gives}
-use Rattle.query.specs.Tree.{formulaOf}
+use Rattle.query.specs.Named.{queryOf}
 use Rattle.query.proofs.Passed.{count-within}
 use Rattle.answer.specs.Ask.{admitted, ask, none}
 use Rattle.answer.specs.Admitted.{Admitted}
@@ -20,8 +21,9 @@ use Rattle.answer.specs.Numbers.{TellsVerdict}
 use Rattle.answer.specs.declared.asked.Asked.{Asked}
 use Rattle.answer.proofs.Admitted.{admitted-done}
 use Rattle.answer.proofs.AskLaws.{admitted-refused, refused-asked, evaluated-asked, no-list}
-use Rattle.answer.proofs.AskLaws.{Described, described, described-unflagged, described-kept, evaluable, walked-ranged, evaluated-top}
+use Rattle.answer.proofs.AskLaws.{Described, described, described-unflagged, described-kept, evaluable, walked-ranged, evaluated-top, described-places, has-terms}
 use Rattle.answer.proofs.Told.{ask-told}
+use Rattle.known.proofs.Parts.{places-kept}
 use Rattle.answer.proofs.unlisted.ask_unlisted.Statement.{statement}
 use Rattle.answer.proofs.unlisted.ask_unlisted.Tie as tie
 
@@ -47,7 +49,7 @@ module _ (c : tie.After-admit) where
 
   told :
       {r : Asked} → r ≡ ask h ws qs cs none budget →
-      (r ≡ ask h ws qs cs none budget) × TellsVerdict r (ask h ws qs cs none budget) (outcomeOf (modelOf h ws cs) (formulaOf (h .arities) qs))
+      (r ≡ ask h ws qs cs none budget) × TellsVerdict r (ask h ws qs cs none budget) (outcomeOf (modelOf h ws cs) (queryOf (h .arities) qs))
   told p = (p, ask-told h ws qs cs none budget p)
 
   module _ (a : Answer) (is : c .admit .result ≡ a) where
@@ -74,24 +76,27 @@ module _ (c : tie.After-arities) where
   eight : length (h at .arities) ≡ maxRelations
   eight = search needs
 
+  words : length (qs at) ≤ 800
+  words = let n = count-within (qs at) (passes .right) in omega (arith, n .1, n .2)
+
 -- after the instance was described
 module _ (c : tie.After-describe) where
   abbrev found : tie.After-arities
   found = c .before .before .before .before .before
 
   abbrev before : List ℕ
-  before = c .describe .last .1 .1 .0
+  before = c .describe .last .1 .1 .1 .0
 
   is-described : Described (h (at found)) (ws (at found)) before
-  is-described = described (h (at found)) (ws (at found)) before (eight found) (passes found .is-sound) (c .describe .ensures)
+  is-described = described (h (at found)) (ws (at found)) before (eight found) (passes found .is-sound) _ (c .describe .ensures)
 
 -- after the flags were set
 module _ (c : tie.After-pass-for) where
   abbrev known : tie.After-describe
-  known = c .before .before .before .before
+  known = c .before .before .before .before .before
 
   abbrev table : List ℕ
-  table = c .pass-for .last .1 .1 .0
+  table = c .pass-for .last .1 .1 .1 .0
 
   still-described : Described (h (at (found known))) (ws (at (found known))) table
   still-described = described-kept _ _ (before known) table (is-described known) (c .pass-for .ensures .0 .0) (c .pass-for .ensures .0 .1)
@@ -108,6 +113,12 @@ enum-told c = search needs
 cast-used : tie.Need-cast-used
 cast-used c = search needs
 
+add-describe : tie.Need-add-describe
+add-describe c = let f = c .before .before .before in omega (arith, given f .few, words f)
+
+cast-describe : tie.Need-cast-describe
+cast-describe c = let f = c .before .before .before in omega (arith, given f .few, words f)
+
 slice-aggregate-describe : tie.Need-slice-aggregate-describe
 slice-aggregate-describe c = search needs
 
@@ -119,12 +130,17 @@ slice-aggregate-pass-for c = sym (given (found (c .before .before)) .in-use)
 
 pass-for-requires : tie.Need-pass-for-requires
 pass-for-requires c κs =
-    let d = c .before .before .before in
+    let d = c .before .before .before .before in
     let f = found d in
     let b = at f in
     let is = is-described d in (
-      subst (λ (ars : List ℕ). InstanceOf ars (take (h b .used) (ws b))) (sym (is .arities)) (lent f),
-      (count-within (qs b) (passes f .right) .2, (is .size, described-unflagged (h b) (ws b) (before d) (eight f) (passes f .is-sound) (d .describe .ensures))),
+      (
+        subst (λ (ars : List ℕ). InstanceOf ars (take (h b .used) (ws b))) (sym (is .arities)) (lent f),
+        has-terms (h b) (ws b) (qs b) (cs b) _ (passes f) (eight f),
+        is .arities,
+        words f,
+      ),
+      (is .size, described-unflagged (h b) (ws b) (before d) (eight f) (passes f .is-sound) _ (d .describe .ensures)),
     )
 
 slice-aggregate-answer-top : tie.Need-slice-aggregate-answer-top
@@ -140,7 +156,10 @@ answer-top-requires c κs =
     let f = found d in
     let b = at f in
     evaluable (h b) (ws b) (qs b) (cs b) (count f) (passes f) (eight f) (table p) _ (still-described p)
-    (walked-ranged (h b) (ws b) (qs b) _ (table p) (passes f .is-sound) (is-described d .arities) (p .pass-for .ensures .1))
+    (walked-ranged (h b) (ws b) (qs b) (table p) (passes f .is-sound)
+    (places-kept (table p) (before d) (p .pass-for .ensures .0 .0) (is-described d .size) (p .pass-for .ensures .0 .1) ∙
+    described-places (h b) (ws b) (before d) (eight f) (passes f .is-sound) _ (d .describe .ensures))
+    (p .pass-for .ensures .1))
 
 returns : tie.Need-returns
 returns c =
@@ -165,6 +184,8 @@ ask-unlisted-spec =
     enum-known-why
     enum-told
     cast-used
+    add-describe
+    cast-describe
     slice-aggregate-describe
     describe-requires
     slice-aggregate-pass-for

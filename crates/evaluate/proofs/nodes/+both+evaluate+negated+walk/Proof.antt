@@ -1,19 +1,19 @@
 -- The mutually recursive functions of evaluation meet their contracts: each call is on the same node or on a child. Assumes nothing.
-use Prim.Native.Nat.{ℕ, _+_, _-_, _*_, _<_}
+use Prim.Native.Nat.{ℕ, _+_, _-_, _*_, _<_, _≤_}
 use mathlib.Core.Path.{_≡_, refl, sym, ap, _∙_}
 use native.Mathlib.Omega.{arith}
 use borrow.Author.Needs.{needs}
-use mathlib.Core.List.{List, _∷_}
-use lib.ListN.{length, getD, set, drop, length-set}
-use lib.Seq.{set-getD}
+use mathlib.Core.List.{List, _∷_, _++_}
+use lib.ListN.{length, getD, set, drop, length-set, length-append}
+use lib.Seq.{set-getD, getD-take, length-take-le}
 use Rattle.calculus.specs.Formula.{variables}
-use Rattle.known.specs.Known.{aritiesIn, unpassed}
+use Rattle.known.specs.Known.{aritiesIn, placesIn, unpassed}
 use Rattle.known.proofs.Walking.{unpassed-end, unpassed-here, unpassed-gap, gap-some}
 use Rattle.query.specs.Passed.{NodeBy}
 use Rattle.query.specs.Words.{noKind, negates, joins, ranges, kindOf, wordAt, nodeCount, equals}
 use Rattle.evaluate.specs.declared.evaluated.Evaluated.{Evaluated}
 use Rattle.evaluate.specs.declared.evaluated.Evaluated.the-variants.{Spent}
-use Rattle.evaluate.specs.Ready.{world, Right, junctionOf}
+use Rattle.evaluate.specs.Ready.{world, walkedWords, Right, junctionOf}
 use Rattle.evaluate.proofs.Children.{joins-by, ranges-by, none-above, well-formed-by, negated-spent, negated-verdict, both-left-spent, both-settled, both-low, both-right-spent, both-verdict, right-low, Walking, set-again, set-back, walk-starts, walk-ends, walk-spent, walk-settled, walk-more, walk-passes}
 use borrow.Fn.Kinds.{In}
 use borrow.Fn.PlainCycle.{Measures, is, falls, and}
@@ -29,6 +29,8 @@ use Rattle.evaluate.proofs.nodes.+both+evaluate+negated+walk.Lts-negate
 use Rattle.evaluate.proofs.nodes.walk.Reads as walk
 use Rattle.evaluate.proofs.nodes.walk.Kinds as walk-kinds
 use Rattle.evaluate.proofs.nodes.+both+evaluate+negated+walk.Lts-walk as walk-lts
+use Rattle.known.proofs.places_in.Reads as places-in-reads
+use Rattle.evaluate.proofs.nodes.value_at.Reads as value-at-reads
 use Rattle.known.proofs.flags.gap.Reads as gap-reads
 use Rattle.known.proofs.flags.passed.Reads as passed-reads
 use Rattle.evaluate.proofs.nodes.assign.Reads as assign-reads
@@ -90,7 +92,7 @@ abbrev negated-claims : ℕ → negated-lts.Claims
 negated-claims t = (word-reads.Asked, word-reads.Learnt, evaluate-below t, evaluate.Post, not-reads.Asked, not-reads.Learnt)
 
 abbrev walk-claims : ℕ → walk-lts.Claims
-walk-claims t = (word-reads.Asked, word-reads.Learnt, unit-reads.Asked, unit-reads.Learnt, passed-reads.Asked, passed-reads.Learnt, gap-reads.Asked, gap-reads.Learnt, assign-reads.Asked, assign-reads.Learnt, evaluate-below t, evaluate.Post, join-reads.Asked, join-reads.Learnt, settles-reads.Asked, settles-reads.Learnt)
+walk-claims t = (places-in-reads.Asked, places-in-reads.Learnt, word-reads.Asked, word-reads.Learnt, unit-reads.Asked, unit-reads.Learnt, passed-reads.Asked, passed-reads.Learnt, gap-reads.Asked, gap-reads.Learnt, value-at-reads.Asked, value-at-reads.Learnt, assign-reads.Asked, assign-reads.Learnt, evaluate-below t, evaluate.Post, join-reads.Asked, join-reads.Learnt, settles-reads.Asked, settles-reads.Learnt)
 
 both-word-requires : (t : ℕ) → both-lts.Need-word-requires (both-claims t) (both-at t) both.Post
 both-word-requires t c κs = (c .before .before .before .pre .1 .0 .known, omega arith)
@@ -324,17 +326,29 @@ negated-returns-2 t c =
     (child .0, rw (c .not .ensures .0) (negated-verdict _ _ _ _ (ev .known) (start .pre .1 .1) (down .0) _ _ _ _ (rw (c .before .before .before .before .before .before .word .ensures, c .before .before .truth .given .1) at (child .1))))
 
 abbrev walk-Inv-loop : walk-lts.InvT-loop
-walk-Inv-loop query node every env₀ budget values words known variable child old truth₀ cost₀ i₀ env truth cost i =
-    Walking (world (aritiesIn known) words) (aritiesIn known) query node (junctionOf every) env₀ budget truth cost (unpassed known i (drop i values)) × (set env variable old ≡ env₀)
+walk-Inv-loop query node every env₀ budget values words known places variable child old truth₀ cost₀ i₀ env truth cost i =
+    Walking (world (aritiesIn known) words query) (aritiesIn known) query node (junctionOf every) env₀ budget truth cost (unpassed known i (drop i (walkedWords known values query))) × (set env variable old ≡ env₀)
 
 abbrev walk-μ-loop : walk-lts.MeasureT-loop
-walk-μ-loop query node every env₀ budget values words known variable child old truth₀ cost₀ i₀ env truth cost i =
-    length values - i
+walk-μ-loop query node every env₀ budget values words known places variable child old truth₀ cost₀ i₀ env truth cost i =
+    placesIn known - i
 
 -- what is known of the child of a node that ranges over values
 module _ (t : ℕ) (s : walk-lts.Start (walk-claims t) (walk-at t) walk.Post walk-Inv-loop walk-μ-loop) where
   walk-down : NodeBy (s .pre .1 .0 .ready .given .relations) (aritiesIn (s .args .known .now)) (s .args .query .now) (s .args .node) (ranges (junctionOf (s .args .every)))
   walk-down = well-formed-by _ _ _ _ _ (ranges (junctionOf (s .args .every))) (s .pre .1 .0 .ready) (s .pre .1 .0 .known) (s .pre .1 .1)
+
+  -- the places of a walk: those of the values, and then those of the question's words
+  walk-places : placesIn (s .args .known .now) ≤ length (s .args .values .now) + length (s .args .query .now)
+  walk-places = s .pre .1 .0 .ranged .places
+
+  walk-few : length (s .args .values .now) + length (s .args .query .now) ≤ 4896
+  walk-few = omega (arith, s .pre .1 .0 .ranged .short, s .pre .1 .0 .ready .whole, s .pre .1 .0 .ready .nodes-few)
+
+  walk-long : length (walkedWords (s .args .known .now) (s .args .values .now) (s .args .query .now)) ≡ placesIn (s .args .known .now)
+  walk-long =
+      length-take-le (placesIn (s .args .known .now)) (s .args .values .now ++ s .args .query .now)
+      (omega (arith, walk-places, length-append (s .args .values .now) (s .args .query .now)))
 
 -- once the child was evaluated for a value
 module _ (t : ℕ) (e : walk-lts.After-evaluate (walk-claims t) (walk-at t) walk.Post walk-Inv-loop walk-μ-loop) where
@@ -342,7 +356,7 @@ module _ (t : ℕ) (e : walk-lts.After-evaluate (walk-claims t) (walk-at t) walk
   walk-loop = e .before .before .before .before .before .before .before .before
 
   abbrev walk-start : walk-lts.Start (walk-claims t) (walk-at t) walk.Post walk-Inv-loop walk-μ-loop
-  walk-start = walk-loop .before .before .before .before .before .before .before .before
+  walk-start = walk-loop .before .before .before .before .before .before .before .before .before
 
   abbrev env₀ : List ℕ
   env₀ = walk-start .args .env .now
@@ -355,22 +369,27 @@ module _ (t : ℕ) (e : walk-lts.After-evaluate (walk-claims t) (walk-at t) walk
   variable = walk-loop .before .before .before .before .word .result
 
   abbrev value : ℕ
-  value = getD (walk-start .args .values .now) (walk-loop .loop .i) 0
+  value = getD (walk-start .args .values .now ++ qs) (walk-loop .loop .i) 0
 
   -- the assignment under which the child was evaluated
   here : e .before .before .assign .last .0 ≡ set env₀ (wordAt qs (walk-start .args .node) 1) value
   here =
-      e .before .before .assign .ensures ∙ set-again _ (walk-loop .loop .env) _ _ _ (walk-loop .loop .inv .1) ∙
+      e .before .before .assign .ensures ∙ ap (set (walk-loop .loop .env) variable) (e .before .before .before .value-at .ensures) ∙
+      set-again _ (walk-loop .loop .env) _ _ _ (walk-loop .loop .inv .1) ∙
       ap (λ (v : ℕ). set env₀ v value) (walk-loop .before .before .before .before .word .ensures)
 
   -- the value is the next one that the walk does not pass over
   next :
-      unpassed (walk-start .args .known .now) (walk-loop .loop .i) (drop (walk-loop .loop .i) (walk-start .args .values .now)) ≡
-      value ∷ unpassed (walk-start .args .known .now) (walk-loop .loop .i + 1) (drop (walk-loop .loop .i + 1) (walk-start .args .values .now))
+      unpassed (walk-start .args .known .now) (walk-loop .loop .i) (drop (walk-loop .loop .i) (walkedWords (walk-start .args .known .now) (walk-start .args .values .now) qs)) ≡
+      value ∷ unpassed (walk-start .args .known .now) (walk-loop .loop .i + 1) (drop (walk-loop .loop .i + 1) (walkedWords (walk-start .args .known .now) (walk-start .args .values .now) qs))
   next =
       let asked = e .before .before .before .before .before .before in
-      unpassed-here (walk-start .args .known .now) (walk-start .args .values .now) (walk-loop .loop .i) (asked .before .loop-test .taken)
-      (sym (asked .passed .ensures) ∙ e .before .before .before .before .before .if1 .left)
+      let known = walk-start .args .known .now in
+      let all = walkedWords known (walk-start .args .values .now) qs in
+      let i = walk-loop .loop .i in
+      let low : i < placesIn known = omega (arith, asked .before .loop-test .taken, walk-loop .before .before .before .before .before .places-in .ensures) in
+      unpassed-here known all i (omega (arith, low, walk-long t walk-start)) (sym (asked .passed .ensures) ∙ e .before .before .before .before .before .if1 .left) ∙
+      ap (λ (v : ℕ). v ∷ unpassed known (i + 1) (drop (i + 1) all)) (getD-take (placesIn known) (walk-start .args .values .now ++ qs) i 0 low)
 
   -- putting the old cell back restores the assignment
   back : set (e .evaluate .last .1 .1 .0) variable (getD env₀ variable 0) ≡ env₀
@@ -390,41 +409,47 @@ module _ (t : ℕ) (e : walk-lts.After-evaluate (walk-claims t) (walk-at t) walk
     ap length (e .evaluate .ensures .0 ∙ here) ∙ length-set env₀ _ _ ∙ walk-start .pre .1 .0 .sixteen,
   )
 
+walk-places-in-requires : (t : ℕ) → walk-lts.Need-places-in-requires (walk-claims t) (walk-at t) walk.Post walk-Inv-loop walk-μ-loop
+walk-places-in-requires t c κs = c .before .before .before .pre .1 .0 .ready .size
+
+walk-cast-places : (t : ℕ) → walk-lts.Need-cast-places (walk-claims t) (walk-at t) walk.Post walk-Inv-loop walk-μ-loop
+walk-cast-places t c = let s = c .before .before .before .before in omega (arith, c .places-in .ensures, walk-places t s, walk-few t s)
+
 walk-word-requires : (t : ℕ) → walk-lts.Need-word-requires (walk-claims t) (walk-at t) walk.Post walk-Inv-loop walk-μ-loop
-walk-word-requires t c κs = (c .before .before .before .pre .1 .0 .known, omega arith)
+walk-word-requires t c κs = (c .before .before .before .before .pre .1 .0 .known, omega arith)
 
 walk-word-requires-2 : (t : ℕ) → walk-lts.Need-word-requires-2 (walk-claims t) (walk-at t) walk.Post walk-Inv-loop walk-μ-loop
-walk-word-requires-2 t c κs = (c .before .before .before .before .pre .1 .0 .known, omega arith)
+walk-word-requires-2 t c κs = (c .before .before .before .before .before .pre .1 .0 .known, omega arith)
 
 walk-mul-old : (t : ℕ) → walk-lts.Need-mul-old (walk-claims t) (walk-at t) walk.Post walk-Inv-loop walk-μ-loop
-walk-mul-old t c = omega (arith, c .before .word .ensures, walk-down t (c .before .before .before .before .before) .0)
+walk-mul-old t c = omega (arith, c .before .word .ensures, walk-down t (c .before .before .before .before .before .before) .0)
 
 walk-element-copy-out-old : (t : ℕ) → walk-lts.Need-element-copy-out-old (walk-claims t) (walk-at t) walk.Post walk-Inv-loop walk-μ-loop
-walk-element-copy-out-old t c = omega (arith, c .before .word .ensures, walk-down t (c .before .before .before .before .before) .0)
+walk-element-copy-out-old t c = omega (arith, c .before .word .ensures, walk-down t (c .before .before .before .before .before .before) .0)
 
 walk-unit-requires : (t : ℕ) → walk-lts.Need-unit-requires (walk-claims t) (walk-at t) walk.Post walk-Inv-loop walk-μ-loop
 walk-unit-requires t c κs = search needs
 
 walk-loop-holds : (t : ℕ) → walk-lts.Need-loop-holds (walk-claims t) (walk-at t) walk.Post walk-Inv-loop walk-μ-loop
 walk-loop-holds t c =
-    let s = c .before .before .before .before .before .before .before in
+    let s = c .before .before .before .before .before .before .before .before in
     (rw (c .unit .ensures) (walk-starts _ _ _ _ (s .pre .1 .0 .known) _ (s .pre .1 .1) (walk-down t s .1 .0) _ _ _ (s .pre .1 .0 .ranged .walked _ _ (s .pre .1 .0 .known) (s .pre .1 .1))), set-getD _ _ 0)
 
-walk-mul-assign : (t : ℕ) → walk-lts.Need-mul-assign (walk-claims t) (walk-at t) walk.Post walk-Inv-loop walk-μ-loop
-walk-mul-assign t c = omega arith
-
-walk-shared-slice-read-assign : (t : ℕ) → walk-lts.Need-shared-slice-read-assign (walk-claims t) (walk-at t) walk.Post walk-Inv-loop walk-μ-loop
-walk-shared-slice-read-assign t c = c .before .before .before .before .loop-test .taken
+walk-value-at-requires : (t : ℕ) → walk-lts.Need-value-at-requires (walk-claims t) (walk-at t) walk.Post walk-Inv-loop walk-μ-loop
+walk-value-at-requires t c κs =
+    let l = c .before .before .before .before in
+    let s = l .before .before .before .before .before .before .before .before .before in
+    omega (arith, c .before .before .before .loop-test .taken, l .before .before .before .before .before .places-in .ensures, walk-places t s)
 
 -- the assignment keeps its length
 kept-long : (t : ℕ) (l : walk-lts.At-loop (walk-claims t) (walk-at t) walk.Post walk-Inv-loop walk-μ-loop) → length (l .loop .env) ≡ variables
 kept-long t l =
-    sym (length-set (l .loop .env) _ _) ∙ ap length (l .loop .inv .1) ∙ l .before .before .before .before .before .before .before .before .pre .1 .0 .sixteen
+    sym (length-set (l .loop .env) _ _) ∙ ap length (l .loop .inv .1) ∙ l .before .before .before .before .before .before .before .before .before .pre .1 .0 .sixteen
 
 walk-assign-requires : (t : ℕ) → walk-lts.Need-assign-requires (walk-claims t) (walk-at t) walk.Post walk-Inv-loop walk-μ-loop
 walk-assign-requires t c κs =
     let l = c .before .before .before .before .before in
-    (omega (arith, l .before .before .before .before .word .ensures, walk-down t (l .before .before .before .before .before .before .before .before) .0), kept-long t l)
+    (omega (arith, l .before .before .before .before .word .ensures, walk-down t (l .before .before .before .before .before .before .before .before .before) .0), kept-long t l)
 
 walk-sub-evaluate : (t : ℕ) → walk-lts.Need-sub-evaluate (walk-claims t) (walk-at t) walk.Post walk-Inv-loop walk-μ-loop
 walk-sub-evaluate t c = c .before .before .before .before .before .before .before .loop .inv .0 .low
@@ -432,7 +457,7 @@ walk-sub-evaluate t c = c .before .before .before .before .before .before .befor
 walk-evaluate-requires : (t : ℕ) → walk-lts.Need-evaluate-requires (walk-claims t) (walk-at t) walk.Post walk-Inv-loop walk-μ-loop
 walk-evaluate-requires t c κs =
     let l = c .before .before .before .before .before .before .before in
-    let s = l .before .before .before .before .before .before .before .before in
+    let s = l .before .before .before .before .before .before .before .before .before in
     let child = walk-down t s .1 in
     rw (l .before .before .before .word2 .ensures)
     (omega (arith, child .0, child .1, s .pre .0), record { ready = s .pre .1 .0 .ready; ranged = s .pre .1 .0 .ranged; known = child .1; sixteen = ap length (c .before .assign .ensures) ∙ length-set (l .loop .env) _ _ ∙ kept-long t l })
@@ -485,28 +510,28 @@ walk-returns-2 t c =
 
 walk-passed-requires : (t : ℕ) → walk-lts.Need-passed-requires (walk-claims t) (walk-at t) walk.Post walk-Inv-loop walk-μ-loop
 walk-passed-requires t c κs =
-    let ev = c .before .before .before .before .before .before .before .before .before .pre .1 .0 in
-    (ev .ready .size, omega (arith, c .loop-test .taken, ev .ranged .short))
+    let ev = c .before .before .before .before .before .before .before .before .before .before .pre .1 .0 in
+    (ev .ready .size, omega (arith, c .loop-test .taken, c .before .before .before .before .before .before .places-in .ensures, walk-places t (c .before .before .before .before .before .before .before .before .before .before), walk-few t (c .before .before .before .before .before .before .before .before .before .before)))
 
 walk-gap-requires : (t : ℕ) → walk-lts.Need-gap-requires (walk-claims t) (walk-at t) walk.Post walk-Inv-loop walk-μ-loop
 walk-gap-requires t c κs =
-    let ev = c .before .before .before .before .before .before .before .before .before .before .before .pre .1 .0 in
-    (ev .ready .size, omega (arith, c .before .before .loop-test .taken, ev .ranged .short))
+    let ev = c .before .before .before .before .before .before .before .before .before .before .before .before .pre .1 .0 in
+    (ev .ready .size, omega (arith, c .before .before .loop-test .taken, c .before .before .before .before .before .before .before .before .places-in .ensures, walk-places t (c .before .before .before .before .before .before .before .before .before .before .before .before), walk-few t (c .before .before .before .before .before .before .before .before .before .before .before .before)))
 
 walk-add-i : (t : ℕ) → walk-lts.Need-add-i (walk-claims t) (walk-at t) walk.Post walk-Inv-loop walk-μ-loop
 walk-add-i t c =
-    let ev = c .before .before .before .before .before .before .before .before .before .before .before .before .pre .1 .0 in
-    omega (arith, c .gap .ensures .1 .few, c .before .before .before .loop-test .taken, ev .ranged .short)
+    let ev = c .before .before .before .before .before .before .before .before .before .before .before .before .before .pre .1 .0 in
+    omega (arith, c .gap .ensures .1 .few, c .before .before .before .loop-test .taken, c .before .before .before .before .before .before .before .before .before .places-in .ensures, walk-places t (c .before .before .before .before .before .before .before .before .before .before .before .before .before), walk-few t (c .before .before .before .before .before .before .before .before .before .before .before .before .before))
 
 walk-loop-less : (t : ℕ) → walk-lts.Need-loop-less (walk-claims t) (walk-at t) walk.Post walk-Inv-loop walk-μ-loop
 walk-loop-less t c =
     let some = gap-some (c .gap .ensures .1) (sym (c .before .before .passed .ensures) ∙ c .before .if1 .taken) in
-    omega (arith, some, c .before .before .before .loop-test .taken)
+    omega (arith, some, c .before .before .before .loop-test .taken, c .before .before .before .before .before .before .before .before .before .places-in .ensures)
 
 walk-loop-again : (t : ℕ) → walk-lts.Need-loop-again (walk-claims t) (walk-at t) walk.Post walk-Inv-loop walk-μ-loop
 walk-loop-again t c =
     let l = c .before .before .before .before in
-    let s = l .before .before .before .before .before .before .before .before in (
+    let s = l .before .before .before .before .before .before .before .before .before in (
       walk-passes _ _ _ _ (s .pre .1 .0 .known) _ (s .pre .1 .1) (walk-down t s .1 .0) _ _ _ _ _ (l .loop .inv .0) _
           (unpassed-gap _ _ _ _ (c .gap .ensures .1 .all)),
       l .loop .inv .1,
@@ -515,10 +540,13 @@ walk-loop-again t c =
 walk-add-i-2 : (t : ℕ) → walk-lts.Need-add-i-2 (walk-claims t) (walk-at t) walk.Post walk-Inv-loop walk-μ-loop
 walk-add-i-2 t c =
     let e = c .before .before .before .before .before .before in
-    omega (arith, e .before .before .before .before .before .before .before .loop-test .taken, walk-start t e .good)
+    let s = walk-start t e in
+    omega (arith, e .before .before .before .before .before .before .before .loop-test .taken, walk-loop t e .before .before .before .before .before .places-in .ensures, walk-places t s, walk-few t s)
 
 walk-loop-less-2 : (t : ℕ) → walk-lts.Need-loop-less-2 (walk-claims t) (walk-at t) walk.Post walk-Inv-loop walk-μ-loop
-walk-loop-less-2 t c = omega arith
+walk-loop-less-2 t c =
+    let e = c .before .before .before .before .before .before in
+    omega (arith, e .before .before .before .before .before .before .before .loop-test .taken, walk-loop t e .before .before .before .before .before .places-in .ensures)
 
 walk-loop-again-2 : (t : ℕ) → walk-lts.Need-loop-again-2 (walk-claims t) (walk-at t) walk.Post walk-Inv-loop walk-μ-loop
 walk-loop-again-2 t c =
@@ -535,14 +563,14 @@ walk-loop-again-2 t c =
 walk-assign-requires-4 : (t : ℕ) → walk-lts.Need-assign-requires-4 (walk-claims t) (walk-at t) walk.Post walk-Inv-loop walk-μ-loop
 walk-assign-requires-4 t c κs =
     let l = c .before .before in
-    (omega (arith, l .before .before .before .before .word .ensures, walk-down t (l .before .before .before .before .before .before .before .before) .0), kept-long t l)
+    (omega (arith, l .before .before .before .before .word .ensures, walk-down t (l .before .before .before .before .before .before .before .before .before) .0), kept-long t l)
 
 walk-returns-3 : (t : ℕ) → walk-lts.Need-returns-3 (walk-claims t) (walk-at t) walk.Post walk-Inv-loop walk-μ-loop
 walk-returns-3 t c =
     let l = c .before .before .before in
-    let s = l .before .before .before .before .before .before .before .before in (
+    let s = l .before .before .before .before .before .before .before .before .before in (
       c .assign4 .ensures ∙ l .loop .inv .1,
-      walk-ends _ _ _ _ (s .pre .1 .0 .known) _ (s .pre .1 .1) (walk-down t s .1 .0) _ _ _ _ _ (l .loop .inv .0) (unpassed-end _ _ _ (c .before .before .loop-test .left)),
+      walk-ends _ _ _ _ (s .pre .1 .0 .known) _ (s .pre .1 .1) (walk-down t s .1 .0) _ _ _ _ _ (l .loop .inv .0) (unpassed-end _ _ _ (omega (arith, c .before .before .loop-test .left, l .before .before .before .before .before .places-in .ensures, walk-long t s))),
     )
 
 pub +both+evaluate+negated+walk-spec : {M : Type 1} → statement M
@@ -596,6 +624,8 @@ pub +both+evaluate+negated+walk-spec : {M : Type 1} → statement M
     walk.Post
     walk-Inv-loop
     walk-μ-loop
+    (walk-places-in-requires t)
+    (walk-cast-places t)
     (walk-word-requires t)
     (walk-word-requires-2 t)
     (walk-mul-old t)
@@ -607,8 +637,7 @@ pub +both+evaluate+negated+walk-spec : {M : Type 1} → statement M
     (walk-add-i t)
     (walk-loop-less t)
     (walk-loop-again t)
-    (walk-mul-assign t)
-    (walk-shared-slice-read-assign t)
+    (walk-value-at-requires t)
     (walk-assign-requires t)
     (walk-sub-evaluate t)
     (walk-evaluate-requires t)

@@ -1,9 +1,8 @@
--- `domain::list_values` meets its contract: the first n words of the buffer are chained, and hold the values of the rows before i. Assumes nothing.
+-- `domain::list_cells` meets its contract: the first n words of the buffer are chained, and hold the values of the rows before i. Assumes nothing.
 use Prim.Native.Nat.{ℕ, _≤_, _<_, _-_, _+_}
 use mathlib.Core.Path.{_≡_, sym, ap, _∙_}
 use mathlib.Core.List.{List, [], _++_, _∷_}
 use native.Mathlib.Omega.{arith}
-use borrow.Author.Needs.{needs}
 use lib.ListN.{length, take, drop, getD, length-map}
 use lib.Seq.{length-take-le, length-front}
 use Rattle.calculus.specs.Row.{Row, cellsOf}
@@ -11,11 +10,10 @@ use Rattle.instance.specs.Header.{arityOf, maxRelations}
 use Rattle.instance.specs.InstanceWellFormed.{InstanceOf}
 use Rattle.instance.specs.Rows.{rowsFrom}
 use Rattle.instance.proofs.Walk.{WalkIn, walk-in, AtRow, row-here, rows-end, relation-few, row-lent}
-use Rattle.domain.specs.Chains.{wordValue, Chained}
-use Rattle.domain.proofs.Chains.{chained-starts}
-use Rattle.domain.proofs.Listing.{Listing, listing-starts, listing-row, listing-room, listing-fits, listing-number, listing-ends}
-use Rattle.domain.proofs.list_values.Statement.{statement}
-use Rattle.domain.proofs.list_values.Tie as tie
+use Rattle.domain.specs.Chains.{Chained}
+use Rattle.domain.proofs.Listing.{Listing, listing-starts, listing-row, listing-room, listing-all}
+use Rattle.domain.proofs.list_cells.Statement.{statement}
+use Rattle.domain.proofs.list_cells.Tie as tie
 
 abbrev Inv-loop : tie.InvT-loop
 Inv-loop words arities buffer₀ heads₀ n₀ i₀ buffer heads n i =
@@ -26,7 +24,7 @@ abbrev μ-loop : tie.MeasureT-loop
 μ-loop words arities buffer₀ heads₀ n₀ i₀ buffer heads n i = length words - i
 
 loop-holds : tie.Need-loop-holds Inv-loop μ-loop
-loop-holds c = (walk-in _ _ (c .before .before .pre .0), omega arith, chained-starts _, listing-starts _ _ (c .before .before .pre .1))
+loop-holds c = (walk-in _ _ (c .before .before .pre .0 .0), omega arith, c .before .before .pre .0 .1, listing-starts _ _ (c .before .before .pre .1))
 
 -- the row at index i
 module _ (c : tie.In-loop Inv-loop μ-loop) where
@@ -105,7 +103,7 @@ add-cells-requires c κs =
     let h = here b in
     rw (row-lent (ws b) (i b) (a b)) (
       listing-room (to-come b),
-      omega (arith, h .size, h .next .within, start b .pre .0 .well-formed .few),
+      omega (arith, h .size, h .next .within, start b .pre .0 .0 .well-formed .few),
       h .cells,
       b .before .loop .inv .2,
     )
@@ -129,30 +127,14 @@ all-listed c =
     let e : c .before .loop .i ≡ length ws = omega (arith, c .before .loop .inv .0 .1 .within) in
     rw (rows-end (c .before .before .before .before .args .arities .now) ws _ e) at (c .before .loop .inv .3)
 
-slice-relend-prefix-unlink : tie.Need-slice-relend-prefix-unlink Inv-loop μ-loop
-slice-relend-prefix-unlink c = listing-fits (all-listed c)
-
-slice-aggregate-unlink : tie.Need-slice-aggregate-unlink Inv-loop μ-loop
-slice-aggregate-unlink c = sym (length-take-le _ _ (listing-fits (all-listed (c .before))))
-
-unlink-requires : tie.Need-unlink-requires Inv-loop μ-loop
-unlink-requires c κs = search needs
-
 same-length : tie.Need-same-length Inv-loop μ-loop
-same-length c =
-    let e = c .before .before .before .before .before .loop in
-    let l = ap length (c .before .before .unlink .ensures) ∙ length-map (take (e .n) (e .buffer)) wordValue in
-    length-front (e .buffer) (c .before .before .unlink .last .0) (e .n) l ∙ e .inv .3 .added .long
+same-length c = c .before .loop .inv .3 .added .long
 
 returns : tie.Need-returns Inv-loop μ-loop
-returns c =
-    let e = c .before .before .before .before in (
-      listing-number (all-listed e),
-      ap (λ (l : List ℕ). l ++ drop (e .before .loop .n) (e .before .loop .buffer)) (c .before .before .unlink .ensures) ∙ listing-ends (all-listed e),
-    )
+returns c = (c .before .loop .inv .2, listing-all (all-listed c))
 
-pub list-values-spec : {M : Type 1} → statement M
-list-values-spec =
+pub list-cells-spec : {M : Type 1} → statement M
+list-cells-spec =
     tie.close
     (tie.spec
     Inv-loop
@@ -173,8 +155,5 @@ list-values-spec =
     add-cells-requires
     loop-less
     loop-again
-    slice-relend-prefix-unlink
-    slice-aggregate-unlink
-    unlink-requires
     same-length
     returns)

@@ -1,4 +1,4 @@
--- `range::pass::pass_over` meets its contract: the flags of the first i words are set. Assumes nothing.
+-- `range::pass::pass_cells` meets its contract: the flags of the first i words are set. Assumes nothing.
 use Prim.Native.Nat.{ℕ, _+_, _-_, _≤_, _<_}
 use mathlib.Core.Path.{_≡_, ap, _∙_}
 use mathlib.Core.List.{List}
@@ -10,9 +10,9 @@ use Rattle.instance.specs.InstanceWellFormed.{InstanceOf}
 use Rattle.instance.proofs.Walk.{relation-few}
 use Rattle.known.specs.Known.{knownWords, aritiesIn}
 use Rattle.known.proofs.Parts.{arities-kept}
-use Rattle.range.proofs.Passing.{Passing, passing-starts, passing-relation, passing-row, passing-cell, passing-ends}
-use Rattle.range.proofs.pass.pass_over.Statement.{statement}
-use Rattle.range.proofs.pass.pass_over.Tie as tie
+use Rattle.range.proofs.Passing.{Passing, passing-starts, passing-relation, passing-row, passing-cell, passing-ends, passing-cached}
+use Rattle.range.proofs.pass.pass_cells.Statement.{statement}
+use Rattle.range.proofs.pass.pass_cells.Tie as tie
 
 abbrev Inv-loop : tie.InvT-loop
 Inv-loop words known₀ heads₀ left₀ more₀ known heads left more =
@@ -26,7 +26,7 @@ loop-holds c =
     let p = c .before .pre in
     let ws = c .before .args .words .now in
     let none : length ws - length ws ≡ 0 = omega arith in
-    (p .0, rw none (passing-starts _ _ _ _ (p .0 .well-formed .words) (p .1 .1)), omega arith)
+    (p .0 .0, rw (none, p .0 .1) (passing-starts _ _ _ _ (p .0 .0 .well-formed .words) (p .1 .1)), omega arith)
 
 module _ (c : tie.In-loop Inv-loop μ-loop) where
   abbrev start : tie.Start Inv-loop μ-loop
@@ -118,11 +118,13 @@ loop-again c =
 
 returns : tie.Need-returns Inv-loop μ-loop
 returns c =
-    let inv = c .before .loop .inv .1 in
-    ((inv .size ∙ c .before .before .before .pre .1 .0, inv .kept), passing-ends inv (omega (arith, c .loop-test .left)))
+    let inv = c .before .loop .inv .1 in (
+      (inv .size ∙ c .before .before .before .pre .1 .0, inv .kept),
+      (passing-ends inv (omega (arith, c .loop-test .left)), passing-cached inv (omega (arith, c .loop-test .left))),
+    )
 
-pub pass-over-spec : {M : Type 1} → statement M
-pass-over-spec =
+pub pass-cells-spec : {M : Type 1} → statement M
+pass-cells-spec =
     tie.close
     (tie.spec
     Inv-loop
