@@ -1,7 +1,7 @@
 -- The answer to a question for each of its refusals, and if there is none. Assumes nothing.
-use Prim.Native.Nat.{ℕ, _+_, _*_, _≤_, _<_}
+use Prim.Native.Nat.{ℕ, _+_, _≤_, _<_}
 use mathlib.Core.Path.{_≡_, refl, sym, ap, subst, _∙_}
-use mathlib.Core.Bool.{Bool, true, false, cond}
+use mathlib.Core.Bool.{Bool, true, false}
 use mathlib.Core.List.{List, [], _∷_, _++_, append-assoc}
 use native.Mathlib.Omega.{arith}
 use lib.ListN.{length, getD, drop, take, replicate, length-append}
@@ -11,23 +11,20 @@ use Rattle.calculus.specs.declared.answer.Answer.{Answer}
 use Rattle.calculus.specs.declared.answer.Answer.the-variants as answer
 use Rattle.calculus.specs.Answer.{after}
 use Rattle.calculus.specs.Refusal.{buffer-too-short}
-use Rattle.calculus.specs.Row.{Row, cellsOf}
+use Rattle.calculus.specs.Row.{Row}
 use Rattle.calculus.specs.Domain.{rangeOver}
 use Rattle.calculus.specs.Model.{outcomeOf}
 use Rattle.calculus.specs.Eval.{Outcome, eval}
 use Rattle.calculus.specs.Kleene.{Junction}
 use Rattle.calculus.specs.Formula.{assignment, variables}
 use Rattle.instance.specs.declared.header.Header.{Header}
-use Rattle.instance.specs.Header.{arityOf, maxRelations, maxColumns, maxWords}
-use Rattle.instance.specs.Rows.{wordsOf, rowsFrom, rowsWellFormed}
+use Rattle.instance.specs.Header.{maxRelations, maxWords}
+use Rattle.instance.specs.Rows.{rowsFrom}
 use Rattle.instance.specs.Sound.{sound, rows}
 use Rattle.instance.specs.Run.{modelOf}
-use Rattle.instance.proofs.Rows.{row-parts}
-use Rattle.query.proofs.FewTerms.{few-terms}
 use Rattle.query.specs.Words.{nodeCount, wordAt, kindOf, rowStands, ranges}
 use Rattle.query.specs.Tree.{formulaOf}
 use Rattle.query.specs.Named.{namedIn, queryOf, HasTerms}
-use Rattle.calculus.specs.Reading.{refused}
 use Rattle.query.proofs.Passed.{few-cells, count-within, node-well-formed}
 use Rattle.instance.specs.RowCounts.{rowCounts}
 use Rattle.instance.proofs.RowCounts.{row-count-at, row-counts-size}
@@ -36,7 +33,6 @@ use Rattle.known.proofs.Walking.{no-flags, unpassed-all}
 use Rattle.known.proofs.Parts.{counts-front, arities-middle, front-size, layout-size, arities-kept, counts-kept, places-behind}
 use Rattle.range.specs.Walked.{walkedRange}
 use Rattle.range.proofs.Walked.{walked-range}
-use Rattle.calculus.proofs.Distinct.{distinct-le}
 use Rattle.answer.specs.declared.asked.Asked.{Asked}
 use Rattle.answer.specs.declared.asked.Asked.the-variants.{Refused}
 use Rattle.evaluate.specs.Within.{within}
@@ -50,48 +46,6 @@ use Rattle.answer.proofs.Ways.{outcome-by}
 use Rattle.answer.proofs.RerunLaws.{Asks, askable-done}
 use Rattle.calculus.specs.Overwrite.{overwrite}
 use Rattle.instance.proofs.Sound.{sound-gives}
-
--- a row takes one word and its cells
-words-cells : (rs : List Row) → length (wordsOf rs) ≡ length rs + length (cellsOf rs)
-unfolding wordsOf cellsOf
-words-cells [] = refl
-words-cells (r ∷ rs) =
-    let a = length-append (r .cells) (wordsOf rs) in
-    let b = length-append (r .cells) (cellsOf rs) in
-    omega (arith, a, b, words-cells rs)
-
-module _ (h : Header) (ws : List ℕ) (e : sound h ws ≡ true) where
-  -- the number of words in use is that of the rows plus that of their cells
-  pub cells-count : h .used ≡ length (rows h ws) + length (cellsOf (rows h ws))
-  cells-count =
-      let g = sound-gives h ws e in sym (g .in-use) ∙ ap length (sym (g .words)) ∙ words-cells (rows h ws)
-
--- a row has at most six cells
-cells-narrow :
-    (n : ℕ) (ars : List ℕ) (rs : List Row) → ((r : ℕ) → arityOf ars r ≤ maxColumns) → rowsWellFormed n ars rs ≡ true → length (cellsOf rs) ≤ 6 * length rs
-unfolding cellsOf
-cells-narrow n ars [] narrow e = omega arith
-cells-narrow n ars (r ∷ rs) narrow e =
-    let p = row-parts n ars r rs e in
-    omega (arith, length-append (r .cells) (cellsOf rs), p .1, narrow (r .relation), cells-narrow n ars rs narrow (p .3))
-
--- at most 3,510 cells and 303 inked terms
-pub need-few : (h : Header) (ws qs cs : List ℕ) (count : ℕ) → Admitted h ws qs cs count → length (needed h ws qs) ≤ maxWords
-need-few h ws qs cs count a =
-    let g = sound-gives h ws (a .is-sound) in
-    omega (
-      arith,
-      length-append (cellsOf (rows h ws)) (namedIn (h .arities) qs),
-      cells-count h ws (a .is-sound),
-      g .few,
-      cells-narrow (h .relations) (h .arities) (rows h ws) (g .headed .narrow) (g .rows-well-formed),
-      few-terms (h .relations) (h .arities) qs cs (a .right) (a .scopes) (a .passes) (g .headed .narrow),
-      count-within qs (a .right) .1,
-    )
-
-pub range-few :
-    (h : Header) (ws qs cs : List ℕ) (count : ℕ) → Admitted h ws qs cs count → length (rangeOver (namedIn (h .arities) qs) (rows h ws)) ≤ maxWords
-range-few h ws qs cs count a = omega (arith, distinct-le (needed h ws qs), need-few h ws qs cs count a)
 
 -- a question that is not admitted is refused by every way of asking
 pub admitted-refused :

@@ -29,7 +29,6 @@ use Rattle.query.proofs.Named.{named-constant}
 use Rattle.calculus.specs.Formula.{inkedQuery}
 use Rattle.query.specs.Scope.{Scopes}
 use Rattle.query.specs.Check.{passed, checkQuery}
-use Rattle.calculus.specs.Reading.{refused}
 use Rattle.query.proofs.Passed.{passed-inked, count-within, are-cells, same-candidate}
 use Rattle.answer.specs.declared.asked.Asked.the-variants.{Verdict, Refused}
 use Rattle.evaluate.specs.declared.evaluated.Evaluated.{Evaluated}

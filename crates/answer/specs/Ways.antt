@@ -9,7 +9,7 @@ use Rattle.instance.specs.declared.header.Header.{Header}
 use Rattle.answer.specs.declared.asked.Asked.the-variants.{Refused}
 use Rattle.answer.specs.declared.way.Way.{Way}
 use Rattle.answer.specs.declared.way.Way.the-variants.{Listed, Unlisted}
-use Rattle.answer.specs.Ask.{Lent, list, none, ask, askedBuffer}
+use Rattle.answer.specs.Ask.{Lent, list, none, mostNeeded, ask, askedBuffer}
 
 abbrev pub WaysAgree : Type 0
 WaysAgree =
@@ -17,8 +17,15 @@ WaysAgree =
     (ask h ws qs candidate (list buffer) budget ≡ Refused buffer-too-short → ⊥) →
     ask h ws qs candidate none budget ≡ ask h ws qs candidate (list buffer) budget
 
+-- what is always long enough: no list, and a list that no question exceeds
+abbrev pub Ample : Lent → Type 0
+Ample (list buffer) = mostNeeded ≤ length buffer
+Ample none = Unit
+
 abbrev pub NeverShort : Type 0
-NeverShort = (h : Header) (ws qs candidate : List ℕ) (budget : ℕ) → ask h ws qs candidate none budget ≡ Refused buffer-too-short → ⊥
+NeverShort =
+    (h : Header) (ws qs candidate : List ℕ) (lent : Lent) → Ample lent → (budget : ℕ) →
+    ask h ws qs candidate lent budget ≡ Refused buffer-too-short → ⊥
 
 -- the same way again, with no shorter list
 abbrev pub NoShorter : Lent → Lent → Type 0

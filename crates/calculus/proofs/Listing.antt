@@ -5,7 +5,8 @@ use mathlib.Core.Bool.{Bool, true, false, _||_, cond, false≢true, true≢false
 use mathlib.Core.List.{List, [], _∷_, _++_, append-nil, append-assoc}
 use borrow.Author.Tests.{eqb-true, eqb-false, eq-eqb, ne-eqb}
 use lib.Dec.{eqb}
-use Rattle.calculus.specs.Domain.{without, distinct, listing}
+use Rattle.calculus.specs.Row.{Row, cellsOf}
+use Rattle.calculus.specs.Domain.{without, distinct, listing, domain, rangeOver}
 use Rattle.calculus.specs.Listed.{listed}
 use Rattle.calculus.proofs.Distinct.{without-skip, without-keep, without-comm, without-again}
 
@@ -91,3 +92,9 @@ listing-adds vs (c ∷ cs) = go (listed c vs) refl (λ us. listing-adds us cs)
 pub listing-distinct : (cs : List ℕ) → listing [] cs ≡ distinct cs
 unfolding withoutAll
 listing-distinct cs = listing-adds [] cs
+
+-- the range is the active domain, and then the named values that are not in it
+pub range-listing : (named : List ℕ) (rs : List Row) → rangeOver named rs ≡ listing (domain rs) named
+range-listing named rs =
+    sym (listing-distinct (cellsOf rs ++ named)) ∙ listing-append [] (cellsOf rs) named ∙
+    ap (λ (vs : List ℕ). listing vs named) (listing-distinct (cellsOf rs))

@@ -26,6 +26,7 @@ listing vs (c ∷ cs) = listing (cond (listed c vs) vs (vs ++ c ∷ [])) cs
 abbrev pub domain : List Row → List ℕ
 domain rs = distinct (cellsOf rs)
 
--- Document 02, request 6: ""Some" and "every" now range over the plot's values and then the question's own inked terms, by node and word, each value once."
+-- Document 02, request 6: "range over the plot's values and then the question's own inked terms, by node and word, each
+-- value once". `proofs/Listing.antt`, `range-listing`: the plot's values, and then the terms that are not among them.
 abbrev pub rangeOver : List ℕ → List Row → List ℕ
 rangeOver named rs = distinct (cellsOf rs ++ named)

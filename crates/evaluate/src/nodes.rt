@@ -44,12 +44,22 @@ fn rows_of(known: &[u32; 170], relation: usize) -> u32
     known[relation]
 }
 
-// Gives a variable the value `cell`.
-fn assign(env: &mut [u32; 16], variable: usize, cell: u32)
-    requires { ⌜ (variable < variables) × (length (now env) ≡ variables) ⌝ }
-    ensures { λ _. ⌜ now (env .exit) ≡ set (now (env .entry)) variable cell ⌝ }
+// Gives the variable of a quantifier the value `cell`.
+fn assign(query: &[u32], node: usize, env: &mut [u32; 16], cell: u32)
+    requires { ⌜ (node < nodeCount (now query)) × (wordAt (now query) node 1 < variables) × (length (now env) ≡ variables) ⌝ }
+    ensures { λ _. ⌜ now (env .exit) ≡ set (now (env .entry)) (wordAt (now (query .entry)) node 1) cell ⌝ }
 {
+    let variable = word(query, node, 1);
     env[variable] = cell;
+}
+
+// The value of the variable of a quantifier.
+fn assigned(query: &[u32], node: usize, env: &[u32; 16]) -> u32
+    requires { ⌜ (node < nodeCount (now query)) × (wordAt (now query) node 1 < variables) × (length (now env) ≡ variables) ⌝ }
+    ensures { λ r. ⌜ r ≡ getD (now (env .entry)) (wordAt (now (query .entry)) node 1) 0 ⌝ }
+{
+    let variable = word(query, node, 1);
+    env[variable]
 }
 
 // Evaluates an atom. No more rows are examined than the budget covers besides the atom itself.
@@ -217,9 +227,7 @@ fn walk(
     ensures right { λ r. ⌜ Right (aritiesIn (now (known .entry))) (now (words .entry)) (now (query .entry)) node (now (env .entry)) budget r ⌝ }
 {
     let places = places_in(known) as usize;
-    let variable = word(query, node, 1);
-    let child = word(query, node, 2);
-    let old = env[variable];
+    let old = assigned(query, node, env);
     let mut truth = unit(every);
     let mut cost: u32 = 0;
     let mut i = 0;
@@ -227,29 +235,29 @@ fn walk(
         if passed(known, i) {
             i += gap(known, i);
         } else {
-            assign(env, variable, value_at(values, query, i));
+            assign(query, node, env, value_at(values, query, i));
             let Evaluated::Verdict(one, paid) = evaluate(
                 query,
-                child,
+                word(query, node, 2),
                 env,
                 budget - cost,
                 values,
                 words,
                 known,
             ) else {
-                assign(env, variable, old);
+                assign(query, node, env, old);
                 return Evaluated::Spent;
             };
             cost += paid;
             truth = join(every, truth, one);
             if settles(every, one) {
-                assign(env, variable, old);
+                assign(query, node, env, old);
                 return Evaluated::Verdict(truth, cost);
             }
             i += 1;
         }
     }
-    assign(env, variable, old);
+    assign(query, node, env, old);
     Evaluated::Verdict(truth, cost)
 }
 

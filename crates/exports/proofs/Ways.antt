@@ -37,8 +37,8 @@ exported-ways-agree hs ws qs candidate buffer budget truth cost not-short =
 
 pub exported-never-short : ExportedNeverShort
 unfolding askAnswer
-exported-never-short hs ws qs candidate budget short = go (eqb (length hs) headerLength) short
+exported-never-short hs ws qs candidate lent ample budget short = go (eqb (length hs) headerLength) short
   where
-    go : (b : Bool) → askedNumber (cond b (ask (headerOf hs) ws qs candidate none budget) (Refused unsound)) ≡ buffer-too-short → ⊥
-    go true e = never-short (headerOf hs) ws qs candidate budget (short-by (ask (headerOf hs) ws qs candidate none budget) e)
+    go : (b : Bool) → askedNumber (cond b (ask (headerOf hs) ws qs candidate lent budget) (Refused unsound)) ≡ buffer-too-short → ⊥
+    go true e = never-short (headerOf hs) ws qs candidate lent ample budget (short-by (ask (headerOf hs) ws qs candidate lent budget) e)
     go false e = omega (arith, e)

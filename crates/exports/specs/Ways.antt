@@ -1,10 +1,11 @@
--- The two calls for a question, as C sees them: `plotask_ask_unlisted` returns and stores what `plotask_ask` does, unless that returns 45; and it never
--- returns 45 itself.
+-- The two calls for a question, as C sees them: `plotask_ask_unlisted` returns and stores what `plotask_ask` does, unless
+-- that returns 45. The one never returns 45, and the other not with a list of 3,810 words (PLOTASK_LIST_WORDS).
 use Prim.Native.Nat.{ℕ}
 use mathlib.Core.Path.{_≡_}
 use mathlib.Core.List.{List}
 use Rattle.calculus.specs.Refusal.{buffer-too-short}
-use Rattle.answer.specs.Ask.{list, none}
+use Rattle.answer.specs.Ask.{Lent, list, none}
+use Rattle.answer.specs.Ways.{Ample}
 use Rattle.answer.specs.Numbers.{askedNumber, verdictOf, costOf}
 use Rattle.exports.specs.Calls.{askAnswer}
 
@@ -22,4 +23,6 @@ ExportedWaysAgree =
     SameSeen hs ws qs candidate buffer budget truth cost
 
 abbrev pub ExportedNeverShort : Type 0
-ExportedNeverShort = (hs ws qs candidate : List ℕ) (budget : ℕ) → askedNumber (askAnswer hs ws qs candidate none budget) ≡ buffer-too-short → ⊥
+ExportedNeverShort =
+    (hs ws qs candidate : List ℕ) (lent : Lent) → Ample lent → (budget : ℕ) →
+    askedNumber (askAnswer hs ws qs candidate lent budget) ≡ buffer-too-short → ⊥

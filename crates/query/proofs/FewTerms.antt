@@ -1,26 +1,25 @@
--- A question that passed has at most three inked terms for each node, and three more: every node but the top takes one of its parent's places for children,
--- and a node has either children or terms. Assumes nothing.
+-- A question that passed has at most 300 inked terms: only a node without a child has terms, at most six, and of 100 nodes at most 50 have no child, since
+-- every node but the top is the child of one other. Assumes nothing.
 use Prim.Native.Nat.{ℕ, zero, suc, _+_, _-_, _*_, _≤_, _<_}
-use mathlib.Core.Path.{_≡_, refl, sym, ap, _∙_}
+use mathlib.Core.Path.{_≡_, refl}
 use mathlib.Core.Bool.{Bool, true, false, _&&_}
-use mathlib.Core.List.{List, [], _∷_, _++_}
+use mathlib.Core.List.{List, [], _∷_}
 use native.Mathlib.Nat.{le-of-suc-le-suc}
 use native.Mathlib.Omega.{arith}
 use borrow.Author.Tests.{ltb-true, eqb-true, eqb-false}
-use lib.ListN.{length, length-append, getD, set, replicate}
-use lib.Dec.{ltb, leb, eqb}
+use lib.ListN.{length, getD, set}
+use lib.Dec.{ltb, eqb}
 use Rattle.calculus.proofs.Bools.{and-parts}
 use Rattle.calculus.specs.Formula.{variables}
 use Rattle.instance.specs.Header.{arityOf, maxColumns}
-use Rattle.instance.specs.Rows.{areCells}
 use Rattle.query.specs.Words.{Kind, rowStands, equals, negates, noKind, joins, ranges, kindOf, wordAt, nodeCount, maxNodes, rightLength}
-use Rattle.query.specs.Named.{inkedAt, namedBy, namedFrom, namedIn}
+use Rattle.query.specs.Named.{namedIn, maxTerms}
 use Rattle.query.specs.Scope.{Scopes, naming, binding, atTheTop}
 use Rattle.query.specs.Answers.{Long}
-use Rattle.query.specs.Check.{passed, restIsZero, isChild, checkTerms, checkChild, checkBy, checkNode, checkNodes, checkQuery}
-use Rattle.query.proofs.Parts.{terms-passed, NamedIn, child-passed, node-passed, nodes-passed}
+use Rattle.query.specs.Check.{passed, restIsZero, isChild, checkChild, checkBy, checkNode, checkNodes, checkQuery}
+use Rattle.query.proofs.Parts.{terms-passed, child-passed, node-passed, nodes-passed}
 use Rattle.calculus.proofs.Reading.{demand-read, then-read, refused-read}
-use Rattle.query.proofs.Named.{inked-few}
+use Rattle.query.proofs.Named.{leafCount, leavesFrom, from-few}
 use Rattle.query.proofs.Passed.{parts, count-within}
 
 -- ---- sums
@@ -50,6 +49,15 @@ childCount negates = 1
 childCount (joins j) = 2
 childCount (ranges j) = 1
 childCount noKind = 0
+
+kind-leaves : (k : Kind) → 2 * leafCount k + childCount k ≤ 2
+unfolding leafCount childCount
+kind-leaves rowStands = omega arith
+kind-leaves equals = omega arith
+kind-leaves negates = omega arith
+kind-leaves (joins j) = omega arith
+kind-leaves (ranges j) = omega arith
+kind-leaves noKind = omega arith
 
 passed-same : {s t : Scopes} → passed s ≡ passed t → t ≡ s
 passed-same e = cc
@@ -92,32 +100,15 @@ module _ (n : ℕ) (ars qs : List ℕ) (few : nodeCount qs ≤ maxNodes) where
       omega (arith, child-sum (nodeCount qs) few (binding mask (wordAt qs i 1)) i (wordAt qs i 2) s t l (p .1))
   by-sum i mask s t l noKind e = refused-read e
 
-  module _ (narrow : (r : ℕ) → arityOf ars r ≤ maxColumns) where
-    -- a node has six places, for terms or, three each, for children
-    by-places : (i : ℕ) (k : Kind) → length (namedBy ars qs i k) + 3 * childCount k ≤ 6
-    unfolding childCount
-    by-places i rowStands = omega (arith, inked-few qs i 2 (arityOf ars (wordAt qs i 1)), narrow (wordAt qs i 1))
-    by-places i equals = omega (arith, inked-few qs i 1 2)
-    by-places i negates = omega arith
-    by-places i (joins j) = omega arith
-    by-places i (ranges j) = omega arith
-    by-places i noKind = omega arith
-
-    nodes-places : (i k : ℕ) (s t : Scopes) → Long s → checkNodes n ars qs i k s ≡ passed t → length (namedFrom ars qs i k) + 3 * sum (t .named) ≤ 6 * k + 3 * sum (s .named)
-    unfolding checkNodes namedFrom checkNode
-    nodes-places i zero s t l e = rw (passed-same e) (omega arith)
-    nodes-places i (suc k) s t l e =
-        let b = then-read (checkNode n ars qs i s) (λ first. checkNodes n ars qs (suc i) k) e in
-        let p = node-passed n ars qs few s l i (b .first) in
-        let here = by-sum i (getD (s .masks) i 0) s (b .state) l (kindOf (wordAt qs i 0)) (demand-read (eqb (getD (s .named) i 0) 1) _ _ (b .first) .1) in
-        let later = nodes-places (suc i) k (b .state) t (p .1 .long) (b .second) in
-        omega (
-          arith,
-          here,
-          later,
-          by-places i (kindOf (wordAt qs i 0)),
-          length-append (namedBy ars qs i (kindOf (wordAt qs i 0))) (namedFrom ars qs (suc i) k),
-        )
+  -- a node without a child stands against two children that another may have
+  nodes-leaves : (i k : ℕ) (s t : Scopes) → Long s → checkNodes n ars qs i k s ≡ passed t → 2 * leavesFrom qs i k + sum (t .named) ≤ 2 * k + sum (s .named)
+  unfolding checkNodes checkNode leavesFrom
+  nodes-leaves i zero s t l e = rw (passed-same e) (omega arith)
+  nodes-leaves i (suc k) s t l e =
+      let b = then-read (checkNode n ars qs i s) (λ first. checkNodes n ars qs (suc i) k) e in
+      let p = node-passed n ars qs few s l i (b .first) in
+      let here = by-sum i (getD (s .masks) i 0) s (b .state) l (kindOf (wordAt qs i 0)) (demand-read (eqb (getD (s .named) i 0) 1) _ _ (b .first) .1) in
+      omega (arith, here, nodes-leaves (suc i) k (b .state) t (p .1 .long) (b .second), kind-leaves (kindOf (wordAt qs i 0)))
 
   -- every node is named at the end
   all-named : (i k : ℕ) (s t : Scopes) → Long s → checkNodes n ars qs i k s ≡ passed t → (j : ℕ) → i ≤ j → j < i + k → getD (t .named) j 0 ≡ 1
@@ -141,12 +132,13 @@ top-sum : (k : ℕ) → sum (atTheTop k .named) ≡ 1
 unfolding sum
 top-sum k = refl
 
-module _ (n : ℕ) (ars qs cs : List ℕ) (right : rightLength qs ≡ true) (s : Scopes) (e : checkQuery n ars qs cs ≡ passed s) (narrow : (r : ℕ) → arityOf ars r ≤ maxColumns) where
-  -- 303 for 100 nodes
-  pub few-terms : length (namedIn ars qs) ≤ 3 * nodeCount qs + 3
-  few-terms =
-      let few = count-within qs right .1 in
-      let nodes = parts n ars qs cs right s e .2 in
-      let places = nodes-places n ars qs few narrow 0 (nodeCount qs) (atTheTop (length cs)) s (top-long (length cs)) nodes in
-      let named = sum-ones (nodeCount qs) (s .named) (λ j l. all-named n ars qs few 0 (nodeCount qs) (atTheTop (length cs)) s (top-long (length cs)) nodes j (omega arith) (omega arith)) in
-      omega (arith, places, named, top-sum (length cs))
+pub few-terms :
+    (n : ℕ) (ars qs cs : List ℕ) → rightLength qs ≡ true → (s : Scopes) → checkQuery n ars qs cs ≡ passed s → ((r : ℕ) → arityOf ars r ≤ maxColumns) →
+    length (namedIn ars qs) ≤ maxTerms
+few-terms n ars qs cs right s e narrow =
+    let few = count-within qs right .1 in
+    let nodes = parts n ars qs cs right s e .2 in
+    let top = top-long (length cs) in
+    let leaves = nodes-leaves n ars qs few 0 (nodeCount qs) (atTheTop (length cs)) s top nodes in
+    let named = sum-ones (nodeCount qs) (s .named) (λ j l. all-named n ars qs few 0 (nodeCount qs) (atTheTop (length cs)) s top nodes j (omega arith) (omega arith)) in
+    omega (arith, leaves, named, top-sum (length cs), from-few ars qs narrow 0 (nodeCount qs))

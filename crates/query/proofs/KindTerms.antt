@@ -1,6 +1,6 @@
 -- The words of a node's terms, and the constants among them. Assumes nothing.
 use Prim.Native.Nat.{ℕ, zero, suc, _+_, _-_, _*_, _≤_, _<_}
-use mathlib.Core.Path.{_≡_, refl, sym, ap, _∙_}
+use mathlib.Core.Path.{_≡_, refl, ap, _∙_}
 use mathlib.Core.Bool.{Bool, true, false, cond}
 use mathlib.Core.List.{List, [], _∷_, _++_}
 use native.Mathlib.Numerals.{add-one}
@@ -24,29 +24,18 @@ pub kind-two : (w : ℕ) → w ≡ 2 → kindOf w ≡ equals
 unfolding kindOf
 kind-two w e = rw e
 
-pub first-other : (w : ℕ) → (w ≡ 1 → ⊥) → firstTerm (kindOf w) ≡ 1
+pub other-kind :
+    (ars qs : List ℕ) (i w : ℕ) → (w ≡ 1 → ⊥) → (firstTerm (kindOf w) ≡ 1) × ((w ≡ 2 → ⊥) → termCount ars qs i (kindOf w) ≡ 0)
 unfolding kindOf
-first-other zero n = refl
-first-other (suc zero) n = absurd (n refl)
-first-other (suc (suc zero)) n = refl
-first-other (suc (suc (suc zero))) n = refl
-first-other (suc (suc (suc (suc zero)))) n = refl
-first-other (suc (suc (suc (suc (suc zero))))) n = refl
-first-other (suc (suc (suc (suc (suc (suc zero)))))) n = refl
-first-other (suc (suc (suc (suc (suc (suc (suc zero))))))) n = refl
-first-other (suc (suc (suc (suc (suc (suc (suc (suc w)))))))) n = refl
-
-pub count-other : (ars qs : List ℕ) (i w : ℕ) → (w ≡ 1 → ⊥) → (w ≡ 2 → ⊥) → termCount ars qs i (kindOf w) ≡ 0
-unfolding kindOf
-count-other ars qs i zero n m = refl
-count-other ars qs i (suc zero) n m = absurd (n refl)
-count-other ars qs i (suc (suc zero)) n m = absurd (m refl)
-count-other ars qs i (suc (suc (suc zero))) n m = refl
-count-other ars qs i (suc (suc (suc (suc zero)))) n m = refl
-count-other ars qs i (suc (suc (suc (suc (suc zero))))) n m = refl
-count-other ars qs i (suc (suc (suc (suc (suc (suc zero)))))) n m = refl
-count-other ars qs i (suc (suc (suc (suc (suc (suc (suc zero))))))) n m = refl
-count-other ars qs i (suc (suc (suc (suc (suc (suc (suc (suc w)))))))) n m = refl
+other-kind ars qs i zero n = (refl, λ m. refl)
+other-kind ars qs i (suc zero) n = absurd (n refl)
+other-kind ars qs i (suc (suc zero)) n = (refl, λ m. absurd (m refl))
+other-kind ars qs i (suc (suc (suc zero))) n = (refl, λ m. refl)
+other-kind ars qs i (suc (suc (suc (suc zero)))) n = (refl, λ m. refl)
+other-kind ars qs i (suc (suc (suc (suc (suc zero))))) n = (refl, λ m. refl)
+other-kind ars qs i (suc (suc (suc (suc (suc (suc zero)))))) n = (refl, λ m. refl)
+other-kind ars qs i (suc (suc (suc (suc (suc (suc (suc zero))))))) n = (refl, λ m. refl)
+other-kind ars qs i (suc (suc (suc (suc (suc (suc (suc (suc w)))))))) n = (refl, λ m. refl)
 
 -- the constants among words, one word more
 pub among-rest : (ws : List ℕ) (i : ℕ) → i < length ws → constantsAmong (drop i ws) ≡ cond (isConstant (getD ws i 0)) (getD ws i 0 ∷ constantsAmong (drop (i + 1) ws)) (constantsAmong (drop (i + 1) ws))

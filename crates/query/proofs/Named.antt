@@ -1,4 +1,5 @@
--- The constants that a question names: each is an inked value, there are no more than words, and every constant of the formula is among them.
+-- The constants that a question names: each is an inked value, there are at most six for each node without a child, and every constant of the formula is
+-- among them.
 -- Assumes nothing.
 use Prim.Native.Nat.{ℕ, zero, suc, _+_, _*_, _-_, _≤_, _<_}
 use mathlib.Core.Path.{_≡_, refl, sym, ap, _∙_}
@@ -6,16 +7,16 @@ use mathlib.Core.Bool.{Bool, true, false, _&&_, _||_, cond}
 use mathlib.Core.List.{List, [], _∷_, _++_, append-nil}
 use native.Mathlib.Nat.{add-zero}
 use native.Mathlib.Omega.{arith}
-use borrow.Author.Tests.{le-leb, lt-leb, leb-true, leb-false, eqb-true, eqb-false}
+use borrow.Author.Tests.{eqb-true, eqb-false}
 use lib.ListN.{length, length-append}
 use lib.Dec.{leb, ltb, eqb}
-use Rattle.calculus.proofs.Bools.{false-not-true, and-parts, and-intro}
+use Rattle.calculus.proofs.Bools.{false-not-true, and-intro}
 use Rattle.calculus.specs.All.{all}
 use Rattle.calculus.proofs.All.{all-append}
 use Rattle.calculus.proofs.Listed.{listed-here, listed-later, listed-left, listed-right, listed-append, listed-cases}
-use Rattle.calculus.specs.Cell.{isConstant, allConstant, constants}
+use Rattle.calculus.specs.Cell.{isConstant, allConstant}
 use Rattle.calculus.specs.Listed.{listed}
-use Rattle.calculus.specs.Formula.{Term, const, var, Formula, constantIn, constantsIn, constantsOf, variables}
+use Rattle.calculus.specs.Formula.{const, var, Formula, constantIn, constantsIn, constantsOf, variables}
 use Rattle.instance.specs.Header.{arityOf, maxColumns}
 use Rattle.query.specs.Words.{Kind, rowStands, equals, negates, noKind, joins, ranges, kindOf, wordAt, nodeCount}
 use Rattle.query.specs.Tree.{variableBase, termOf, termsAt, formulaBy, formulaAt, formulaOf}
@@ -44,11 +45,39 @@ inked-few qs i j (suc k) = go (isConstant (wordAt qs i j)) (inked-few qs i (suc 
     go true l = omega arith
     go false l = omega arith
 
+-- a node that has terms and no child
+unfoldable pub leafCount : Kind → ℕ
+leafCount rowStands = 1
+leafCount equals = 1
+leafCount negates = 0
+leafCount (joins j) = 0
+leafCount (ranges j) = 0
+leafCount noKind = 0
+
+-- how many of k nodes from node i have no child
+unfoldable pub leavesFrom : List ℕ → ℕ → ℕ → ℕ
+leavesFrom qs i zero = 0
+leavesFrom qs i (suc k) = leafCount (kindOf (wordAt qs i 0)) + leavesFrom qs (suc i) k
+
+leaf-few : (k : Kind) → leafCount k ≤ 1
+unfolding leafCount
+leaf-few rowStands = omega arith
+leaf-few equals = omega arith
+leaf-few negates = omega arith
+leaf-few (joins j) = omega arith
+leaf-few (ranges j) = omega arith
+leaf-few noKind = omega arith
+
+leaves-few : (qs : List ℕ) (i k : ℕ) → leavesFrom qs i k ≤ k
+unfolding leavesFrom
+leaves-few qs i zero = omega arith
+leaves-few qs i (suc k) = omega (arith, leaf-few (kindOf (wordAt qs i 0)), leaves-few qs (suc i) k)
+
 module _ (ars qs : List ℕ) where
   by-constant : (i : ℕ) (k : Kind) → allConstant (namedBy ars qs i k) ≡ true
   unfolding all
-  by-constant i rowStands = inked-constant qs i 2 (arityOf ars (wordAt qs i 1))
-  by-constant i equals = inked-constant qs i 1 2
+  by-constant i rowStands = inked-constant qs i _ _
+  by-constant i equals = inked-constant qs i _ _
   by-constant i negates = refl
   by-constant i (joins j) = refl
   by-constant i (ranges j) = refl
@@ -63,7 +92,8 @@ module _ (ars qs : List ℕ) where
   named-constant = from-constant 0 (nodeCount qs)
 
   module _ (narrow : (r : ℕ) → arityOf ars r ≤ maxColumns) where
-    by-few : (i : ℕ) (k : Kind) → length (namedBy ars qs i k) ≤ maxColumns
+    by-few : (i : ℕ) (k : Kind) → length (namedBy ars qs i k) ≤ maxColumns * leafCount k
+    unfolding leafCount
     by-few i rowStands = omega (arith, inked-few qs i 2 (arityOf ars (wordAt qs i 1)), narrow (wordAt qs i 1))
     by-few i equals = omega (arith, inked-few qs i 1 2)
     by-few i negates = omega arith
@@ -71,15 +101,16 @@ module _ (ars qs : List ℕ) where
     by-few i (ranges j) = omega arith
     by-few i noKind = omega arith
 
-    from-few : (i k : ℕ) → length (namedFrom ars qs i k) ≤ k * maxColumns
-    unfolding namedFrom
+    pub from-few : (i k : ℕ) → length (namedFrom ars qs i k) ≤ maxColumns * leavesFrom qs i k
+    unfolding namedFrom leavesFrom
     from-few i zero = omega arith
     from-few i (suc k) =
-        omega (arith, length-append (namedBy ars qs i (kindOf (wordAt qs i 0))) (namedFrom ars qs (suc i) k), by-few i (kindOf (wordAt qs i 0)), from-few (suc i) k)
+        let kind = kindOf (wordAt qs i 0) in
+        omega (arith, length-append (namedBy ars qs i kind) (namedFrom ars qs (suc i) k), by-few i kind, from-few (suc i) k)
 
     -- six for each node at most
     pub named-few : length (namedIn ars qs) ≤ nodeCount qs * maxColumns
-    named-few = from-few 0 (nodeCount qs)
+    named-few = omega (arith, from-few 0 (nodeCount qs), leaves-few qs 0 (nodeCount qs))
 
 -- ---- every constant of the formula is named
 

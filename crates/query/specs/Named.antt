@@ -32,6 +32,10 @@ namedFrom ars qs i (suc k) = namedBy ars qs i (kindOf (wordAt qs i 0)) ++ namedF
 abbrev pub namedIn : List ℕ → List ℕ → List ℕ
 namedIn ars qs = namedFrom ars qs 0 (nodeCount qs)
 
+-- Of 100 nodes at most 50 have no child, and these alone have terms, at most six (`proofs/FewTerms.antt`, `few-terms`).
+abbrev pub maxTerms : ℕ
+maxTerms = 300
+
 -- what a question's words stand for
 abbrev pub queryOf : List ℕ → List ℕ → Query
 queryOf ars qs = record { formula = formulaOf ars qs; named = namedIn ars qs }

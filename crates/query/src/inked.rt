@@ -1,6 +1,6 @@
 // The inked terms of a question, by node and word.
 ghost use mathlib.Core.Path.{_≡_};
-ghost use Prim.Native.Nat.{_<_, _≤_, _+_, _*_};
+ghost use Prim.Native.Nat.{_<_, _+_, _*_};
 ghost use lib.ListN.{length};
 ghost use Rattle.query.specs.Words.{nodeCount, nodeWords, wordAt, kindOf};
 ghost use Rattle.query.specs.Named.{firstTerm, termCount, constantsAmong, namedIn, HasTerms};

@@ -2,19 +2,18 @@
 use Prim.Native.Nat.{ℕ, zero, suc, _+_, _-_, _≤_, _<_}
 use mathlib.Core.Path.{_≡_, refl, sym, ap, _∙_}
 use mathlib.Core.Bool.{Bool, true, false, _&&_, _||_, not, cond}
-use mathlib.Core.List.{List, [], _∷_, _++_, append-nil, append-assoc}
-use native.Mathlib.Numerals.{add-one}
+use mathlib.Core.List.{List, [], _∷_, _++_, append-nil}
 use native.Mathlib.Omega.{arith}
 use borrow.Author.Tests.{lt-ltb, leb-true, leb-false, ltb-true, ltb-false}
 use lib.Dec.{leb, ltb}
-use lib.ListN.{length, getD, take, drop, length-append, length-take}
+use lib.ListN.{length, getD, take, drop, length-append}
 use lib.Seq.{take-suc, take-all, take-length, take-append-add, getD-append-add, getD-take, getD-drop, length-take-le}
 use Rattle.calculus.specs.Cell.{isConstant}
 use Rattle.calculus.specs.Domain.{listing}
 use Rattle.calculus.specs.Listed.{listed}
 use Rattle.calculus.proofs.Listed.{listed-append}
 use Rattle.calculus.proofs.Listing.{listing-append}
-use Rattle.known.specs.Known.{flagsFrom, flagAt, unpassed}
+use Rattle.known.specs.Known.{flagAt, unpassed}
 use Rattle.query.specs.Named.{constantsAmong}
 use Rattle.query.proofs.KindTerms.{among-append}
 use Rattle.instance.specs.Header.{arityOf}

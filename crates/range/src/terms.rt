@@ -1,21 +1,18 @@
 // Passing over each word of the question that is no inked term, and each inked term that stood earlier, in the instance or in the question.
 ghost use mathlib.Core.Path.{_≡_};
-ghost use mathlib.Core.Bool.{true, false, _&&_, not};
+ghost use mathlib.Core.Bool.{false, _&&_, not};
 ghost use mathlib.Core.List.{_++_};
 ghost use Prim.Native.Nat.{ℕ, _+_, _-_, _*_, _≤_, _<_};
 ghost use lib.Dec.{leb, ltb};
 ghost use lib.ListN.{length, take, drop, getD};
 ghost use Rattle.calculus.specs.Cell.{isConstant};
-ghost use Rattle.calculus.specs.Domain.{listing};
 ghost use Rattle.calculus.specs.Listed.{listed};
-ghost use Rattle.instance.specs.Header.{maxWords};
 ghost use Rattle.instance.specs.InstanceWellFormed.{InstanceOf};
 ghost use Rattle.instance.specs.Rows.{rowsFrom};
 ghost use Rattle.known.specs.Known.{knownWords, flagsFrom, aritiesIn, flagAt, unpassed};
 ghost use Rattle.query.specs.Words.{nodeWords};
 ghost use Rattle.query.specs.Named.{constantsAmong, namedIn, HasTerms};
-ghost use Rattle.range.specs.Cache.{Cached};
-ghost use Rattle.range.specs.Flagged.{Flagged, stoodBefore, Asking, Passed};
+ghost use Rattle.range.specs.Flagged.{stoodBefore, Asking, Passed};
 ghost use Rattle.range.specs.Walked.{walkedRange};
 use super::pass::pass;
 use super::pass::pass_cells;

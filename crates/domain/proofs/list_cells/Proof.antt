@@ -1,10 +1,9 @@
 -- `domain::list_cells` meets its contract: the first n words of the buffer are chained, and hold the values of the rows before i. Assumes nothing.
 use Prim.Native.Nat.{ℕ, _≤_, _<_, _-_, _+_}
-use mathlib.Core.Path.{_≡_, sym, ap, _∙_}
-use mathlib.Core.List.{List, [], _++_, _∷_}
+use mathlib.Core.Path.{_≡_}
+use mathlib.Core.List.{List, [], _∷_}
 use native.Mathlib.Omega.{arith}
-use lib.ListN.{length, take, drop, getD, length-map}
-use lib.Seq.{length-take-le, length-front}
+use lib.ListN.{length, take, drop, getD}
 use Rattle.calculus.specs.Row.{Row, cellsOf}
 use Rattle.instance.specs.Header.{arityOf, maxRelations}
 use Rattle.instance.specs.InstanceWellFormed.{InstanceOf}

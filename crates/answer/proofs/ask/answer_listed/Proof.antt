@@ -10,7 +10,8 @@ use Rattle.instance.specs.Header.{maxRelations, maxWords}
 use Rattle.instance.specs.Sound.{rows}
 use Rattle.instance.proofs.Sound.{Sound, sound-gives}
 use Rattle.answer.specs.Admitted.{Admitted}
-use Rattle.answer.proofs.AskLaws.{Described, described, described-unflagged, evaluable, listed-ranged, evaluated-top, described-places, range-few}
+use Rattle.answer.proofs.AskLaws.{Described, described, described-unflagged, evaluable, listed-ranged, evaluated-top, described-places}
+use Rattle.answer.proofs.Need.{range-few}
 use Rattle.answer.proofs.ask.answer_listed.Statement.{statement}
 use Rattle.answer.proofs.ask.answer_listed.Tie as tie
 

@@ -26,7 +26,8 @@ use Rattle.answer.specs.declared.asked.Asked.{Asked}
 use Rattle.answer.specs.declared.asked.Asked.the-variants.{Refused}
 use Rattle.answer.proofs.RerunLaws.{Asks}
 use Rattle.answer.proofs.Admitted.{admitted-done}
-use Rattle.answer.proofs.AskLaws.{admitted-refused, refused-asked, refused-buffer, evaluated-asked, evaluated-buffer, short-list, long-list, cells-count, need-few, has-terms}
+use Rattle.answer.proofs.AskLaws.{admitted-refused, refused-asked, refused-buffer, evaluated-asked, evaluated-buffer, short-list, long-list, has-terms}
+use Rattle.answer.proofs.Need.{cells-count, need-few}
 use Rattle.answer.proofs.AskLaws.{listed-part}
 use Rattle.answer.proofs.Told.{ask-told}
 use Rattle.answer.proofs.ask.ask.Statement.{statement}
@@ -186,7 +187,7 @@ list-range-requires c κs =
     let t = c .before .before .before in
     let f = first t in
     let b = at f in
-    ((lent f, has-terms (h b) (ws b) (qs b) (cs b) (count f) (passes f) (eight f)), (long t, need-few (h b) (ws b) (qs b) (cs b) (count f) (passes f)))
+    ((lent f, has-terms (h b) (ws b) (qs b) (cs b) (count f) (passes f) (eight f)), (long t, omega (arith, need-few (h b) (ws b) (qs b) (cs b) (count f) (passes f))))
 
 slice-reshare-prefix-answer-listed : tie.Need-slice-reshare-prefix-answer-listed
 slice-reshare-prefix-answer-listed c = are-listed (c .before) .0

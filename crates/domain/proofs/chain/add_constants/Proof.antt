@@ -1,10 +1,8 @@
 -- `domain::chain::add_constants` meets its contract: the constants before index i are added. Assumes nothing.
-use Prim.Native.Nat.{ℕ, _+_, _-_, _≤_, _<_}
-use mathlib.Core.Path.{_≡_, ap, _∙_, refl, sym}
+use Prim.Native.Nat.{_+_, _-_, _≤_}
 use mathlib.Core.Logic.{⊎-elim}
-use mathlib.Core.List.{List, [], _∷_, _++_}
 use native.Mathlib.Omega.{arith}
-use lib.ListN.{length, take, drop, getD}
+use lib.ListN.{length, take}
 use lib.Seq.{take-all}
 use Rattle.query.specs.Named.{constantsAmong}
 use Rattle.query.proofs.KindTerms.{among-here}

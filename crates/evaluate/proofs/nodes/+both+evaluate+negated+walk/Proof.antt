@@ -34,6 +34,7 @@ use Rattle.evaluate.proofs.nodes.value_at.Reads as value-at-reads
 use Rattle.known.proofs.flags.gap.Reads as gap-reads
 use Rattle.known.proofs.flags.passed.Reads as passed-reads
 use Rattle.evaluate.proofs.nodes.assign.Reads as assign-reads
+use Rattle.evaluate.proofs.nodes.assigned.Reads as assigned-reads
 use Rattle.evaluate.proofs.nodes.atom.Reads as atom-reads
 use Rattle.evaluate.proofs.nodes.equality.Reads as equality-reads
 use Rattle.evaluate.proofs.nodes.join.Reads as join-reads
@@ -92,7 +93,7 @@ abbrev negated-claims : ℕ → negated-lts.Claims
 negated-claims t = (word-reads.Asked, word-reads.Learnt, evaluate-below t, evaluate.Post, not-reads.Asked, not-reads.Learnt)
 
 abbrev walk-claims : ℕ → walk-lts.Claims
-walk-claims t = (places-in-reads.Asked, places-in-reads.Learnt, word-reads.Asked, word-reads.Learnt, unit-reads.Asked, unit-reads.Learnt, passed-reads.Asked, passed-reads.Learnt, gap-reads.Asked, gap-reads.Learnt, value-at-reads.Asked, value-at-reads.Learnt, assign-reads.Asked, assign-reads.Learnt, evaluate-below t, evaluate.Post, join-reads.Asked, join-reads.Learnt, settles-reads.Asked, settles-reads.Learnt)
+walk-claims t = (places-in-reads.Asked, places-in-reads.Learnt, assigned-reads.Asked, assigned-reads.Learnt, unit-reads.Asked, unit-reads.Learnt, passed-reads.Asked, passed-reads.Learnt, gap-reads.Asked, gap-reads.Learnt, value-at-reads.Asked, value-at-reads.Learnt, assign-reads.Asked, assign-reads.Learnt, word-reads.Asked, word-reads.Learnt, evaluate-below t, evaluate.Post, join-reads.Asked, join-reads.Learnt, settles-reads.Asked, settles-reads.Learnt)
 
 both-word-requires : (t : ℕ) → both-lts.Need-word-requires (both-claims t) (both-at t) both.Post
 both-word-requires t c κs = (c .before .before .before .pre .1 .0 .known, omega arith)
@@ -326,11 +327,11 @@ negated-returns-2 t c =
     (child .0, rw (c .not .ensures .0) (negated-verdict _ _ _ _ (ev .known) (start .pre .1 .1) (down .0) _ _ _ _ (rw (c .before .before .before .before .before .before .word .ensures, c .before .before .truth .given .1) at (child .1))))
 
 abbrev walk-Inv-loop : walk-lts.InvT-loop
-walk-Inv-loop query node every env₀ budget values words known places variable child old truth₀ cost₀ i₀ env truth cost i =
-    Walking (world (aritiesIn known) words query) (aritiesIn known) query node (junctionOf every) env₀ budget truth cost (unpassed known i (drop i (walkedWords known values query))) × (set env variable old ≡ env₀)
+walk-Inv-loop query node every env₀ budget values words known places old truth₀ cost₀ i₀ env truth cost i =
+    Walking (world (aritiesIn known) words query) (aritiesIn known) query node (junctionOf every) env₀ budget truth cost (unpassed known i (drop i (walkedWords known values query))) × (set env (wordAt query node 1) old ≡ env₀)
 
 abbrev walk-μ-loop : walk-lts.MeasureT-loop
-walk-μ-loop query node every env₀ budget values words known places variable child old truth₀ cost₀ i₀ env truth cost i =
+walk-μ-loop query node every env₀ budget values words known places old truth₀ cost₀ i₀ env truth cost i =
     placesIn known - i
 
 -- what is known of the child of a node that ranges over values
@@ -350,13 +351,24 @@ module _ (t : ℕ) (s : walk-lts.Start (walk-claims t) (walk-at t) walk.Post wal
       length-take-le (placesIn (s .args .known .now)) (s .args .values .now ++ s .args .query .now)
       (omega (arith, walk-places, length-append (s .args .values .now) (s .args .query .now)))
 
+-- a place of the walk is left
+module _ (t : ℕ) (n : walk-lts.In-loop (walk-claims t) (walk-at t) walk.Post walk-Inv-loop walk-μ-loop) where
+  abbrev left-start : walk-lts.Start (walk-claims t) (walk-at t) walk.Post walk-Inv-loop walk-μ-loop
+  left-start = n .before .before .before .before .before .before .before .before .before
+
+  left-low : n .before .loop .i < placesIn (left-start .args .known .now)
+  left-low = omega (arith, n .loop-test .taken, n .before .before .before .before .before .places-in .ensures)
+
+  left-few : n .before .loop .i < 4896
+  left-few = omega (arith, left-low, walk-places t left-start, walk-few t left-start)
+
 -- once the child was evaluated for a value
 module _ (t : ℕ) (e : walk-lts.After-evaluate (walk-claims t) (walk-at t) walk.Post walk-Inv-loop walk-μ-loop) where
   abbrev walk-loop : walk-lts.At-loop (walk-claims t) (walk-at t) walk.Post walk-Inv-loop walk-μ-loop
-  walk-loop = e .before .before .before .before .before .before .before .before
+  walk-loop = e .before .before .before .before .before .before .before .before .before
 
   abbrev walk-start : walk-lts.Start (walk-claims t) (walk-at t) walk.Post walk-Inv-loop walk-μ-loop
-  walk-start = walk-loop .before .before .before .before .before .before .before .before .before
+  walk-start = walk-loop .before .before .before .before .before .before .before .before
 
   abbrev env₀ : List ℕ
   env₀ = walk-start .args .env .now
@@ -364,48 +376,48 @@ module _ (t : ℕ) (e : walk-lts.After-evaluate (walk-claims t) (walk-at t) walk
   abbrev qs : List ℕ
   qs = walk-start .args .query .now
 
-  -- the variable, as the code read it from the question's word
+  -- the variable of the node
   abbrev variable : ℕ
-  variable = walk-loop .before .before .before .before .word .result
+  variable = wordAt qs (walk-start .args .node) 1
 
   abbrev value : ℕ
   value = getD (walk-start .args .values .now ++ qs) (walk-loop .loop .i) 0
 
   -- the assignment under which the child was evaluated
-  here : e .before .before .assign .last .0 ≡ set env₀ (wordAt qs (walk-start .args .node) 1) value
+  here : e .before .before .before .assign .last .1 .1 .0 ≡ set env₀ variable value
   here =
-      e .before .before .assign .ensures ∙ ap (set (walk-loop .loop .env) variable) (e .before .before .before .value-at .ensures) ∙
-      set-again _ (walk-loop .loop .env) _ _ _ (walk-loop .loop .inv .1) ∙
-      ap (λ (v : ℕ). set env₀ v value) (walk-loop .before .before .before .before .word .ensures)
+      e .before .before .before .assign .ensures ∙ ap (set (walk-loop .loop .env) variable) (e .before .before .before .before .value-at .ensures) ∙
+      set-again _ (walk-loop .loop .env) _ _ _ (walk-loop .loop .inv .1)
 
   -- the value is the next one that the walk does not pass over
   next :
       unpassed (walk-start .args .known .now) (walk-loop .loop .i) (drop (walk-loop .loop .i) (walkedWords (walk-start .args .known .now) (walk-start .args .values .now) qs)) ≡
       value ∷ unpassed (walk-start .args .known .now) (walk-loop .loop .i + 1) (drop (walk-loop .loop .i + 1) (walkedWords (walk-start .args .known .now) (walk-start .args .values .now) qs))
   next =
-      let asked = e .before .before .before .before .before .before in
+      let asked = e .before .before .before .before .before .before .before in
       let known = walk-start .args .known .now in
       let all = walkedWords known (walk-start .args .values .now) qs in
       let i = walk-loop .loop .i in
-      let low : i < placesIn known = omega (arith, asked .before .loop-test .taken, walk-loop .before .before .before .before .before .places-in .ensures) in
-      unpassed-here known all i (omega (arith, low, walk-long t walk-start)) (sym (asked .passed .ensures) ∙ e .before .before .before .before .before .if1 .left) ∙
+      let low : i < placesIn known = left-low t (asked .before) in
+      unpassed-here known all i (omega (arith, low, walk-long t walk-start)) (sym (asked .passed .ensures) ∙ e .before .before .before .before .before .before .if1 .left) ∙
       ap (λ (v : ℕ). v ∷ unpassed known (i + 1) (drop (i + 1) all)) (getD-take (placesIn known) (walk-start .args .values .now ++ qs) i 0 low)
 
   -- putting the old cell back restores the assignment
-  back : set (e .evaluate .last .1 .1 .0) variable (getD env₀ variable 0) ≡ env₀
+  back : set (e .evaluate .last .1 .1 .0) variable (walk-loop .before .before .assigned .result) ≡ env₀
   back =
-      ap (λ (l : List ℕ). set l variable (getD env₀ variable 0)) (e .evaluate .ensures .0 ∙ e .before .before .assign .ensures ∙ set-again _ (walk-loop .loop .env) _ _ _ (walk-loop .loop .inv .1)) ∙
-      set-back _ (walk-loop .loop .env) _ _ _ (walk-loop .loop .inv .1) refl
+      ap (λ (l : List ℕ). set l variable (walk-loop .before .before .assigned .result)) (e .evaluate .ensures .0 ∙ here) ∙
+      set-back _ (walk-loop .loop .env) _ _ _ (walk-loop .loop .inv .1) (walk-loop .before .before .assigned .ensures)
 
   -- the child's answer, as the answer for the node that word 2 names, within what is left of the budget
   child-told : (r : Evaluated) → e .evaluate .result ≡ r
       → Right (aritiesIn (walk-start .args .known .now)) (walk-start .args .words .now) qs (wordAt qs (walk-start .args .node) 2) (set env₀ (wordAt qs (walk-start .args .node) 1) value) (walk-start .args .budget - walk-loop .loop .cost) r
-  child-told r is = rw (e .before .before .before .before .before .before .before .before .before .before .before .word2 .ensures, is, here) at (e .evaluate .ensures .1)
+  child-told r is = rw (e .before .before .word .ensures, is, here) at (e .evaluate .ensures .1)
 
   -- the assignment still has 16 values, and the variable is one of them
-  assignable : (variable < variables) × (length (e .evaluate .last .1 .1 .0) ≡ variables)
+  assignable : (walk-start .args .node < nodeCount qs) × (variable < variables) × (length (e .evaluate .last .1 .1 .0) ≡ variables)
   assignable = (
-    omega (arith, walk-loop .before .before .before .before .word .ensures, walk-down t walk-start .0),
+    walk-start .pre .1 .0 .known,
+    walk-down t walk-start .0,
     ap length (e .evaluate .ensures .0 ∙ here) ∙ length-set env₀ _ _ ∙ walk-start .pre .1 .0 .sixteen,
   )
 
@@ -415,52 +427,44 @@ walk-places-in-requires t c κs = c .before .before .before .pre .1 .0 .ready .s
 walk-cast-places : (t : ℕ) → walk-lts.Need-cast-places (walk-claims t) (walk-at t) walk.Post walk-Inv-loop walk-μ-loop
 walk-cast-places t c = let s = c .before .before .before .before in omega (arith, c .places-in .ensures, walk-places t s, walk-few t s)
 
-walk-word-requires : (t : ℕ) → walk-lts.Need-word-requires (walk-claims t) (walk-at t) walk.Post walk-Inv-loop walk-μ-loop
-walk-word-requires t c κs = (c .before .before .before .before .pre .1 .0 .known, omega arith)
-
-walk-word-requires-2 : (t : ℕ) → walk-lts.Need-word-requires-2 (walk-claims t) (walk-at t) walk.Post walk-Inv-loop walk-μ-loop
-walk-word-requires-2 t c κs = (c .before .before .before .before .before .pre .1 .0 .known, omega arith)
-
-walk-mul-old : (t : ℕ) → walk-lts.Need-mul-old (walk-claims t) (walk-at t) walk.Post walk-Inv-loop walk-μ-loop
-walk-mul-old t c = omega (arith, c .before .word .ensures, walk-down t (c .before .before .before .before .before .before) .0)
-
-walk-element-copy-out-old : (t : ℕ) → walk-lts.Need-element-copy-out-old (walk-claims t) (walk-at t) walk.Post walk-Inv-loop walk-μ-loop
-walk-element-copy-out-old t c = omega (arith, c .before .word .ensures, walk-down t (c .before .before .before .before .before .before) .0)
+walk-assigned-requires : (t : ℕ) → walk-lts.Need-assigned-requires (walk-claims t) (walk-at t) walk.Post walk-Inv-loop walk-μ-loop
+walk-assigned-requires t c κs = let s = c .before .before .before .before .before in (s .pre .1 .0 .known, walk-down t s .0, s .pre .1 .0 .sixteen)
 
 walk-unit-requires : (t : ℕ) → walk-lts.Need-unit-requires (walk-claims t) (walk-at t) walk.Post walk-Inv-loop walk-μ-loop
 walk-unit-requires t c κs = search needs
 
 walk-loop-holds : (t : ℕ) → walk-lts.Need-loop-holds (walk-claims t) (walk-at t) walk.Post walk-Inv-loop walk-μ-loop
 walk-loop-holds t c =
-    let s = c .before .before .before .before .before .before .before .before in
-    (rw (c .unit .ensures) (walk-starts _ _ _ _ (s .pre .1 .0 .known) _ (s .pre .1 .1) (walk-down t s .1 .0) _ _ _ (s .pre .1 .0 .ranged .walked _ _ (s .pre .1 .0 .known) (s .pre .1 .1))), set-getD _ _ 0)
+    let s = c .before .before .before .before .before .before .before in
+    (rw (c .unit .ensures) (walk-starts _ _ _ _ (s .pre .1 .0 .known) _ (s .pre .1 .1) (walk-down t s .1 .0) _ _ _ (s .pre .1 .0 .ranged .walked _ _ (s .pre .1 .0 .known) (s .pre .1 .1))), ap (set (s .args .env .now) _) (c .before .assigned .ensures) ∙ set-getD _ _ 0)
 
 walk-value-at-requires : (t : ℕ) → walk-lts.Need-value-at-requires (walk-claims t) (walk-at t) walk.Post walk-Inv-loop walk-μ-loop
-walk-value-at-requires t c κs =
-    let l = c .before .before .before .before in
-    let s = l .before .before .before .before .before .before .before .before .before in
-    omega (arith, c .before .before .before .loop-test .taken, l .before .before .before .before .before .places-in .ensures, walk-places t s)
+walk-value-at-requires t c κs = let n = c .before .before .before in omega (arith, left-low t n, walk-places t (left-start t n))
 
 -- the assignment keeps its length
-kept-long : (t : ℕ) (l : walk-lts.At-loop (walk-claims t) (walk-at t) walk.Post walk-Inv-loop walk-μ-loop) → length (l .loop .env) ≡ variables
-kept-long t l =
-    sym (length-set (l .loop .env) _ _) ∙ ap length (l .loop .inv .1) ∙ l .before .before .before .before .before .before .before .before .before .pre .1 .0 .sixteen
+module _ (t : ℕ) (l : walk-lts.At-loop (walk-claims t) (walk-at t) walk.Post walk-Inv-loop walk-μ-loop) where
+  kept-long : length (l .loop .env) ≡ variables
+  kept-long = sym (length-set (l .loop .env) _ _) ∙ ap length (l .loop .inv .1) ∙ l .before .before .before .before .before .before .before .before .pre .1 .0 .sixteen
 
 walk-assign-requires : (t : ℕ) → walk-lts.Need-assign-requires (walk-claims t) (walk-at t) walk.Post walk-Inv-loop walk-μ-loop
 walk-assign-requires t c κs =
     let l = c .before .before .before .before .before in
-    (omega (arith, l .before .before .before .before .word .ensures, walk-down t (l .before .before .before .before .before .before .before .before .before) .0), kept-long t l)
+    let s = l .before .before .before .before .before .before .before .before in
+    (s .pre .1 .0 .known, walk-down t s .0, kept-long t l)
+
+walk-word-requires : (t : ℕ) → walk-lts.Need-word-requires (walk-claims t) (walk-at t) walk.Post walk-Inv-loop walk-μ-loop
+walk-word-requires t c κs = (c .before .before .before .before .before .before .before .before .before .before .before .before .before .before .pre .1 .0 .known, omega arith)
 
 walk-sub-evaluate : (t : ℕ) → walk-lts.Need-sub-evaluate (walk-claims t) (walk-at t) walk.Post walk-Inv-loop walk-μ-loop
-walk-sub-evaluate t c = c .before .before .before .before .before .before .before .loop .inv .0 .low
+walk-sub-evaluate t c = c .before .before .before .before .before .before .before .before .loop .inv .0 .low
 
 walk-evaluate-requires : (t : ℕ) → walk-lts.Need-evaluate-requires (walk-claims t) (walk-at t) walk.Post walk-Inv-loop walk-μ-loop
 walk-evaluate-requires t c κs =
-    let l = c .before .before .before .before .before .before .before in
-    let s = l .before .before .before .before .before .before .before .before .before in
+    let l = c .before .before .before .before .before .before .before .before in
+    let s = l .before .before .before .before .before .before .before .before in
     let child = walk-down t s .1 in
-    rw (l .before .before .before .word2 .ensures)
-    (omega (arith, child .0, child .1, s .pre .0), record { ready = s .pre .1 .0 .ready; ranged = s .pre .1 .0 .ranged; known = child .1; sixteen = ap length (c .before .assign .ensures) ∙ length-set (l .loop .env) _ _ ∙ kept-long t l })
+    rw (c .before .word .ensures)
+    (omega (arith, child .0, child .1, s .pre .0), record { ready = s .pre .1 .0 .ready; ranged = s .pre .1 .0 .ranged; known = child .1; sixteen = ap length (c .before .before .assign .ensures) ∙ length-set (l .loop .env) _ _ ∙ kept-long t l })
 
 walk-enum-known-one : (t : ℕ) → walk-lts.Need-enum-known-one (walk-claims t) (walk-at t) walk.Post walk-Inv-loop walk-μ-loop
 walk-enum-known-one t c = search needs
@@ -509,44 +513,33 @@ walk-returns-2 t c =
     )
 
 walk-passed-requires : (t : ℕ) → walk-lts.Need-passed-requires (walk-claims t) (walk-at t) walk.Post walk-Inv-loop walk-μ-loop
-walk-passed-requires t c κs =
-    let ev = c .before .before .before .before .before .before .before .before .before .before .pre .1 .0 in
-    (ev .ready .size, omega (arith, c .loop-test .taken, c .before .before .before .before .before .before .places-in .ensures, walk-places t (c .before .before .before .before .before .before .before .before .before .before), walk-few t (c .before .before .before .before .before .before .before .before .before .before)))
+walk-passed-requires t c κs = (left-start t c .pre .1 .0 .ready .size, left-few t c)
 
 walk-gap-requires : (t : ℕ) → walk-lts.Need-gap-requires (walk-claims t) (walk-at t) walk.Post walk-Inv-loop walk-μ-loop
-walk-gap-requires t c κs =
-    let ev = c .before .before .before .before .before .before .before .before .before .before .before .before .pre .1 .0 in
-    (ev .ready .size, omega (arith, c .before .before .loop-test .taken, c .before .before .before .before .before .before .before .before .places-in .ensures, walk-places t (c .before .before .before .before .before .before .before .before .before .before .before .before), walk-few t (c .before .before .before .before .before .before .before .before .before .before .before .before)))
+walk-gap-requires t c κs = let n = c .before .before in (left-start t n .pre .1 .0 .ready .size, left-few t n)
 
 walk-add-i : (t : ℕ) → walk-lts.Need-add-i (walk-claims t) (walk-at t) walk.Post walk-Inv-loop walk-μ-loop
-walk-add-i t c =
-    let ev = c .before .before .before .before .before .before .before .before .before .before .before .before .before .pre .1 .0 in
-    omega (arith, c .gap .ensures .1 .few, c .before .before .before .loop-test .taken, c .before .before .before .before .before .before .before .before .before .places-in .ensures, walk-places t (c .before .before .before .before .before .before .before .before .before .before .before .before .before), walk-few t (c .before .before .before .before .before .before .before .before .before .before .before .before .before))
+walk-add-i t c = omega (arith, c .gap .ensures .1 .few, left-few t (c .before .before .before))
 
 walk-loop-less : (t : ℕ) → walk-lts.Need-loop-less (walk-claims t) (walk-at t) walk.Post walk-Inv-loop walk-μ-loop
 walk-loop-less t c =
     let some = gap-some (c .gap .ensures .1) (sym (c .before .before .passed .ensures) ∙ c .before .if1 .taken) in
-    omega (arith, some, c .before .before .before .loop-test .taken, c .before .before .before .before .before .before .before .before .before .places-in .ensures)
+    omega (arith, some, left-low t (c .before .before .before))
 
 walk-loop-again : (t : ℕ) → walk-lts.Need-loop-again (walk-claims t) (walk-at t) walk.Post walk-Inv-loop walk-μ-loop
 walk-loop-again t c =
     let l = c .before .before .before .before in
-    let s = l .before .before .before .before .before .before .before .before .before in (
+    let s = l .before .before .before .before .before .before .before .before in (
       walk-passes _ _ _ _ (s .pre .1 .0 .known) _ (s .pre .1 .1) (walk-down t s .1 .0) _ _ _ _ _ (l .loop .inv .0) _
           (unpassed-gap _ _ _ _ (c .gap .ensures .1 .all)),
       l .loop .inv .1,
     )
 
 walk-add-i-2 : (t : ℕ) → walk-lts.Need-add-i-2 (walk-claims t) (walk-at t) walk.Post walk-Inv-loop walk-μ-loop
-walk-add-i-2 t c =
-    let e = c .before .before .before .before .before .before in
-    let s = walk-start t e in
-    omega (arith, e .before .before .before .before .before .before .before .loop-test .taken, walk-loop t e .before .before .before .before .before .places-in .ensures, walk-places t s, walk-few t s)
+walk-add-i-2 t c = omega (arith, left-few t (c .before .before .before .before .before .before .before .before .before .before .before .before .before .before))
 
 walk-loop-less-2 : (t : ℕ) → walk-lts.Need-loop-less-2 (walk-claims t) (walk-at t) walk.Post walk-Inv-loop walk-μ-loop
-walk-loop-less-2 t c =
-    let e = c .before .before .before .before .before .before in
-    omega (arith, e .before .before .before .before .before .before .before .loop-test .taken, walk-loop t e .before .before .before .before .before .places-in .ensures)
+walk-loop-less-2 t c = omega (arith, left-low t (c .before .before .before .before .before .before .before .before .before .before .before .before .before .before))
 
 walk-loop-again-2 : (t : ℕ) → walk-lts.Need-loop-again-2 (walk-claims t) (walk-at t) walk.Post walk-Inv-loop walk-μ-loop
 walk-loop-again-2 t c =
@@ -563,14 +556,15 @@ walk-loop-again-2 t c =
 walk-assign-requires-4 : (t : ℕ) → walk-lts.Need-assign-requires-4 (walk-claims t) (walk-at t) walk.Post walk-Inv-loop walk-μ-loop
 walk-assign-requires-4 t c κs =
     let l = c .before .before in
-    (omega (arith, l .before .before .before .before .word .ensures, walk-down t (l .before .before .before .before .before .before .before .before .before) .0), kept-long t l)
+    let s = l .before .before .before .before .before .before .before .before in
+    (s .pre .1 .0 .known, walk-down t s .0, kept-long t l)
 
 walk-returns-3 : (t : ℕ) → walk-lts.Need-returns-3 (walk-claims t) (walk-at t) walk.Post walk-Inv-loop walk-μ-loop
 walk-returns-3 t c =
     let l = c .before .before .before in
-    let s = l .before .before .before .before .before .before .before .before .before in (
+    let s = l .before .before .before .before .before .before .before .before in (
       c .assign4 .ensures ∙ l .loop .inv .1,
-      walk-ends _ _ _ _ (s .pre .1 .0 .known) _ (s .pre .1 .1) (walk-down t s .1 .0) _ _ _ _ _ (l .loop .inv .0) (unpassed-end _ _ _ (omega (arith, c .before .before .loop-test .left, l .before .before .before .before .before .places-in .ensures, walk-long t s))),
+      walk-ends _ _ _ _ (s .pre .1 .0 .known) _ (s .pre .1 .1) (walk-down t s .1 .0) _ _ _ _ _ (l .loop .inv .0) (unpassed-end _ _ _ (omega (arith, c .before .before .loop-test .left, l .before .before .before .before .places-in .ensures, walk-long t s))),
     )
 
 pub +both+evaluate+negated+walk-spec : {M : Type 1} → statement M
@@ -626,10 +620,7 @@ pub +both+evaluate+negated+walk-spec : {M : Type 1} → statement M
     walk-μ-loop
     (walk-places-in-requires t)
     (walk-cast-places t)
-    (walk-word-requires t)
-    (walk-word-requires-2 t)
-    (walk-mul-old t)
-    (walk-element-copy-out-old t)
+    (walk-assigned-requires t)
     (walk-unit-requires t)
     (walk-loop-holds t)
     (walk-passed-requires t)
@@ -639,6 +630,7 @@ pub +both+evaluate+negated+walk-spec : {M : Type 1} → statement M
     (walk-loop-again t)
     (walk-value-at-requires t)
     (walk-assign-requires t)
+    (walk-word-requires t)
     (walk-sub-evaluate t)
     (walk-evaluate-requires t)
     (walk-enum-known-one t)

@@ -1,12 +1,10 @@
 -- `query::inked::term_count` meets its contract. Assumes nothing.
-use Prim.Native.Nat.{ℕ, _<_, _≤_}
-use mathlib.Core.Path.{_≡_, refl, sym, ap, _∙_}
-use mathlib.Core.List.{List}
+use Prim.Native.Nat.{_<_}
+use mathlib.Core.Path.{_≡_, refl, sym, _∙_}
 use native.Mathlib.Omega.{arith}
-use lib.ListN.{getD}
 use Rattle.instance.specs.Header.{maxRelations}
 use Rattle.query.specs.Words.{rowStands, kindOf, wordAt}
-use Rattle.query.proofs.KindTerms.{kind-one, kind-two, count-other, first-word}
+use Rattle.query.proofs.KindTerms.{kind-one, kind-two, other-kind, first-word}
 use borrow.Author.Needs.{needs}
 use Rattle.query.proofs.inked.term_count.Statement.{statement}
 use Rattle.query.proofs.inked.term_count.Tie as tie
@@ -68,7 +66,7 @@ returns-3 : tie.Need-returns-3
 returns-3 c =
     let a = c .before .before .before .args in
     let w = first-word (a .query .now) (a .node) in
-    sym (count-other (a .arities .now) (a .query .now) (a .node) _ (λ e. c .before .if1 .left (sym w ∙ e)) (λ e. c .if2 .left (sym w ∙ e)))
+    sym (other-kind (a .arities .now) (a .query .now) (a .node) _ (λ e. c .before .if1 .left (sym w ∙ e)) .1 (λ e. c .if2 .left (sym w ∙ e)))
 
 pub term-count-spec : {M : Type 1} → statement M
 term-count-spec =

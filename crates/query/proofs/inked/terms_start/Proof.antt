@@ -1,12 +1,10 @@
 -- `query::inked::terms_start` meets its contract. Assumes nothing.
-use Prim.Native.Nat.{ℕ, _+_, _*_}
-use mathlib.Core.Path.{_≡_, refl, sym, ap, _∙_}
-use native.Mathlib.Nat.{add-zero}
+use mathlib.Core.Path.{refl, sym, _∙_}
+use mathlib.Core.List.{[]}
 use native.Mathlib.Omega.{arith}
 use borrow.Author.Needs.{needs}
-use lib.ListN.{getD}
-use Rattle.query.specs.Words.{kindOf, wordAt, nodeWords}
-use Rattle.query.proofs.KindTerms.{kind-one, first-other, first-word}
+use Rattle.query.specs.Words.{wordAt}
+use Rattle.query.proofs.KindTerms.{kind-one, other-kind, first-word}
 use Rattle.query.proofs.inked.terms_start.Statement.{statement}
 use Rattle.query.proofs.inked.terms_start.Tie as tie
 
@@ -39,7 +37,7 @@ add-result-2 c = search needs
 returns-2 : tie.Need-returns-2
 returns-2 c =
     let a = c .before .before .args in
-    omega (arith, first-other (wordAt (a .query .now) (a .node) 0) (λ e. c .if1 .left (sym (first-word (a .query .now) (a .node)) ∙ e)))
+    omega (arith, other-kind [] (a .query .now) (a .node) (wordAt (a .query .now) (a .node) 0) (λ e. c .if1 .left (sym (first-word (a .query .now) (a .node)) ∙ e)) .0)
 
 pub terms-start-spec : {M : Type 1} → statement M
 terms-start-spec =

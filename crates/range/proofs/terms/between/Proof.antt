@@ -1,5 +1,5 @@
 -- `range::terms::between` meets its contract. Assumes nothing.
-use mathlib.Core.Path.{_≡_, refl, sym}
+use mathlib.Core.Path.{refl}
 use borrow.Author.Tests.{lt-leb, le-leb}
 use Rattle.range.proofs.terms.between.Statement.{statement}
 use Rattle.range.proofs.terms.between.Tie as tie

@@ -1,14 +1,12 @@
 -- `range::terms::is_new` meets its contract. Assumes nothing.
-use Prim.Native.Nat.{ℕ, _+_, _/_}
+use Prim.Native.Nat.{ℕ, _/_}
 use mathlib.Core.Path.{_≡_, refl, sym, ap, _∙_}
 use mathlib.Core.Bool.{true, false}
-use mathlib.Core.List.{List}
 use native.Mathlib.Omega.{arith}
 use borrow.Author.Needs.{needs}
 use borrow.Author.Tests.{not-true, not-false, le-ltb}
-use lib.ListN.{length, getD, take}
+use lib.ListN.{length, getD}
 use lib.Seq.{length-take-le, take-length}
-use Rattle.calculus.specs.Listed.{listed}
 use Rattle.range.specs.Cache.{headOf, Head}
 use Rattle.range.specs.Flagged.{stoodBefore}
 use Rattle.range.proofs.Asked.{not-new, new-here}

@@ -1,18 +1,16 @@
 -- `range::terms::pass_node` meets its contract: the words before `place` are walked. Assumes nothing.
 use Prim.Native.Nat.{ℕ, _+_, _-_, _≤_, _<_}
-use mathlib.Core.Path.{_≡_, refl, sym, ap, _∙_}
-use mathlib.Core.Bool.{Bool, true, false, _&&_, not, cond}
+use mathlib.Core.Path.{_≡_, refl, sym, _∙_}
+use mathlib.Core.Bool.{Bool, true, false, not}
 use mathlib.Core.Logic.{⊎-elim}
-use mathlib.Core.List.{List, []}
+use mathlib.Core.List.{List}
 use native.Mathlib.Omega.{arith}
 use borrow.Author.Needs.{needs}
-use borrow.Author.Tests.{not-true, not-false}
-use lib.Dec.{leb, ltb}
-use lib.ListN.{length, getD, take, drop}
+use lib.ListN.{length, take, drop}
 use Rattle.known.specs.Known.{flagAt}
 use Rattle.query.specs.Words.{nodeWords}
 use Rattle.query.specs.Named.{constantsAmong}
-use Rattle.range.specs.Flagged.{Flagged, stoodBefore, Asking, Passed}
+use Rattle.range.specs.Flagged.{Flagged, Passed}
 use Rattle.range.proofs.Asked.{passed-starts, among-first, among-last, asking-kept, node-step}
 use Rattle.range.proofs.terms.pass_node.Statement.{statement}
 use Rattle.range.proofs.terms.pass_node.Tie as tie

@@ -1,10 +1,7 @@
 -- `range::terms::pass_over` meets its contract. Assumes nothing.
 use Prim.Native.Nat.{ℕ}
-use mathlib.Core.Path.{_≡_, refl, sym, ap, _∙_}
+use mathlib.Core.Path.{refl, ap, _∙_}
 use mathlib.Core.List.{List, []}
-use native.Mathlib.Omega.{arith}
-use borrow.Author.Needs.{needs}
-use lib.ListN.{length}
 use Rattle.calculus.specs.Domain.{listing}
 use Rattle.calculus.specs.Row.{cellsOf}
 use Rattle.instance.specs.Rows.{rowsFrom}
