@@ -53,7 +53,8 @@ admitted h ws qs candidate =
     (demand (rightLength qs) (answer.Refused bad-query-length)
     (ifPassed (checkQuery (h .relations) (h .arities) qs candidate) (answer.Done (length (rows h ws)))))
 
--- what is lent to a question besides: a list for what quantifiers range over, or none (document 02, request 4: "Asking with no working list")
+-- what is lent to a question besides: a list for what quantifiers range over, or none (document 02, request 4: "Asking
+-- with no working list")
 pub data Lent : Type 0 where
   list : List ℕ → Lent
   none : Lent
@@ -71,15 +72,16 @@ needed h ws qs = cellsOf (rows h ws) ++ namedIn (h .arities) qs
 abbrev pub mostNeeded : ℕ
 mostNeeded = 3810
 
--- Where "some" and "every" get their values from: the list has them; or, document 02, "finds the plot's values by walking the rows and passing over any
--- cell that stood earlier", and then the question's inked terms in the same way.
+-- Where "some" and "every" get their values from: the list has them; or, document 02, "finds the plot's values by
+-- walking the rows and passing over any cell that stood earlier", and then the question's inked terms in the same way.
 abbrev pub rangeOf : Lent → List ℕ → List Row → List ℕ
 rangeOf (list buffer) named rs = rangeOver named rs
 rangeOf none named rs = walkedRange named rs
 
 -- the question's outcome with that range
 abbrev pub outcomeBy : Lent → Model → Query → Outcome
-outcomeBy lent b q = eval (closedOver (rangeOf lent (q .named) (b .rows)) (b .rows)) (q .formula) (assignment (b .candidate))
+outcomeBy lent b q = eval (closedOver (rangeOf lent (q .named) (b .rows)) (b .rows)) (q .formula)
+    (assignment (b .candidate))
 
 -- goes on only if nothing is refused so far
 abbrev pub ifDone : Answer → Answer → Answer
@@ -90,11 +92,14 @@ module _ (h : Header) (ws qs candidate : List ℕ) (lent : Lent) where
   -- the refusals before the evaluation
   unfoldable pub askable : Answer
   askable =
-      ifDone (admitted h ws qs candidate) (demand (hasPlace lent (length (needed h ws qs))) (answer.Refused buffer-too-short) (answer.Done 0))
+      ifDone (admitted h ws qs candidate) (demand (hasPlace lent (length (needed h ws qs)))
+      (answer.Refused buffer-too-short) (answer.Done 0))
 
   unfoldable pub ask : ℕ → Asked
   ask budget = answeredBy askable (within budget (outcomeBy lent (modelOf h ws candidate) (queryOf (h .arities) qs)))
 
--- "After a verdict or number 46 it holds" what the question ranges over "first, and its other words keep their content. No other refusal touches it."
+-- "After a verdict or number 46 it holds" what the question ranges over "first, and its other words keep their content.
+-- No other refusal touches it."
 unfoldable pub askedBuffer : Header → (ws qs candidate buffer : List ℕ) → List ℕ
-askedBuffer h ws qs candidate buffer = after (askable h ws qs candidate (list buffer)) (overwrite (rangeOver (namedIn (h .arities) qs) (rows h ws)) buffer) buffer
+askedBuffer h ws qs candidate buffer = after (askable h ws qs candidate (list buffer))
+    (overwrite (rangeOver (namedIn (h .arities) qs) (rows h ws)) buffer) buffer

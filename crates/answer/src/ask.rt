@@ -20,7 +20,8 @@ use instance::header::Header;
 use known::describe;
 use query::inked::count_named;
 
-// Answers by the list of the range. The array is of this function, so that it can take the place on the stack that the listing has left.
+// Answers by the list of the range. The array is of this function, so that it can take the place on the stack that the
+// listing has left.
 fn answer_listed(
     header: Header,
     instance: &[u32],
@@ -31,7 +32,9 @@ fn answer_listed(
 ) -> Asked
     requires { ⌜ ((count : ℕ) × Admitted header (now instance) (now query) (now candidate) count) ⌝ }
     requires { ⌜ now values ≡ rangeOver (namedIn (header .arities) (now query)) (rows header (now instance)) ⌝ }
-    ensures { λ r. ⌜ r ≡ evaluatedAs (within budget (outcomeOf (modelOf header (now (instance .entry)) (now (candidate .entry))) (queryOf (header .arities) (now (query .entry))))) ⌝ }
+    ensures { λ r. ⌜ r ≡ evaluatedAs (within budget
+        (outcomeOf (modelOf header (now (instance .entry)) (now (candidate .entry)))
+        (queryOf (header .arities) (now (query .entry))))) ⌝ }
 {
     let used = header.used as usize;
     let arities = header.arities;
@@ -51,7 +54,10 @@ pub fn ask(
 ) -> Asked
     ensures answer { λ r. ⌜ r ≡ askOf header (now (instance .entry)) (now (query .entry)) (now (candidate .entry)) (list (now (buffer .entry))) budget ⌝ }
     ensures buffer { λ r. ⌜ now (buffer .exit) ≡ askedBuffer header (now (instance .entry)) (now (query .entry)) (now (candidate .entry)) (now (buffer .entry)) ⌝ }
-    ensures told { λ r. ⌜ TellsVerdict r (askOf header (now (instance .entry)) (now (query .entry)) (now (candidate .entry)) (list (now (buffer .entry))) budget) (outcomeOf (modelOf header (now (instance .entry)) (now (candidate .entry))) (queryOf (header .arities) (now (query .entry)))) ⌝ }
+    ensures told { λ r. ⌜ TellsVerdict r (askOf header (now (instance .entry)) (now (query .entry))
+        (now (candidate .entry)) (list (now (buffer .entry))) budget)
+        (outcomeOf (modelOf header (now (instance .entry)) (now (candidate .entry)))
+        (queryOf (header .arities) (now (query .entry)))) ⌝ }
 {
     match admit(header, instance, query, candidate) {
         Answer::Refused(why) => Asked::Refused(why),

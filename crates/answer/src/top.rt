@@ -40,7 +40,9 @@ pub fn answer_top(
 ) -> Asked
     requires { ⌜ Ready (aritiesIn (now known)) (now words) (now query) (now known) × Ranged (aritiesIn (now known)) (now words) (now query) (now known) (now values) ⌝ }
     requires { ⌜ (0 < nodeCount (now query)) × (length (now candidate) ≤ variables) ⌝ }
-    ensures { λ r. ⌜ r ≡ evaluatedAs (within budget (eval (world (aritiesIn (now (known .entry))) (now (words .entry)) (now (query .entry))) (formulaOf (aritiesIn (now (known .entry))) (now (query .entry))) (assignment (now (candidate .entry))))) ⌝ }
+    ensures { λ r. ⌜ r ≡ evaluatedAs (within budget
+        (eval (world (aritiesIn (now (known .entry))) (now (words .entry)) (now (query .entry)))
+        (formulaOf (aritiesIn (now (known .entry))) (now (query .entry))) (assignment (now (candidate .entry))))) ⌝ }
 {
     let mut env = assigned(candidate);
     match evaluate(query, 0, &mut env, budget, values, words, known) {

@@ -1,4 +1,5 @@
-// Asking a question of an instance with no list: the quantifiers walk the instance's own words, and then the question's.
+// Asking a question of an instance with no list: the quantifiers walk the instance's own words, and then the
+// question's.
 ghost use mathlib.Core.Path.{_≡_};
 ghost use mathlib.Core.Bool.{true, false};
 ghost use mathlib.Core.List.{_++_};
@@ -49,10 +50,14 @@ fn ranging(query: &[u32]) -> bool
 
 // Sets the flag of each place that a walk over the range passes over, if a node ranges over values.
 fn pass_for(words: &[u32], query: &[u32], arities: &[u32; 8], known: &mut [u32; 170])
-    requires { ⌜ InstanceOf (aritiesIn (now known)) (now words) × HasTerms (now arities) (now query) × (aritiesIn (now known) ≡ now arities) × (length (now query) ≤ 800) ⌝ }
+    requires { ⌜ InstanceOf (aritiesIn (now known)) (now words) × HasTerms (now arities) (now query)
+        × (aritiesIn (now known) ≡ now arities) × (length (now query) ≤ 800) ⌝ }
     requires { ⌜ (length (now known) ≡ knownWords) × ((p : ℕ) → flagAt (now known) p ≡ false) ⌝ }
     ensures kept { λ _. ⌜ (length (now (known .exit)) ≡ knownWords) × (take flagsFrom (now (known .exit)) ≡ take flagsFrom (now (known .entry))) ⌝ }
-    ensures walked { λ _. ⌜ (rangesAmong (now (query .entry)) (nodeCount (now (query .entry))) ≡ true → unpassed (now (known .exit)) 0 (now (words .entry) ++ now (query .entry)) ≡ walkedRange (namedIn (now (arities .entry)) (now (query .entry))) (rowsFrom (now (arities .entry)) 0 (now (words .entry)))) ⌝ }
+    ensures walked { λ _. ⌜ (rangesAmong (now (query .entry)) (nodeCount (now (query .entry))) ≡ true
+        → unpassed (now (known .exit)) 0 (now (words .entry) ++ now (query .entry))
+        ≡ walkedRange (namedIn (now (arities .entry)) (now (query .entry)))
+        (rowsFrom (now (arities .entry)) 0 (now (words .entry)))) ⌝ }
 {
     if ranging(query) {
         pass_over(words, query, arities, known);
@@ -67,7 +72,10 @@ pub fn ask_unlisted(
     budget: u32,
 ) -> Asked
     ensures answer { λ r. ⌜ r ≡ ask header (now (instance .entry)) (now (query .entry)) (now (candidate .entry)) none budget ⌝ }
-    ensures told { λ r. ⌜ TellsVerdict r (ask header (now (instance .entry)) (now (query .entry)) (now (candidate .entry)) none budget) (outcomeOf (modelOf header (now (instance .entry)) (now (candidate .entry))) (queryOf (header .arities) (now (query .entry)))) ⌝ }
+    ensures told { λ r. ⌜ TellsVerdict r (ask header (now (instance .entry)) (now (query .entry))
+        (now (candidate .entry)) none budget)
+        (outcomeOf (modelOf header (now (instance .entry)) (now (candidate .entry)))
+        (queryOf (header .arities) (now (query .entry)))) ⌝ }
 {
     match admit(header, instance, query, candidate) {
         Answer::Refused(why) => Asked::Refused(why),

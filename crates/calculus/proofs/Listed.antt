@@ -4,16 +4,7 @@ use mathlib.Core.Path.{_≡_, refl, _∙_}
 use mathlib.Core.Bool.{Bool, true, false, _||_, or-true}
 use mathlib.Core.List.{List, [], _∷_, _++_}
 use lib.Dec.{eqb}
-use borrow.Author.Tests.{eqb-true, eq-eqb}
 use Rattle.calculus.specs.Listed.{listed}
-
-pub listed-here : (x : ℕ) (ys : List ℕ) → listed x (x ∷ ys) ≡ true
-unfolding listed
-listed-here x ys = rw (eq-eqb x x refl)
-
-pub listed-later : (x y : ℕ) (ys : List ℕ) → listed x ys ≡ true → listed x (y ∷ ys) ≡ true
-unfolding listed
-listed-later x y ys e = rw e (or-true (eqb y x))
 
 pub listed-append : (x : ℕ) (xs ys : List ℕ) → listed x (xs ++ ys) ≡ (listed x xs || listed x ys)
 unfolding listed
@@ -29,12 +20,3 @@ listed-left x xs ys e = listed-append x xs ys ∙ rw e
 
 pub listed-right : (x : ℕ) (xs ys : List ℕ) → listed x ys ≡ true → listed x (xs ++ ys) ≡ true
 listed-right x xs ys e = listed-append x xs ys ∙ rw e (or-true (listed x xs))
-
--- a value of a list is the first one, or one of the others
-pub listed-cases : {A : Type 0} (x y : ℕ) (ys : List ℕ) → listed x (y ∷ ys) ≡ true → (y ≡ x → A) → (listed x ys ≡ true → A) → A
-unfolding listed
-listed-cases {A} x y ys e f g = go (eqb y x) refl e
-  where
-    go : (b : Bool) → eqb y x ≡ b → (b || listed x ys) ≡ true → A
-    go true p q = f (eqb-true y x p)
-    go false p q = g q

@@ -1,5 +1,5 @@
--- The active domain, and what quantifiers range over. Document 01: "The plot's values are its cells, marks included, each once, in order of first
--- standing."
+-- The active domain, and what quantifiers range over. Document 01: "The plot's values are its cells, marks included,
+-- each once, in order of first standing."
 use Prim.Native.Nat.{ℕ}
 use mathlib.Core.Bool.{cond}
 use mathlib.Core.List.{List, [], _∷_, _++_}

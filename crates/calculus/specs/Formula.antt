@@ -67,8 +67,8 @@ constantsOf (negation f) = constantsOf f
 constantsOf (junction j f g) = constantsOf f ++ constantsOf g
 constantsOf (quantified j v f) = constantsOf f
 
--- A question: its formula, and its inked terms "by node and word", each occurrence of one. A node's right child may have a lower number than its left one, so
--- the order of the words is not that of the formula.
+-- A question: its formula, and its inked terms "by node and word", each occurrence of one. A node's right child may
+-- have a lower number than its left one, so the order of the words is not that of the formula.
 pub record Query : Type 0 where
   pub formula : Formula
   pub named : List ℕ

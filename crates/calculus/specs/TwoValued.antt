@@ -22,7 +22,8 @@ abbrev pub overB : Junction → (ℕ → Bool) → List ℕ → Bool
 overB j f [] = unitB j
 overB j f (c ∷ cs) = joinB j (f c) (overB j f cs)
 
--- In Libkin's paper Eval_FO, the evaluation of first-order logic. "The values are those that the question ranges over": they are given.
+-- In Libkin's paper Eval_FO, the evaluation of first-order logic. "The values are those that the question ranges over":
+-- they are given.
 unfoldable pub says : List ℕ → List Row → Formula → List ℕ → Bool
 says range rs (atom r ts) e = some (identical (values e ts)) (tuples r rs)
 says range rs (equal s t) e = eqb (value e s) (value e t)

@@ -65,9 +65,11 @@ pub fn add_cells(list: &mut [u32], heads: &mut [u16; 1024], n: usize, cells: &[u
     count
 }
 
-// Adds the constants among words after the first n values of a list, each if it is not listed yet, and returns the new number of values.
+// Adds the constants among words after the first n values of a list, each if it is not listed yet, and returns the new
+// number of values.
 fn add_constants(list: &mut [u32], heads: &mut [u16; 1024], n: usize, words: &[u32]) -> usize
-    requires { ⌜ (n + length (constantsAmong (now words)) ≤ length (now list)) × (n + length (constantsAmong (now words)) ≤ maxWords) × Chained (now heads) (now list) n ⌝ }
+    requires { ⌜ (n + length (constantsAmong (now words)) ≤ length (now list))
+        × (n + length (constantsAmong (now words)) ≤ maxWords) × Chained (now heads) (now list) n ⌝ }
     ensures chained { λ r. ⌜ Chained (now (heads .exit)) (now (list .exit)) r ⌝ }
     ensures added { λ r. ⌜ Added (now (list .entry)) n (constantsAmong (now (words .entry))) (now (list .exit)) r ⌝ }
 {
@@ -82,7 +84,8 @@ fn add_constants(list: &mut [u32], heads: &mut [u16; 1024], n: usize, words: &[u
     count
 }
 
-// Adds a question's inked terms after the first n values of a list, by node and word, each if it is not listed yet, and returns the new number of values.
+// Adds a question's inked terms after the first n values of a list, by node and word, each if it is not listed yet, and
+// returns the new number of values.
 pub fn add_named(
     list: &mut [u32],
     heads: &mut [u16; 1024],
@@ -91,9 +94,11 @@ pub fn add_named(
     arities: &[u32; 8],
 ) -> usize
     requires { ⌜ HasTerms (now arities) (now query) × Chained (now heads) (now list) n ⌝ }
-    requires { ⌜ (n + length (namedIn (now arities) (now query)) ≤ length (now list)) × (n + length (namedIn (now arities) (now query)) ≤ maxWords) ⌝ }
+    requires { ⌜ (n + length (namedIn (now arities) (now query)) ≤ length (now list))
+        × (n + length (namedIn (now arities) (now query)) ≤ maxWords) ⌝ }
     ensures chained { λ r. ⌜ Chained (now (heads .exit)) (now (list .exit)) r ⌝ }
-    ensures added { λ r. ⌜ Added (now (list .entry)) n (namedIn (now (arities .entry)) (now (query .entry))) (now (list .exit)) r ⌝ }
+    ensures added { λ r. ⌜ Added (now (list .entry)) n (namedIn (now (arities .entry)) (now (query .entry)))
+        (now (list .exit)) r ⌝ }
 {
     let mut count = n;
     let mut node = 0;

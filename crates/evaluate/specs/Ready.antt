@@ -1,5 +1,6 @@
--- What evaluation is given: a sound instance's words, a question that passed its check, what is known of the instance (`table`), and a slice of values. A
--- quantifier walks this slice, and then the question's words if `table` says so; what it does not pass over is the range.
+-- What evaluation is given: a sound instance's words, a question that passed its check, what is known of the instance
+-- (`table`), and a slice of values. A quantifier walks this slice, and then the question's words if `table` says so;
+-- what it does not pass over is the range.
 use Prim.Native.Nat.{ℕ, _+_, _*_, _<_, _≤_}
 use mathlib.Core.Path.{_≡_}
 use mathlib.Core.Bool.{Bool, true, false}
@@ -42,7 +43,8 @@ pub record Ready (ars ws qs table : List ℕ) : Type 0 where
 pub record Ranged (ars ws qs table values : List ℕ) : Type 0 where
   pub short : length values ≤ maxWords
   pub places : placesIn table ≤ length values + length qs
-  pub walked : (i : ℕ) (j : Junction) → i < nodeCount qs → kindOf (wordAt qs i 0) ≡ ranges j → unpassed table 0 (walkedWords table values qs) ≡ world ars ws qs .range
+  pub walked : (i : ℕ) (j : Junction) → i < nodeCount qs → kindOf (wordAt qs i 0) ≡ ranges j
+      → unpassed table 0 (walkedWords table values qs) ≡ world ars ws qs .range
 
 -- the outcome of node i in a structure, with k nodes left, under an assignment
 abbrev pub outcomeAt : Structure → List ℕ → List ℕ → ℕ → ℕ → List ℕ → Outcome

@@ -46,7 +46,8 @@ fn rows_of(known: &[u32; 170], relation: usize) -> u32
 
 // Gives the variable of a quantifier the value `cell`.
 fn assign(query: &[u32], node: usize, env: &mut [u32; 16], cell: u32)
-    requires { ⌜ (node < nodeCount (now query)) × (wordAt (now query) node 1 < variables) × (length (now env) ≡ variables) ⌝ }
+    requires { ⌜ (node < nodeCount (now query)) × (wordAt (now query) node 1 < variables)
+        × (length (now env) ≡ variables) ⌝ }
     ensures { λ _. ⌜ now (env .exit) ≡ set (now (env .entry)) (wordAt (now (query .entry)) node 1) cell ⌝ }
 {
     let variable = word(query, node, 1);
@@ -55,7 +56,8 @@ fn assign(query: &[u32], node: usize, env: &mut [u32; 16], cell: u32)
 
 // The value of the variable of a quantifier.
 fn assigned(query: &[u32], node: usize, env: &[u32; 16]) -> u32
-    requires { ⌜ (node < nodeCount (now query)) × (wordAt (now query) node 1 < variables) × (length (now env) ≡ variables) ⌝ }
+    requires { ⌜ (node < nodeCount (now query)) × (wordAt (now query) node 1 < variables)
+        × (length (now env) ≡ variables) ⌝ }
     ensures { λ r. ⌜ r ≡ getD (now (env .entry)) (wordAt (now (query .entry)) node 1) 0 ⌝ }
 {
     let variable = word(query, node, 1);

@@ -42,7 +42,8 @@ pub record ExportedRerun (p : Instance) (qs candidate : List ℕ) (ss : List Ste
   pub no-more : costOf b cost′ ≤ costOf a cost
   -- "If B's plot and candidate hold no mark, B's verdict is true exactly when ordinary two-valued logic .. says yes, and false exactly when it says no."
   pub two-valued :
-      plain (modelAfter p candidate ss) ≡ true → verdictOf b truth′ ≡ rank (ofBool (saysYes (modelAfter p candidate ss) (queryOf (headerOf (p .header) .arities) qs)))
+      plain (modelAfter p candidate ss) ≡ true → verdictOf b truth′
+      ≡ rank (ofBool (saysYes (modelAfter p candidate ss) (queryOf (headerOf (p .header) .arities) qs)))
 
 -- Every header, plot, question, candidate, allowance, working list or none, and list of steps; B's allowance and list may be larger. Run A got a verdict if it
 -- returned 0.

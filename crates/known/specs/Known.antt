@@ -1,6 +1,6 @@
--- What evaluation knows of an instance besides its words, in one array: the number of rows of each of the eight relations, their arities, how many places a
--- quantifier walks, and then a flag for each of them. The places are those of a slice of values and then those of the question's words. A walk passes over
--- the places whose flag stands.
+-- What evaluation knows of an instance besides its words, in one array: the number of rows of each of the eight
+-- relations, their arities, how many places a quantifier walks, and then a flag for each of them. The places are those
+-- of a slice of values and then those of the question's words. A walk passes over the places whose flag stands.
 use Prim.Native.Nat.{ℕ, suc, _+_, _-_, _/_, _%_, _^_, _≤_, _<_}
 use mathlib.Core.Path.{_≡_}
 use mathlib.Core.Bool.{Bool, true, false, cond}

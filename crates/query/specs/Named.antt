@@ -13,7 +13,8 @@ use Rattle.query.specs.Tree.{formulaOf}
 -- the inked ones of the terms in k words from word j of node i, each occurrence of one
 unfoldable pub inkedAt : List ℕ → ℕ → ℕ → ℕ → List ℕ
 inkedAt qs i j zero = []
-inkedAt qs i j (suc k) = cond (isConstant (wordAt qs i j)) (wordAt qs i j ∷ inkedAt qs i (suc j) k) (inkedAt qs i (suc j) k)
+inkedAt qs i j (suc k) = cond (isConstant (wordAt qs i j)) (wordAt qs i j ∷ inkedAt qs i (suc j) k)
+    (inkedAt qs i (suc j) k)
 
 -- those of a node, by its kind: kinds 1 and 2 have terms
 abbrev pub namedBy : List ℕ → List ℕ → ℕ → Kind → List ℕ

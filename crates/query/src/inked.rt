@@ -21,7 +21,8 @@ pub fn terms_start(query: &[u32], node: usize) -> usize
 // The number of a node's terms.
 pub fn term_count(query: &[u32], arities: &[u32; 8], node: usize) -> usize
     requires { ⌜ HasTerms (now arities) (now query) × (node < nodeCount (now query)) ⌝ }
-    ensures { λ r. ⌜ r ≡ termCount (now (arities .entry)) (now (query .entry)) node (kindOf (wordAt (now (query .entry)) node 0)) ⌝ }
+    ensures { λ r. ⌜ r ≡ termCount (now (arities .entry)) (now (query .entry)) node
+        (kindOf (wordAt (now (query .entry)) node 0)) ⌝ }
 {
     let kind = query[node * NODE_WORDS];
     if kind == 1 {

@@ -15,7 +15,7 @@ const SOME: u32 = 6;
 const EVERY: u32 = 7;
 
 // Asks a question, and shows the answer and the working list afterwards; then asks it without a list.
-fn listed(
+pub fn listed(
     name: &[u8],
     header: Header,
     plot: &[u32],

@@ -3,6 +3,7 @@ mod asking;
 mod charges;
 mod limits;
 mod question;
+mod ranges;
 mod rerunning;
 
 fn main() {
@@ -16,6 +17,8 @@ fn main() {
     asking::refused();
     asking::refused_nodes();
     asking::short_list();
+    ranges::by_node_and_word();
+    ranges::no_rows();
     charges::identical_row();
     charges::no_identical_row();
     charges::after_a_fill();

@@ -12,7 +12,8 @@ unfoldable pub walked : List ℕ → List ℕ → List ℕ
 walked earlier [] = []
 walked earlier (c ∷ cs) = cond (listed c earlier) (walked (earlier ++ c ∷ []) cs) (c ∷ walked (earlier ++ c ∷ []) cs)
 
--- the rows' cells, walked from the first, and then the constants that a question names (`proofs/Walked.antt`, `walked-range`: they are the range)
+-- the rows' cells, walked from the first, and then the constants that a question names (`proofs/Walked.antt`,
+-- `walked-range`: they are the range)
 abbrev pub walkedRange : List ℕ → List Row → List ℕ
 walkedRange named rs = walked [] (cellsOf rs ++ named)
 

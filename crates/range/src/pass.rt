@@ -25,8 +25,8 @@ pub fn pass(known: &mut [u32; 170], place: usize)
     known[FLAGS + place / 32] = known[FLAGS + place / 32] | (1u32 << v);
 }
 
-// Whether a cell is among the words that are not passed over; the first word has place `first`. The flag is read only at an equal word, which may be a
-// relation's number.
+// Whether a cell is among the words that are not passed over; the first word has place `first`. The flag is read only
+// at an equal word, which may be a relation's number.
 pub fn stood(known: &[u32; 170], first: usize, words: &[u32], cell: u32) -> bool
     requires { ⌜ (length (now known) ≡ knownWords) × (first + length (now words) ≤ maxPlaces) ⌝ }
     ensures { λ r. ⌜ r ≡ listed cell (unpassed (now (known .entry)) first (now (words .entry))) ⌝ }
@@ -80,13 +80,15 @@ fn pass_again(words: &[u32], known: &mut [u32; 170], heads: &mut [u16; 512], pla
     }
 }
 
-// Sets the flag of each word of the instance that a walk over the values passes over, and leaves the heads of its cells.
+// Sets the flag of each word of the instance that a walk over the values passes over, and leaves the heads of its
+// cells.
 pub fn pass_cells(words: &[u32], known: &mut [u32; 170], heads: &mut [u16; 512])
     requires { ⌜ InstanceOf (aritiesIn (now known)) (now words) × (now heads ≡ replicate headCount 0) ⌝ }
     requires { ⌜ (length (now known) ≡ knownWords) × ((p : ℕ) → flagAt (now known) p ≡ false) ⌝ }
     ensures kept { λ _. ⌜ (length (now (known .exit)) ≡ knownWords) × (take flagsFrom (now (known .exit)) ≡ take flagsFrom (now (known .entry))) ⌝ }
     ensures flags { λ _. ⌜ ((p : ℕ) → flagAt (now (known .exit)) p ≡ getD (passes (aritiesIn (now (known .entry))) [] 0 (now (words .entry))) p false) ⌝ }
-    ensures cached { λ _. ⌜ Cached (now (heads .exit)) (now (words .entry)) (unpassed (now (known .exit)) 0 (now (words .entry))) (length (now (words .entry))) ⌝ }
+    ensures cached { λ _. ⌜ Cached (now (heads .exit)) (now (words .entry))
+        (unpassed (now (known .exit)) 0 (now (words .entry))) (length (now (words .entry))) ⌝ }
 {
     let mut left: u32 = 0;
     let mut more = words.len();

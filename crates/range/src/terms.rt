@@ -1,4 +1,5 @@
-// Passing over each word of the question that is no inked term, and each inked term that stood earlier, in the instance or in the question.
+// Passing over each word of the question that is no inked term, and each inked term that stood earlier, in the instance
+// or in the question.
 ghost use mathlib.Core.Path.{_≡_};
 ghost use mathlib.Core.Bool.{false, _&&_, not};
 ghost use mathlib.Core.List.{_++_};
@@ -34,7 +35,9 @@ fn is_new(
     term: bool,
 ) -> bool
     requires { ⌜ Asking (now words) (now query) (now known) (now heads) × (place < length (now query)) ⌝ }
-    ensures { λ r. ⌜ r ≡ (term && (isConstant (getD (now (query .entry)) place 0) && not (listed (getD (now (query .entry)) place 0) (stoodBefore (now (known .entry)) (now (words .entry) ++ now (query .entry)) (length (now (words .entry)) + place))))) ⌝ }
+    ensures { λ r. ⌜ r ≡ (term && (isConstant (getD (now (query .entry)) place 0)
+        && not (listed (getD (now (query .entry)) place 0) (stoodBefore (now (known .entry))
+        (now (words .entry) ++ now (query .entry)) (length (now (words .entry)) + place))))) ⌝ }
 {
     if !term {
         return false;
@@ -60,7 +63,8 @@ fn between(start: usize, place: usize, end: usize) -> bool
     place < end
 }
 
-// Passes over the words of a node, from word `first` of the question, but for each new inked term; the terms are the words from `start` to `end`.
+// Passes over the words of a node, from word `first` of the question, but for each new inked term; the terms are the
+// words from `start` to `end`.
 fn pass_node(
     words: &[u32],
     query: &[u32],
@@ -70,9 +74,13 @@ fn pass_node(
     start: usize,
     end: usize,
 )
-    requires { ⌜ Asking (now words) (now query) (now known) (now heads) × ((q : ℕ) → length (now words) + first ≤ q → flagAt (now known) q ≡ false) ⌝ }
-    requires { ⌜ (first ≤ start) × (start ≤ end) × (end ≤ first + nodeWords) × (first + nodeWords ≤ length (now query)) ⌝ }
-    ensures { λ _. ⌜ Passed (now (words .entry)) (now (query .entry)) (now (known .entry)) first (constantsAmong (take (end - start) (drop start (now (query .entry))))) (now (known .exit)) (first + nodeWords) ⌝ }
+    requires { ⌜ Asking (now words) (now query) (now known) (now heads)
+        × ((q : ℕ) → length (now words) + first ≤ q → flagAt (now known) q ≡ false) ⌝ }
+    requires { ⌜ (first ≤ start) × (start ≤ end) × (end ≤ first + nodeWords)
+        × (first + nodeWords ≤ length (now query)) ⌝ }
+    ensures { λ _. ⌜ Passed (now (words .entry)) (now (query .entry)) (now (known .entry)) first
+        (constantsAmong (take (end - start) (drop start (now (query .entry))))) (now (known .exit))
+        (first + nodeWords) ⌝ }
 {
     let mut place = first;
     while place < first + NODE_WORDS {
@@ -92,8 +100,10 @@ fn pass_terms(
     known: &mut [u32; 170],
     heads: &[u16; 512],
 )
-    requires { ⌜ Asking (now words) (now query) (now known) (now heads) × ((q : ℕ) → length (now words) ≤ q → flagAt (now known) q ≡ false) × HasTerms (now arities) (now query) ⌝ }
-    ensures { λ _. ⌜ Passed (now (words .entry)) (now (query .entry)) (now (known .entry)) 0 (namedIn (now (arities .entry)) (now (query .entry))) (now (known .exit)) (length (now (query .entry))) ⌝ }
+    requires { ⌜ Asking (now words) (now query) (now known) (now heads)
+        × ((q : ℕ) → length (now words) ≤ q → flagAt (now known) q ≡ false) × HasTerms (now arities) (now query) ⌝ }
+    ensures { λ _. ⌜ Passed (now (words .entry)) (now (query .entry)) (now (known .entry)) 0
+        (namedIn (now (arities .entry)) (now (query .entry))) (now (known .exit)) (length (now (query .entry))) ⌝ }
 {
     let mut node = 0;
     while node < query.len() / NODE_WORDS {
@@ -106,10 +116,14 @@ fn pass_terms(
 
 // Sets the flag of each place that a walk over the instance's words and then the question's passes over.
 pub fn pass_over(words: &[u32], query: &[u32], arities: &[u32; 8], known: &mut [u32; 170])
-    requires { ⌜ InstanceOf (aritiesIn (now known)) (now words) × HasTerms (now arities) (now query) × (aritiesIn (now known) ≡ now arities) × (length (now query) ≤ 800) ⌝ }
+    requires { ⌜ InstanceOf (aritiesIn (now known)) (now words) × HasTerms (now arities) (now query)
+        × (aritiesIn (now known) ≡ now arities) × (length (now query) ≤ 800) ⌝ }
     requires { ⌜ (length (now known) ≡ knownWords) × ((p : ℕ) → flagAt (now known) p ≡ false) ⌝ }
-    ensures kept { λ _. ⌜ (length (now (known .exit)) ≡ knownWords) × (take flagsFrom (now (known .exit)) ≡ take flagsFrom (now (known .entry))) ⌝ }
-    ensures walked { λ _. ⌜ unpassed (now (known .exit)) 0 (now (words .entry) ++ now (query .entry)) ≡ walkedRange (namedIn (now (arities .entry)) (now (query .entry))) (rowsFrom (now (arities .entry)) 0 (now (words .entry))) ⌝ }
+    ensures kept { λ _. ⌜ (length (now (known .exit)) ≡ knownWords)
+        × (take flagsFrom (now (known .exit)) ≡ take flagsFrom (now (known .entry))) ⌝ }
+    ensures walked { λ _. ⌜ unpassed (now (known .exit)) 0 (now (words .entry) ++ now (query .entry))
+        ≡ walkedRange (namedIn (now (arities .entry)) (now (query .entry)))
+        (rowsFrom (now (arities .entry)) 0 (now (words .entry))) ⌝ }
 {
     let mut heads = [0u16; 512];
     pass_cells(words, known, &mut heads);

@@ -147,8 +147,10 @@ module _ (g : Given) (ws : List ℕ) where
 
   -- the answer in the paper's numbers: that of run A, and that of run B on what the fills left
   pub record TellsRuns (r : Reran) : Type 0 where
-    pub first : TellsVerdict (firstOf r) (firstOf reran) (outcome (start .model) (queryOf (g .header .arities) (g .query)))
-    pub second : TellsVerdict (secondOf r) (secondOf reran) (outcome (modelOf (g .header) modelWords (end .model .candidate)) (queryOf (g .header .arities) (g .query)))
+    pub first : TellsVerdict (firstOf r) (firstOf reran)
+        (outcome (start .model) (queryOf (g .header .arities) (g .query)))
+    pub second : TellsVerdict (secondOf r) (secondOf reran)
+        (outcome (modelOf (g .header) modelWords (end .model .candidate)) (queryOf (g .header .arities) (g .query)))
 
   -- what a rerun returns, and what it leaves of everything that it was lent
   pub record Reruns (r : Reran) (ws′ candidate′ buffer′ answers′ log′ : List ℕ) (used′ : ℕ) (buffer2′ : List ℕ) : Type 0 where

@@ -6,3 +6,4 @@ pub mod WellFormedLaws
 pub mod FaultLaws
 pub mod RefusedLaws
 pub mod FirstFault
+pub mod InkedTermLaws
