@@ -139,6 +139,7 @@ extern "C" {
 enum {
     PLOTASK_WORDS = 4096,           /* words in use of a plot, at most */
     PLOTASK_CELLS = 3510,           /* cells of a plot, at most: 4,096 words in rows of at most six columns */
+    PLOTASK_LIST_WORDS = 3810,      /* words of the working list that no plot and question exceed */
     PLOTASK_RELATIONS = 8,          /* sheets, at most; at least 1 */
     PLOTASK_COLUMNS = 6,            /* columns of a sheet, at most; at least 1 */
     PLOTASK_MARKS = 200,            /* marks are numbered 1 to 200; also the words of a census */

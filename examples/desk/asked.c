@@ -6,7 +6,7 @@
 
 struct answer ask_plot(const struct plot *plot, const struct asked *asked, const uint32_t *cells)
 {
-    static uint32_t list[PLOTASK_CELLS];
+    static uint32_t list[PLOTASK_LIST_WORDS];
     struct answer answer = {0};
 
     answer.refusal = asked->unlisted
@@ -14,7 +14,7 @@ struct answer ask_plot(const struct plot *plot, const struct asked *asked, const
                                                 asked->words, asked->word_count, cells, asked->cell_count,
                                                 asked->allowance, &answer.truth, &answer.looks)
                          : plotask_ask(PLOTASK_CONST_HEADER(&plot->header), plot->words, PLOTASK_WORDS, asked->words,
-                                       asked->word_count, cells, asked->cell_count, list, PLOTASK_CELLS,
+                                       asked->word_count, cells, asked->cell_count, list, PLOTASK_LIST_WORDS,
                                        asked->allowance, &answer.truth, &answer.looks);
     return answer;
 }
