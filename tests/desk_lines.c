@@ -18,6 +18,7 @@ int main(void)
     check_names();
     check_questions();
     check_changes();
+    check_ranges();
     check_ways();
     check_cards();
     check_refusals();

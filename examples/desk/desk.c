@@ -38,7 +38,8 @@ static const char more_help[] = "A SHEET is a name or a number from 0. A blank g
                                 "A question: in(SHEET, TERM, ..)  equal(TERM, TERM)  not(Q)  and(Q, Q)  or(Q, Q)\n"
                                 "  some(NAME, Q)  every(NAME, Q)\n"
                                 "A term: a value; v0 for the first cell of the row asked about, v1 for the\n"
-                                "  second; a NAME after some or every.\n"
+                                "  second; a NAME after some or every, which takes each value of the plot, marks\n"
+                                "  too, then each value that the question names.\n"
                                 "What follows a # is not read. A line that is refused changes nothing.\n";
 
 void desk_start(struct desk *desk, FILE *out)

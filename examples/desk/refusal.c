@@ -47,7 +47,7 @@ const char *meaning(uint32_t refusal)
     case PLOTASK_OUTPUT_TOO_SHORT:
         return "there is too little room for the card or the census";
     case PLOTASK_BUFFER_TOO_SHORT:
-        return "the working list is shorter than the plot's cells";
+        return "the working list is shorter than the plot's cells and the question's values together";
     case PLOTASK_BUDGET_SPENT:
         return "the question takes more looks than its allowance";
     case PLOTASK_LOG_TOO_SHORT:

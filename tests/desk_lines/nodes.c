@@ -52,11 +52,12 @@ static void mark_node(char *line, size_t number)
     *at = '^';
 }
 
+/* The plot has no value but the one that the leaf names: a second one would double the looks at each some or every. */
 static void check_hundred(const struct chain *chain)
 {
     char line[LINE_ROOM], answer[80];
 
-    START("sheet hangs lamp", "hangs 201");
+    START("sheet hangs lamp", "hangs 1");
     snprintf(answer, sizeof answer, "%s: it stays so however the marks are filled in", chain->answer);
     put_hundred(line, "ask ", chain);
     says(line, answer);

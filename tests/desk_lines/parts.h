@@ -11,6 +11,7 @@ void check_nodes(void);     /* nodes.c: the size of a question */
 void check_names(void);     /* names.c: variables and the names for them */
 void check_questions(void); /* questions.c: questions with names, allowances, and those that are kept */
 void check_changes(void);   /* changes.c: what becomes of the questions asked */
+void check_ranges(void);    /* ranges.c: the values of some and every */
 void check_ways(void);      /* ways.c: with a working list and without one */
 void check_cards(void);     /* cards.c */
 void check_refusals(void);  /* refusals.c: what each number means, and a plot that has no sheet yet */

@@ -151,7 +151,7 @@ static void check_brackets(void)
         "ask and(or(not(in(hangs, v0)), equal(v0, 1)), some(x, every(y, not(in(pairs, x, y))))) 5";
 
     START("sheet hangs lamp", "sheet pairs a b");
-    says(question, "false, 1 look: it stays so however the marks are filled in");
+    says(question, "true, 2 looks: it stays so however the marks are filled in");
     for (size_t i = 0; i < sizeof question - 1; i++) {
         char line[2 * sizeof question];
         if (!strchr("(),", question[i]))
