@@ -64,8 +64,8 @@ static const struct {
 };
 
 /*
- * A value is asked about until it is the cell of the row, and so the looks are its place. Then the part is not asked: a
- * value that it names counts all the same. Another question takes a look for each value.
+ * The first question ends at the value that is the row's cell, so its looks are the place of that value. It does not come
+ * to the part then, and what the part names counts all the same. The second question takes a look for each value.
  */
 static void check_order(const char *part, const char *values)
 {

@@ -199,6 +199,9 @@ static const struct {
     {"equal(^m4, v9)", 22},
     {"some(^v16, equal(m4, v9))", 24},
     {"and(in(^7), some(v16, equal(m4, v9)))", 25},
+    /* values of some and every on both sides of the fault */
+    {"some(v15, or(equal(v15, 7), or(equal(^v14, 8), equal(9, v15))))", 24},
+    {"every(v15, and(in(pairs, v15, 7), and(in(pairs, 8, ^m4), equal(9, v15))))", 22},
 };
 
 /* A part in the middle of a long question. */

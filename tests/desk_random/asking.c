@@ -1,11 +1,12 @@
 /* Questions in a conversation. */
 #include "talk.h"
+#include "text_order.h"
 #include "typing/typing.h"
 
 #include <string.h>
 
 enum {
-    MOST_LOOKS = 5000, /* of a question with some or every: the plot's values, and so its looks, may become many */
+    MOST_LOOKS = 5000, /* of a question with some or every: the values, and so its looks, may become many */
     MOST_TEXT = 3900   /* bytes of a question, so that a line has room for it and its row */
 };
 
@@ -144,7 +145,27 @@ static size_t wrong_cell(void)
     return asked.row.length;
 }
 
-static void meet_verdict(const struct verdict *verdict, bool unlisted)
+static bool has_cell(const struct any_plot *plot, uint32_t cell)
+{
+    for (size_t at = 0; at < plot->length; at += 1 + arity_of(plot->header, plot->words[at]))
+        for (size_t i = 1; i <= arity_of(plot->header, plot->words[at]); i++)
+            if (plot->words[at + i] == cell)
+                return true;
+    return false;
+}
+
+/* Whether the question has some or every, and names a value that does not stand in the plot. */
+static bool names_value(const struct any_plot *plot)
+{
+    for (size_t i = 0; i < asked.spelling.spelled_count && has_quantifier(&asked.query); i++) {
+        const struct spelled *spelled = &asked.spelling.spelled[i];
+        if (spelled->what == SPELLED_TERM && spelled->number < CONSTANTS && !has_cell(plot, spelled->number))
+            return true;
+    }
+    return false;
+}
+
+static void meet_verdict(const struct any_plot *plot, const struct verdict *verdict, bool unlisted)
 {
     meet(asked.name ? MET_BY_NAME : MET_IN_WORDS);
     meet(unlisted ? MET_UNLISTED : MET_LISTED);
@@ -155,6 +176,8 @@ static void meet_verdict(const struct verdict *verdict, bool unlisted)
         meet(MET_ALLOWANCE_TAKEN);
     if (asked.spelling.nodes == MOST_NODES)
         meet(MET_HUNDRED_NODES);
+    if (names_value(plot))
+        meet(MET_VALUE_NAMED);
 }
 
 static bool type_answered(struct talk *talk, const struct verdict *verdict, bool unlisted)
@@ -169,7 +192,7 @@ static bool type_answered(struct talk *talk, const struct verdict *verdict, bool
     kept.unlisted = unlisted;
     kept.verdict = *verdict;
     account_asked(&talk->account, &kept);
-    meet_verdict(verdict, unlisted);
+    meet_verdict(&talk->account.plot, verdict, unlisted);
     if (talk->account.kept_count == kept_count)
         meet(strstr(talk->account.answer, "no longer") ? MET_OLDEST_DROPPED : MET_ASKED_AGAIN);
     return type_accepted(talk);
@@ -193,15 +216,18 @@ static bool type_faulty(struct talk *talk, const struct spelled *fault, uint32_t
 }
 
 /*
- * Whether the query as it was made has this verdict. Only the order of its nodes differs from that of the text, so this
- * is so unless it is refused for one of its words.
+ * Whether the query is the one that was made, its nodes in the order of the text. This is so unless it is refused for one
+ * of its words.
  */
-static bool is_spelled_well(const struct talk *talk, const struct verdict *verdict)
+static bool is_spelled_well(const struct verdict *verdict)
 {
+    static struct any_query ordered;
+
     if (verdict->refusal != 0 && verdict->refusal != 46)
         return true;
-    struct verdict made = refer(&talk->account, &asked.made, &asked.row, asked.allowance);
-    bool same = made.refusal == verdict->refusal && made.truth == verdict->truth && made.looks == verdict->looks;
+    order_as_text(&asked.made, &ordered);
+    bool same = ordered.length == asked.query.length &&
+                memcmp(ordered.words, asked.query.words, ordered.length * sizeof *ordered.words) == 0;
     if (!same)
         print_bytes("the query and its text are two:", asked.spelling.text, asked.spelling.length);
     return same;
@@ -217,7 +243,7 @@ static bool ask_once(struct talk *talk, bool unlisted)
     char after[32];
 
     put_asked(talk, unlisted);
-    if (!is_spelled_well(talk, &verdict))
+    if (!is_spelled_well(&verdict))
         return false;
     if (verdict.refusal == 21) {
         meet(MET_NODE_101);

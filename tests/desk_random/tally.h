@@ -54,6 +54,7 @@ enum typed_command command_of(const char *bytes, size_t length);
     CASE(ANSWERED_UNKNOWN, "unknown")                                               \
     CASE(ALLOWANCE_TAKEN, "the looks are the allowance")                            \
     CASE(HUNDRED_NODES, "a question of 100 nodes is answered")                      \
+    CASE(VALUE_NAMED, "some or every, and a value that only the question names")    \
     CASE(NODE_101, "21 in words, at node 101")                                      \
     CASE(NODE_101_NAMED, "21 of a question to be named")                            \
     CASE(WORDS_22, "22 in words")                                                   \
