@@ -35,7 +35,7 @@ static void make_harmless(uint32_t *words, size_t from, size_t count)
 /*
  * The index of the word for which a question is refused. plotask checks the words in order, and returns only a number.
  * So the words after an index are made harmless: if the number stays the same, the fault is at that index or before it.
- * The replaced terms change the values of some and every too, but the words are checked before any value is asked about.
+ * The replaced terms change the values of some and every too, but the words are checked before any value is taken.
  */
 static size_t word_at_fault(const struct plot *plot, const struct asked *asked)
 {

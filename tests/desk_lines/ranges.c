@@ -17,7 +17,7 @@ static void gives(const char *question, const char *answer)
     }
 }
 
-/* "Is there a colour that no hang uses": a colour that stands in the question counts, one of the row asked about not. */
+/* "Is there a colour that no hang uses": a colour in the question counts, one in the row asked about does not. */
 static void check_unused_colour(void)
 {
     START("sheet hangs colour", "hangs 202", "hangs 203");
@@ -64,8 +64,8 @@ static const struct {
 };
 
 /*
- * The first question ends at the value that is the row's cell, so its looks are the place of that value. It does not come
- * to the part then, and what the part names counts all the same. The second question takes a look for each value.
+ * The first question ends at the value that is the row's cell, so its looks are the place of that value. It does not
+ * come to the part then, and what the part names counts all the same. The second question takes a look for each value.
  */
 static void check_order(const char *part, const char *values)
 {

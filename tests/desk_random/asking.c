@@ -216,8 +216,8 @@ static bool type_faulty(struct talk *talk, const struct spelled *fault, uint32_t
 }
 
 /*
- * Whether the query is the one that was made, its nodes in the order of the text. This is so unless it is refused for one
- * of its words.
+ * Whether the query is the one that was made, its nodes in the order of the text. This is so unless it is refused for
+ * one of its words.
  */
 static bool is_spelled_well(const struct verdict *verdict)
 {
