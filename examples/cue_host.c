@@ -7,7 +7,7 @@ enum { HUNG = 0, STORE = 1 };
 
 static struct plotask_header header;
 static uint32_t plot[PLOTASK_WORDS];
-static uint32_t list[PLOTASK_CELLS];
+static uint32_t list[PLOTASK_LIST_WORDS];
 
 /* What can be taken back: the words of the log, and how many are in use. Few cells have marks here. */
 static uint32_t fill_log[64];
@@ -76,7 +76,7 @@ static void ask_to_hire(uint32_t lamp, uint32_t allowance)
 
     printf("hire %u, with %u looks: ", (unsigned)lamp, (unsigned)allowance);
     uint32_t refusal = plotask_ask(PLOTASK_HEADER(&header), plot, PLOTASK_WORDS, &to_hire[0][0], 4 * PLOTASK_NODE_WORDS,
-                                   &lamp, 1, list, PLOTASK_CELLS, allowance, &truth, &looks);
+                                   &lamp, 1, list, PLOTASK_LIST_WORDS, allowance, &truth, &looks);
     print_answer(refusal, truth, looks);
 }
 

@@ -32,7 +32,7 @@
  * - It may be given any number, and a slice of any length and content, and it always ends. There is nothing to test
  *   first.
  * - A refused call changes nothing that it was lent, with one exception: the working list of a question that is refused
- *   with 46 has the plot's values at its start. If a question is asked without a list, there is no exception.
+ *   with 46 has the question's range at its start. If a question is asked without a list, there is no exception.
  * - An accepted call changes only what is named under "Writes". All other elements of a slice keep their content.
  * - A slice is a pointer and a length. The length counts elements: words for uint32_t, bytes for uint8_t.
  * - The host has to make sure of what no call can test: a pointer is not null, is aligned for its type, and points to
@@ -59,7 +59,8 @@
  * does not exist. Every other plot is refused with 41.
  *
  * The plot's values are its different cells, of all sheets and columns, marks included, in the order in which they
- * first occur in the words.
+ * first occur in the words. A question's range, the values that "some" and "every" try, is the plot's values and then
+ * the inked values that the question itself names (plotask_ask).
  *
  * THE LOG
  *
@@ -87,12 +88,12 @@
  * MEMORY
  *
  *   plot            4,096 words   16,384 bytes
- *   working list    4,096 words   16,384 bytes   no plot needs more than 3,510 words of it (PLOTASK_CELLS)
+ *   working list    3,810 words   15,240 bytes   PLOTASK_LIST_WORDS, enough for every plot and question
  *   question          800 words    3,200 bytes
  *   header             18 words       72 bytes
  *   candidate           6 words       24 bytes
  *
- * These are 36,064 bytes, within 40 KiB. Smaller arrays will do for smaller plots and questions. Between questions the
+ * These are 34,920 bytes, within 40 KiB. Smaller arrays will do for smaller plots and questions. Between questions the
  * working list is free: it may hold a card (at most PLOTASK_CARD_BYTES), as (uint8_t *)list with 4 bytes for each word,
  * or the 200 words of a census.
  *
@@ -104,7 +105,7 @@
  *
  * The log is beside all these, and only logged fills and undos need it. It cannot share memory with the working list of
  * a host that lends one, since it has to be kept between questions. Beside the largest arrays above, 40 KiB have room
- * for a log of 1,224 words; if the working list is left out, of 5,320 words.
+ * for a log of 1,510 words, the 6,040 bytes that are left; if the working list is left out, of 5,320 words.
  *
  * STACK, in bytes below the caller's own frame, as measured by `make bench` (docs/BENCHMARKS.md):
  *
@@ -139,7 +140,8 @@ extern "C" {
 enum {
     PLOTASK_WORDS = 4096,           /* words in use of a plot, at most */
     PLOTASK_CELLS = 3510,           /* cells of a plot, at most: 4,096 words in rows of at most six columns */
-    PLOTASK_LIST_WORDS = 3810,      /* words of the working list that no plot and question exceed */
+    PLOTASK_LIST_WORDS = 3810,      /* words that a working list needs, at most: 3,510 cells and 300 inked terms; of 100
+                                       nodes at most 50 have no child, and each of these has at most six terms */
     PLOTASK_RELATIONS = 8,          /* sheets, at most; at least 1 */
     PLOTASK_COLUMNS = 6,            /* columns of a sheet, at most; at least 1 */
     PLOTASK_MARKS = 200,            /* marks are numbered 1 to 200; also the words of a census */
@@ -199,7 +201,7 @@ enum plotask_refusal {
     PLOTASK_NO_ROOM = 42,                /* the words needed exceed 4,096 or the slice */
     PLOTASK_NULL_ABSENT = 43,            /* no cell holds the mark to fill */
     PLOTASK_OUTPUT_TOO_SHORT = 44,       /* the output is shorter than the card, or than the census's 200 words */
-    PLOTASK_BUFFER_TOO_SHORT = 45,       /* the working list has fewer words than the plot has cells */
+    PLOTASK_BUFFER_TOO_SHORT = 45,       /* the working list is shorter than the plot's cells and the inked terms */
     PLOTASK_BUDGET_SPENT = 46,           /* the question's looks exceed the allowance */
     PLOTASK_LOG_TOO_SHORT = 47,          /* the log has no room for the entry of this fill */
     PLOTASK_LOG_EMPTY = 48,              /* no word of the log is in use: there is no fill to take back */
@@ -213,8 +215,8 @@ enum plotask_kind {
     PLOTASK_NOT = 3,    /* not: child */
     PLOTASK_AND = 4,    /* and: left child, right child */
     PLOTASK_OR = 5,     /* or: left child, right child */
-    PLOTASK_SOME = 6,   /* some of the plot's values: variable number 0 to 15 (not PLOTASK_VARIABLE), child */
-    PLOTASK_EVERY = 7   /* every one of the plot's values: variable number 0 to 15 (not PLOTASK_VARIABLE), child */
+    PLOTASK_SOME = 6,   /* some value of the range: variable number 0 to 15 (not PLOTASK_VARIABLE), child */
+    PLOTASK_EVERY = 7   /* every value of the range: variable number 0 to 15 (not PLOTASK_VARIABLE), child */
 };
 
 /*
@@ -408,11 +410,19 @@ uint32_t plotask_encode(const uint32_t *header, size_t header_words, const uint3
  *
  *   { PLOTASK_SOME, 5, 1 }, { PLOTASK_STANDS, 2, PLOTASK_VARIABLE(0), PLOTASK_VARIABLE(5) }
  *
+ * Range. "Some" and "every" range over the plot's values in their order, and then over the question's inked terms in
+ * the order of its words, each value once. A term counts even if its node is never asked, and the order is that of the
+ * nodes' numbers, not of the tree. The numbers of sheets, variables and children are no terms, and the candidate's
+ * cells are not part of the range. In a plot whose only row is (5), the values of this question are 5, 3 and 7, in this
+ * order, though 7 stands in the left child:
+ *
+ *   { PLOTASK_SOME, 0, 1 }, { PLOTASK_OR, 3, 2 }, { PLOTASK_EQUAL, 5, 3 }, { PLOTASK_EQUAL, PLOTASK_VARIABLE(0), 7 }
+ *
  * Verdicts. "Row stands" is true if the very row is in the sheet, false if no row of the sheet can be made equal to it
  * by giving each mark one value, else unknown. "Equal" is true for the same cell, false for two different inked values,
  * else unknown. "Not" swaps true and false. "And" takes the lower of two, "or" the higher, in the order false, unknown,
- * true. "Some" is the highest and "every" the lowest over the plot's values in their order; over none, "some" is false
- * and "every" true.
+ * true. "Some" is the highest and "every" the lowest over the range in its order; over no value, "some" is false and
+ * "every" true.
  *
  * Looks. "Equal" costs 1. "Row stands" costs 1 plus the rows of that sheet, in the plot's order, up to and including
  * the first that is the very row, or all of them if none is. A row that is not the very row, but can be made equal to
@@ -422,21 +432,22 @@ uint32_t plotask_encode(const uint32_t *header, size_t header_words, const uint3
  *
  * Looks do not measure time: "row stands" also passes over the rows of other sheets that come before the row at which
  * its count ends. The time that a question may take grows with its looks and with the words in use, at most with their
- * product; for plotask_ask_unlisted this holds of the time besides its pass over the plot. What a look takes is
- * measured in docs/BENCHMARKS.md.
+ * product; for plotask_ask_unlisted this holds of the time besides its pass over plot and question. What a look takes
+ * is measured in docs/BENCHMARKS.md.
  *
  *   header, header_words        PLOTASK_CONST_HEADER(&header) or PLOTASK_HEADER(&header)
  *   plot, plot_words            the plot
  *   query, query_words          the question, 8 words for each node
  *   candidate, candidate_cells  the candidate row, 0 to 6 cells; it may hold values and marks that the plot lacks
- *   list, list_words            the working list, at least as many words as the plot has cells; its content is not read
- *                               (plotask_ask_unlisted needs none)
+ *   list, list_words            the working list: a word for each cell of the plot and for each inked term of the
+ *                               question, each time it occurs; PLOTASK_LIST_WORDS are always enough. Its content is not
+ *                               read (plotask_ask_unlisted needs no list)
  *   budget                      the allowance: the most looks that the question may take, 0 to 4,294,967,295
  *   truth                       gets the verdict (enum plotask_truth)
  *   cost                        gets the looks
  *
- * Writes: the plot's values, each once, in the order in which they first occur, at the start of the list (their number
- * is not returned), also if it is refused with 46; and, if it is accepted, truth and cost.
+ * Writes: the range, in its order, at the start of the list (the number of its values is not returned), also if it is
+ * refused with 46; and, if it is accepted, truth and cost.
  * Refuses: 41, 21, 26; then the nodes by number, each 23 (a node above 0 that no earlier node names), 22 (kind), 25, 22
  * (words that must be 0), 24 (quantifier's variable), 23 (children, left first), then its terms from left to right,
  * each 22, 24; then 45, 46.
@@ -449,16 +460,17 @@ uint32_t plotask_ask(const uint32_t *header, size_t header_words, const uint32_t
  * A question with no working list (ask unlisted): for a host that has no memory to lend for one. It answers as
  * plotask_ask does with a list that is long enough: the same verdict, the same looks, and the same refusal, so that a
  * host may change from one to the other between any two questions. The list is the only difference: there is none to
- * be too short, so 45 never occurs, and none that gets the plot's values.
+ * be too short, so 45 never occurs, and none that gets the range.
  *
- * It finds the plot's values in the plot itself, by walking the rows and passing over any cell that occurred earlier.
+ * It finds the range in plot and question themselves, by walking the rows and then the question's terms, and passing
+ * over any cell or inked term that occurred earlier in either.
  *
- * Time. A question without "some" and "every" needs no values, and there is no search for them. For any other, one pass
- * over the plot finds where each value first occurs. Each time a "some" or "every" is asked, it goes from one value to
- * the next and steps over the words between them, up to 32 at a time: at most one step for each word in use, and at
- * most 129 steps in a plot of one value. The pass is quick for up to some hundreds of different values. In the worst
- * case, with thousands of them, each cell is searched for among the words before it: that takes at most as many tests
- * of a word as the plot's cells times its words in use.
+ * Time. A question without "some" and "every" needs no range, and there is no search for it. For any other, one pass
+ * over plot and question finds where each value first occurs. Each time a "some" or "every" is asked, it goes from one
+ * value to the next and steps over the words between them, up to 32 at a time: at most one step for each word in use
+ * and each word of the question, and at most 154 steps if the range has one value. The pass is quick for up to some
+ * hundreds of different values. In the worst case, with thousands of them, each cell or term is searched for among the
+ * words before it: that takes at most as many tests of a word as cells and terms times the words of plot and question.
  *
  * Measured on full plots (docs/BENCHMARKS.md), beside plotask_ask: a question without "some" and "every" takes 0.27 to
  * 0.42 of the time. With them, and with up to 205 different values, it takes 1.06 to 2.0 times as long, or less than
@@ -466,7 +478,7 @@ uint32_t plotask_ask(const uint32_t *header, size_t header_words, const uint32_t
  * milliseconds, where plotask_ask takes 26 microseconds for a question of one "every".
  *
  * Which to choose: this call if there is no memory for the list, and for questions without "some" and "every", since
- * plotask_ask lists the plot's values for these too; plotask_ask if there is memory and the plot may have thousands of
+ * plotask_ask lists the range for these too; plotask_ask if there is memory and the plot may have thousands of
  * different values.
  *
  *   header, header_words        PLOTASK_CONST_HEADER(&header) or PLOTASK_HEADER(&header)
