@@ -413,8 +413,8 @@ uint32_t plotask_encode(const uint32_t *header, size_t header_words, const uint3
  * Range. "Some" and "every" range over the plot's values in their order, and then over the question's inked terms in
  * the order of its words, each value once. A term counts even if its node is never asked, and the order is that of the
  * nodes' numbers, not of the tree. The numbers of sheets, variables and children are no terms, and the candidate's
- * cells are not part of the range. In a plot whose only row is (5), the values of this question are 5, 3 and 7, in this
- * order, though 7 stands in the left child:
+ * cells are not part of the range. In a plot whose only row is (5), this question ranges over 5, 3 and 7, in this
+ * order, although 7 stands in the left child of "or":
  *
  *   { PLOTASK_SOME, 0, 1 }, { PLOTASK_OR, 3, 2 }, { PLOTASK_EQUAL, 5, 3 }, { PLOTASK_EQUAL, PLOTASK_VARIABLE(0), 7 }
  *

@@ -6,10 +6,14 @@
 static struct plot plot;
 static struct query query;
 
-/* How far a walk over the plot's values has come. */
+/* How far a walk over the range has come. */
 struct walk {
-    size_t at; /* the index of the next value in the list or, without a list, of the row to go on with */
-    uint32_t column;
+    size_t listed; /* values of the list that it has passed */
+    /* Without a list: the cell to go on with and, once the rows have ended, the query's term. */
+    size_t row;
+    size_t column;
+    size_t node;
+    size_t term;
 };
 
 /* One query being asked: where its values come from, and its cost so far. */
@@ -145,7 +149,7 @@ static enum truth over_values(struct asking *asking, const struct junction *junc
                               const struct binding *bindings)
 {
     struct binding binding = {node->variable, 0, bindings};
-    struct walk walk = {0, 0};
+    struct walk walk = {0};
     enum truth truth = junction->start;
     while (truth != junction->stop && !is_spent(asking) && asking->next_value(asking, &walk, &binding.cell))
         truth = junction->join(truth, truth_of(asking, node->left, &binding));
@@ -181,41 +185,73 @@ static enum truth truth_of(struct asking *asking, const struct node *node, const
 
 static bool next_listed(const struct asking *asking, struct walk *walk, uint32_t *value)
 {
-    if (walk->at == asking->listed)
+    if (walk->listed == asking->listed)
         return false;
-    *value = asking->list[walk->at++];
+    *value = asking->list[walk->listed++];
     return true;
 }
 
-/* Whether the cell of a row and column stood earlier: in a row before it, or in a column before it of the same row. */
-static bool stood_earlier(size_t row, uint32_t column)
+/* Whether a cell stands in a row before this one, or in this row in a column before the given one. */
+static bool stood_in_plot(uint32_t cell, size_t row, size_t column)
 {
-    uint32_t cell = plot.rows[row].cells[column];
-    for (uint32_t i = 0; i < column; i++)
+    for (size_t i = 0; i < column; i++)
         if (plot.rows[row].cells[i] == cell)
             return true;
     for (size_t earlier = 0; earlier < row; earlier++)
-        for (uint32_t i = 0; i < plot.arities[plot.rows[earlier].relation]; i++)
+        for (size_t i = 0; i < plot.arities[plot.rows[earlier].relation]; i++)
             if (plot.rows[earlier].cells[i] == cell)
                 return true;
     return false;
 }
 
-/* "By walking the rows and passing over any cell that stood earlier." */
-static bool next_in_rows(const struct asking *asking, struct walk *walk, uint32_t *value)
+/* The same of a node and a term. */
+static bool stood_in_query(uint32_t constant, size_t node, size_t term)
 {
-    (void)asking;
-    for (; walk->at < plot.row_count; walk->at++, walk->column = 0) {
-        const struct row *row = &plot.rows[walk->at];
-        while (walk->column < plot.arities[row->relation]) {
-            uint32_t column = walk->column++;
-            if (!stood_earlier(walk->at, column)) {
-                *value = row->cells[column];
+    for (size_t i = 0; i < term; i++)
+        if (query.nodes[node].terms[i] == constant)
+            return true;
+    for (size_t earlier = 0; earlier < node; earlier++)
+        for (size_t i = 0; i < query.nodes[earlier].term_count; i++)
+            if (query.nodes[earlier].terms[i] == constant)
                 return true;
-            }
+    return false;
+}
+
+/* "By walking the rows and passing over any cell that stood earlier." */
+static bool next_in_rows(struct walk *walk, uint32_t *value)
+{
+    for (; walk->row < plot.row_count; walk->row++, walk->column = 0) {
+        const struct row *row = &plot.rows[walk->row];
+        while (walk->column < plot.arities[row->relation]) {
+            size_t column = walk->column++;
+            *value = row->cells[column];
+            if (!stood_in_plot(*value, walk->row, column))
+                return true;
         }
     }
     return false;
+}
+
+/* The query's terms, passing over variables and any constant that stood earlier, in the plot or in the query. */
+static bool next_in_query(struct walk *walk, uint32_t *value)
+{
+    for (; walk->node < query.node_count; walk->node++, walk->term = 0) {
+        const struct node *node = &query.nodes[walk->node];
+        while (walk->term < node->term_count) {
+            size_t term = walk->term++;
+            *value = node->terms[term];
+            if (is_constant(*value) && !stood_in_plot(*value, plot.row_count, 0) &&
+                !stood_in_query(*value, walk->node, term))
+                return true;
+        }
+    }
+    return false;
+}
+
+static bool next_walked(const struct asking *asking, struct walk *walk, uint32_t *value)
+{
+    (void)asking;
+    return next_in_rows(walk, value) || next_in_query(walk, value);
 }
 
 /* Takes plot and query apart: returns 0, or the first refusal that both ways of asking have. */
@@ -247,9 +283,9 @@ uint32_t ref_ask(const uint32_t *header, size_t header_length, const uint32_t *w
         take_apart(header, header_length, words, length, query_words, query_length, candidate, candidate_length);
     if (refusal != 0)
         return refusal;
-    if (list_length < plot_cells(&plot))
+    if (list_length < plot_cells(&plot) + query_constants(&query))
         return 45;
-    asking.listed = plot_values(&plot, list);
+    asking.listed = query_range(&query, &plot, list);
     return answer(&asking, truth, cost);
 }
 
@@ -257,7 +293,7 @@ uint32_t ref_ask_unlisted(const uint32_t *header, size_t header_length, const ui
                           const uint32_t *query_words, size_t query_length, const uint32_t *candidate,
                           size_t candidate_length, uint32_t budget, uint32_t *truth, uint32_t *cost)
 {
-    struct asking asking = {.candidate = candidate, .next_value = next_in_rows, .budget = budget};
+    struct asking asking = {.candidate = candidate, .next_value = next_walked, .budget = budget};
     uint32_t refusal =
         take_apart(header, header_length, words, length, query_words, query_length, candidate, candidate_length);
     return refusal != 0 ? refusal : answer(&asking, truth, cost);

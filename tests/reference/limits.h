@@ -10,6 +10,7 @@ enum {
     NULLS = 200,         /* null n, from 1 on, is the cell CONSTANTS + n */
     NODE_WORDS = 8,
     MOST_NODES = 100,
+    MOST_TERMS = MOST_NODES * MOST_COLUMNS, /* of a query; none has as many */
     VARIABLES = 16,
     FIRST_VARIABLE = 2000000, /* variable v is the term FIRST_VARIABLE + v */
     MOST_INPUT = 16384,

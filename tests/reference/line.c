@@ -38,7 +38,7 @@ static uint32_t take_fields(struct fields *fields, const uint8_t *input, size_t 
     return bytes.at < bytes.length ? 18 : 0;
 }
 
-/* The program's way to ask: with a list that is long enough for every plot. */
+/* The program's way to ask: with a list that is long enough for every plot and query. */
 static uint32_t ask_listed(const uint32_t *header, size_t header_length, const uint32_t *words, size_t length,
                            const uint32_t *query, size_t query_length, const uint32_t *candidate,
                            size_t candidate_length, uint32_t budget, uint32_t *truth, uint32_t *cost)

@@ -79,18 +79,22 @@ size_t plot_words(const struct plot *plot)
     return plot->row_count + plot_cells(plot);
 }
 
+size_t list_once(uint32_t *list, size_t count, uint32_t value)
+{
+    for (size_t i = 0; i < count; i++)
+        if (list[i] == value)
+            return count;
+    list[count] = value;
+    return count + 1;
+}
+
 size_t plot_values(const struct plot *plot, uint32_t *list)
 {
     size_t count = 0;
     for (size_t i = 0; i < plot->row_count; i++) {
         const struct row *row = &plot->rows[i];
-        for (uint32_t column = 0; column < plot->arities[row->relation]; column++) {
-            size_t at = 0;
-            while (at < count && list[at] != row->cells[column])
-                at++;
-            if (at == count)
-                list[count++] = row->cells[column];
-        }
+        for (uint32_t column = 0; column < plot->arities[row->relation]; column++)
+            count = list_once(list, count, row->cells[column]);
     }
     return count;
 }

@@ -28,6 +28,8 @@ size_t plot_words(const struct plot *plot);
 size_t plot_cells(const struct plot *plot);
 /* Writes the plot's values to the list, and returns their number. */
 size_t plot_values(const struct plot *plot, uint32_t *list);
+/* Appends a value to a list unless it is there, and returns the number of its values. */
+size_t list_once(uint32_t *list, size_t count, uint32_t value);
 void plot_write_rows(const struct plot *plot, uint32_t *words);
 /* Writes rows and header: returns 0, or 42 if the rows have no room, and then writes nothing. */
 uint32_t plot_store(const struct plot *plot, uint32_t *header, uint32_t *words, size_t length);

@@ -112,6 +112,27 @@ uint32_t query_take_apart(struct query *query, const struct plot *plot, const ui
     return 0;
 }
 
+size_t query_constants(const struct query *query)
+{
+    size_t count = 0;
+    for (size_t number = 0; number < query->node_count; number++)
+        for (size_t i = 0; i < query->nodes[number].term_count; i++)
+            count += is_constant(query->nodes[number].terms[i]);
+    return count;
+}
+
+size_t query_range(const struct query *query, const struct plot *plot, uint32_t *list)
+{
+    size_t count = plot_values(plot, list);
+    for (size_t number = 0; number < query->node_count; number++) {
+        const struct node *node = &query->nodes[number];
+        for (size_t i = 0; i < node->term_count; i++)
+            if (is_constant(node->terms[i]))
+                count = list_once(list, count, node->terms[i]);
+    }
+    return count;
+}
+
 uint32_t term_cell(uint32_t term, const struct binding *bindings, const uint32_t *candidate)
 {
     if (is_constant(term))

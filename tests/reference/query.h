@@ -24,6 +24,14 @@ struct query {
 uint32_t query_take_apart(struct query *query, const struct plot *plot, const uint32_t *words, size_t length,
                           const uint32_t *candidate, size_t candidate_length);
 
+/* The number of constants among the terms, each time one stands there. */
+size_t query_constants(const struct query *query);
+/*
+ * "The plot's values and then the question's own inked terms, by node and word, each value once": writes this range to
+ * the list, and returns the number of its values.
+ */
+size_t query_range(const struct query *query, const struct plot *plot, uint32_t *list);
+
 /* The variables that the quantifiers above a node have bound, nearest first. */
 struct binding {
     uint32_t variable;

@@ -1,7 +1,8 @@
 /*
- * A second implementation of document 01, and of document 02's log, charge for a row, asking with no working list and
- * row counts, written from these documents alone. The tests compare the library with it; the two share no code. Each
- * call is named after the library's, returns 0 or the number of a refusal, and takes a slice as a pointer and a length.
+ * A second implementation of document 01, and of document 02's log, charge for a row, asking with no working list,
+ * values named in the question and row counts, written from these documents alone. The tests compare the library with
+ * it; the two share no code. Each call is named after the library's, returns 0 or the number of a refusal, and takes a
+ * slice as a pointer and a length.
  *
  * Names are the field's. Document 01 says head, sheet and column count for header, relation and arity; inked value and
  * mark for constant and null; question, verdict, looks and allowance for query, truth, cost and budget; reading,

@@ -5,14 +5,14 @@
 
 static struct plot plot;
 static struct query query;
-static uint32_t values[MOST_WORDS];
+static uint32_t values[MOST_WORDS + MOST_TERMS];
 static size_t value_count;
 
 static void take_apart(const struct model *model, const uint32_t *words, size_t length)
 {
     plot_take_apart(&plot, model->header, HEADER_WORDS, model->words, model->header[HEADER_USED]);
-    value_count = plot_values(&plot, values);
     query_take_apart(&query, &plot, words, length, model->candidate, model->candidate_length);
+    value_count = query_range(&query, &plot, values);
 }
 
 static uint64_t leaves_of(const struct node *node)
