@@ -4,6 +4,10 @@
 static size_t places[PLOT_ROOM];
 static size_t value_count;
 
+/* These and then the constants that the query names. */
+static uint32_t range[PLOT_ROOM];
+static size_t range_count;
+
 /* Whether the cell at a place is also the number of a relation that has an earlier row. */
 static bool was_relation_number(const struct any_plot *plot, size_t place)
 {
@@ -51,40 +55,73 @@ static void note_all(const struct any_plot *plot)
         note(MANY_IN_ONE_BUCKET);
 }
 
-/* The number of values up to and including a cell, or of all if it is none of them. */
-static size_t values_up_to(const struct any_plot *plot, uint32_t cell)
+/* The number of values of the range up to and including a cell, or of all if it is none of them. */
+static size_t values_up_to(uint32_t cell)
 {
     size_t count = 0;
-    while (count < value_count && plot->words[places[count]] != cell)
+    while (count < range_count && range[count] != cell)
         count++;
-    return count < value_count ? count + 1 : count;
+    return count < range_count ? count + 1 : count;
 }
 
 static void note_one(const struct any_plot *plot, uint32_t cell)
 {
-    if (!is_value(plot, cell))
+    if (!is_value(plot, cell)) {
+        if (is_among(range, range_count, cell))
+            note(NAMED_VALUE_FOUND);
         return;
-    size_t place = places[values_up_to(plot, cell) - 1];
+    }
+    size_t place = places[values_up_to(cell) - 1];
     if (was_relation_number(plot, place))
         note(RELATION_NUMBER_FOUND);
     if (value_count >= 100 && place == places[value_count - 1])
         note(LAST_VALUE_FOUND);
 }
 
-void check_values(const struct any_plot *plot, enum value_query query, const struct any_cells *candidate, uint32_t cost)
+/* What the equalities of constants cost: they are asked if the candidate's cell is not found. */
+static size_t cost_of_named(const struct any_query *query, uint32_t cell)
+{
+    const uint32_t *first = query->words + FIRST_NAMED_NODE * NODE_WORDS;
+    if (is_among(range, range_count, cell))
+        return 0;
+    return first[1] == first[2] ? 1 : 2;
+}
+
+static size_t expected_cost(const struct any_query *query, enum value_query kind, uint32_t cell)
+{
+    switch (kind) {
+    case VALUES_UP_TO_EACH:
+    case UP_TO_EACH_AND_NAMED:
+        return range_count * (range_count + 1) / 2;
+    case VALUES_UP_TO_ONE:
+        return values_up_to(cell);
+    case UP_TO_ONE_AND_NAMED:
+        return values_up_to(cell) + cost_of_named(query, cell);
+    default:
+        return range_count;
+    }
+}
+
+static void note_values(const struct any_plot *plot, enum value_query kind, uint32_t cell)
+{
+    if (kind == UP_TO_EACH_AND_NAMED && range_count > value_count + 1)
+        note(NAMED_IN_VALUES);
+    if (kind == ALL_AND_NAMED && range_count > value_count)
+        note(NAMED_BUT_NOT_ASKED);
+    if (kind == VALUES_UP_TO_EACH && value_count >= 10)
+        note(VALUES_IN_VALUES);
+    if (kind == VALUES_UP_TO_ONE || kind == UP_TO_ONE_AND_NAMED)
+        note_one(plot, cell);
+    if (kind == ALL_VALUES && value_count > 0)
+        note_all(plot);
+}
+
+void check_values(const struct any_plot *plot, const struct any_query *query, enum value_query kind,
+                  const struct any_cells *candidate, uint32_t cost)
 {
     value_count = first_places(plot, places);
-    size_t expected = value_count;
-    if (query == VALUES_UP_TO_EACH) {
-        expected = value_count * (value_count + 1) / 2;
-        if (value_count >= 10)
-            note(VALUES_IN_VALUES);
-    } else if (query == VALUES_UP_TO_ONE) {
-        expected = values_up_to(plot, candidate->cells[0]);
-        note_one(plot, candidate->cells[0]);
-    } else if (value_count > 0) {
-        note_all(plot);
-    }
-    if (cost != expected)
+    range_count = range_of(plot, query, range);
+    note_values(plot, kind, candidate->cells[0]);
+    if (cost != expected_cost(query, kind, candidate->cells[0]))
         fail("the cost is not the number of values that the query comes to");
 }

@@ -299,6 +299,24 @@ static struct answer answer_of(uint32_t number, const struct lent *truth, const 
     return answer;
 }
 
+/*
+ * Fails unless the list that an ask of an undamaged plot left begins with the range, and is as before behind it. Both
+ * sides could have the same wrong range.
+ */
+static void check_list(const struct any_plot *plot, const struct any_query *query, const struct lent *list)
+{
+    static uint32_t range[PLOT_ROOM];
+    const uint32_t *left = list->library;
+    const uint32_t *before = list->before;
+    size_t count = range_of(plot, query, range);
+    if (count > list->count)
+        fail("the working list has no room for the range");
+    if (memcmp(left, range, count * sizeof *range) != 0)
+        fail("the working list does not begin with the range");
+    if (memcmp(left + count, before + count, (list->count - count) * sizeof *range) != 0)
+        fail("a word of the working list behind the range has changed");
+}
+
 static struct answer both_ask_listed(const struct any_plot *plot, const struct any_query *query,
                                      const struct any_cells *candidate, size_t list_length, uint32_t budget)
 {
@@ -313,6 +331,8 @@ static struct answer both_ask_listed(const struct any_plot *plot, const struct a
     uint32_t number = end(plotask_ask(LIBRARY_QUERY(asked), LIBRARY(l), budget, t->library, n->library),
                           ref_ask(REFERENCE_QUERY(asked), REFERENCE(l), budget, t->reference, n->reference));
     struct answer answer = answer_of(number, t, n);
+    if (number == 0 || number == 46)
+        check_list(plot, query, l);
     take_all_back();
     return answer;
 }
@@ -345,7 +365,7 @@ uint32_t both_ask(struct any_plot *plot, const struct any_query *query, const st
     struct answer listed = both_ask_listed(plot, query, candidate, list_length, budget);
     struct answer expected = listed;
     if (listed.number == 45) {
-        expected = both_ask_listed(plot, query, candidate, count_cells(plot), budget);
+        expected = both_ask_listed(plot, query, candidate, list_need(plot, query), budget);
         if (expected.number != 0 && expected.number != 46)
             fail("a query that lacked only a longer working list is refused with one");
         note(expected.number == 0 ? ANSWERED_WITHOUT_LIST : SPENT_WITHOUT_LIST);

@@ -173,7 +173,7 @@ void try_two_runs(struct random *random, const struct palette *palette, struct a
     if (foresee(plot, &query, &candidate, 3000, &a.cost) != 0)
         return;
     a.budget = a.cost + (one_in(random, 3) ? below(random, 1000) : 0);
-    a.list_length = count_cells(plot) + below(random, 3);
+    a.list_length = list_need(plot, &query) + below(random, 3);
     if (both_ask(plot, &query, &candidate, a.list_length, a.budget, &a.truth, &a.cost) != 0)
         fail("a query is refused that the reference accepted");
     before = *plot;

@@ -7,7 +7,7 @@
 
 enum {
     HEADER_ROOM = HEADER_WORDS + 2, /* words: some headers are to be too long */
-    PLOT_ROOM = 4400,               /* words: some plots are to be over 4,096 */
+    PLOT_ROOM = 4400,               /* words: some plots are to be over 4,096; a working list needs no more */
     LOG_ROOM = 12000,               /* words: three entries of a full plot */
     CARD_ROOM = 327700,             /* bytes: 65,535 rows of one column */
     QUERY_ROOM = 832,               /* words: 101 nodes, and what damage adds */
@@ -131,13 +131,23 @@ void make_query(struct random *random, const struct palette *palette, const uint
 void make_row_query(struct random *random, const struct palette *palette, const struct any_plot *plot,
                     struct any_cells *candidate, struct any_query *query);
 
-/* Queries about the values alone, which cost 1 for each value that they come to. */
+/*
+ * Queries about the range alone, which cost 1 for each value that they come to. Those of the second half have constants
+ * in other nodes, numbered before and after these: of them an equality is asked after VALUES_UP_TO_ONE if its cell is
+ * not found, and a further one if the first is not true. Else they are not asked.
+ */
 enum value_query {
     ALL_VALUES,
     VALUES_UP_TO_ONE,  /* up to and including the candidate's first cell, or all if that is none of them */
     VALUES_UP_TO_EACH, /* for each value, up to and including itself */
+    ALL_AND_NAMED,
+    UP_TO_ONE_AND_NAMED,
+    UP_TO_EACH_AND_NAMED,
     NO_VALUE_QUERY
 };
+
+/* The number of the first of the constants' nodes that is asked: its terms decide whether the second is. */
+enum { FIRST_NAMED_NODE = 5 };
 
 /* One of these, for a plot that has rows, with its candidate. */
 void make_value_query(struct random *random, const struct any_plot *plot, struct any_cells *candidate,
@@ -150,6 +160,18 @@ void make_any_query(struct random *random, const struct palette *palette, const 
 void damage_query(struct random *random, struct any_query *query);
 /* A query whose cost is above 2^32 if the plot has 8 values or more. */
 void make_endless_query(struct random *random, struct any_query *query);
+
+/* The constants among a node's terms, and among those of all nodes by number, each time one stands there. */
+size_t constants_of_node(const struct any_plot *plot, const uint32_t *node, uint32_t constants[MOST_COLUMNS]);
+size_t constants_of_query(const struct any_plot *plot, const struct any_query *query, uint32_t constants[QUERY_ROOM]);
+/* The words that a working list needs, for an undamaged plot. */
+size_t list_need(const struct any_plot *plot, const struct any_query *query);
+/* The values of an undamaged plot, and what a query ranges over there; each returns their number. */
+size_t values_of_plot(const struct any_plot *plot, uint32_t values[PLOT_ROOM]);
+size_t range_of(const struct any_plot *plot, const struct any_query *query, uint32_t range[PLOT_ROOM]);
+/* Appends the constants that a range lacks, each once, and returns the number of its values. */
+size_t add_new(uint32_t *range, size_t count, const uint32_t *constants, size_t constant_count);
+bool is_among(const uint32_t *values, size_t count, uint32_t value);
 
 /* What the reference says with this budget: returns the number, and writes the cost if that is 0. */
 uint32_t foresee(const struct any_plot *plot, const struct any_query *query, const struct any_cells *candidate,

@@ -14,21 +14,35 @@ struct tree {
     struct random *random;
     const struct palette *palette;
     const uint32_t *header;
-    size_t chain; /* of 8 joins, about this many put a single node on one side */
+    size_t chain;     /* of 8 joins, about this many put a single node on one side */
+    size_t constants; /* of 8 terms where a variable is bound, about this many are constants */
     struct tree_node nodes[MOST_NODES + 1];
     size_t node_count;
 };
 
+/* A constant for a term: most often of the palette, else the first, the last or one that may be another word. */
+static uint32_t named_constant(struct tree *tree)
+{
+    switch (below(tree->random, 16)) {
+    case 0:
+        return one_in(tree->random, 2) ? 0 : CONSTANTS - 1;
+    case 1:
+        return below(tree->random, one_in(tree->random, 2) ? VARIABLES : MOST_NODES);
+    default:
+        return any_constant(tree->random, tree->palette);
+    }
+}
+
 /* A constant, or a variable that is bound here. */
 static uint32_t make_term(struct tree *tree, uint32_t bound)
 {
-    if (bound != 0 && !one_in(tree->random, 4)) {
+    if (bound != 0 && below(tree->random, 8) >= tree->constants) {
         uint32_t variable = below(tree->random, VARIABLES);
         while ((bound >> variable & 1) == 0)
             variable = (variable + 1) % VARIABLES;
         return FIRST_VARIABLE + variable;
     }
-    return any_constant(tree->random, tree->palette);
+    return named_constant(tree);
 }
 
 static void make_leaf(struct tree *tree, struct tree_node *node, uint32_t bound)
@@ -133,8 +147,9 @@ void make_query(struct random *random, const struct palette *palette, const uint
     tree.palette = palette;
     tree.header = header;
     tree.chain = below(random, 9);
+    tree.constants = below(random, 5);
     tree.node_count = 0;
-    size_t depth = any_depth(random, value_count);
+    size_t depth = any_depth(random, value_count + tree.constants);
     size_t size = any_node_count(random);
     grow(&tree, size, depth, (1u << k) - 1);
     number_nodes(&tree, query);
@@ -168,15 +183,20 @@ void make_row_query(struct random *random, const struct palette *palette, const 
     }
 }
 
-enum { V0 = FIRST_VARIABLE, V1, V2 };
+/* C stands for any constant. */
+enum { V0 = FIRST_VARIABLE, V1, V2, C = CONSTANTS };
 
 static const struct {
     size_t nodes;
-    uint32_t words[3][NODE_WORDS];
+    uint32_t words[7][NODE_WORDS];
 } value_queries[NO_VALUE_QUERY] = {
     [ALL_VALUES] = {2, {{EVERY, 1, 1}, {EQUAL, V1, V1}}},
     [VALUES_UP_TO_ONE] = {2, {{SOME, 1, 1}, {EQUAL, V1, V0}}},
     [VALUES_UP_TO_EACH] = {3, {{EVERY, 1, 1}, {SOME, 2, 2}, {EQUAL, V2, V1}}},
+    [ALL_AND_NAMED] = {6, {{OR, 3, 1}, {OR, 5, 2}, {EQUAL, C, C}, {EVERY, 1, 4}, {EQUAL, V1, V1}, {EQUAL, C, C}}},
+    [UP_TO_ONE_AND_NAMED] = {6, {{OR, 3, 1}, {OR, 5, 2}, {EQUAL, C, C}, {SOME, 1, 4}, {EQUAL, V1, V0}, {EQUAL, C, C}}},
+    [UP_TO_EACH_AND_NAMED] =
+        {7, {{OR, 3, 1}, {OR, 5, 2}, {EQUAL, C, C}, {EVERY, 1, 4}, {SOME, 2, 6}, {EQUAL, C, C}, {EQUAL, V2, V1}}},
 };
 
 /* A cell to find among a plot's values: its last word, any word, or the number of a relation, which may be no value. */
@@ -188,23 +208,62 @@ static uint32_t cell_to_find(struct random *random, const struct any_plot *plot)
     return plot->words[one_in(random, 3) ? used - 1 : below(random, used)];
 }
 
+/* A constant of the plot, a small one that may be the number of a node, variable or relation, a limit, or any. */
+static uint32_t constant_to_name(struct random *random, const struct any_plot *plot)
+{
+    uint32_t word = plot->words[below(random, plot->header[HEADER_USED])];
+    if (one_in(random, 3) && word < CONSTANTS)
+        return word;
+    if (one_in(random, 2))
+        return below(random, MOST_RELATIONS);
+    if (one_in(random, 2))
+        return one_in(random, 2) ? 0 : CONSTANTS - 1;
+    return below(random, CONSTANTS);
+}
+
+/* Puts constants for C, and some of them twice; the candidate may be one of them. */
+static void name_constants(struct random *random, const struct any_plot *plot, struct any_cells *candidate,
+                           struct any_query *query)
+{
+    uint32_t last = constant_to_name(random, plot);
+    for (size_t i = 0; i < query->length; i++)
+        if (query->words[i] == C) {
+            last = one_in(random, 4) ? last : constant_to_name(random, plot);
+            query->words[i] = last;
+            if (one_in(random, 4))
+                candidate->cells[0] = last;
+        }
+}
+
 void make_value_query(struct random *random, const struct any_plot *plot, struct any_cells *candidate,
                       struct any_query *query)
 {
-    size_t choice = below(random, count_values(plot) < 60 ? NO_VALUE_QUERY : VALUES_UP_TO_EACH);
+    bool few = count_values(plot) < 60;
+    size_t choice = below(random, few ? ALL_AND_NAMED : VALUES_UP_TO_EACH) + (one_in(random, 2) ? ALL_AND_NAMED : 0);
     candidate->length = 1;
     candidate->cells[0] = cell_to_find(random, plot);
     query->length = value_queries[choice].nodes * NODE_WORDS;
     memcpy(query->words, value_queries[choice].words, query->length * sizeof *query->words);
+    name_constants(random, plot, candidate, query);
+}
+
+static bool is_value_query(const struct any_query *query, size_t choice)
+{
+    const uint32_t *words = value_queries[choice].words[0];
+    if (query->length != value_queries[choice].nodes * NODE_WORDS)
+        return false;
+    for (size_t i = 0; i < query->length; i++)
+        if (words[i] == C ? query->words[i] >= CONSTANTS : query->words[i] != words[i])
+            return false;
+    return true;
 }
 
 enum value_query value_query_of(const struct any_query *query)
 {
-    for (size_t i = 0; i < NO_VALUE_QUERY; i++)
-        if (query->length == value_queries[i].nodes * NODE_WORDS &&
-            memcmp(query->words, value_queries[i].words, query->length * sizeof *query->words) == 0)
-            return (enum value_query)i;
-    return NO_VALUE_QUERY;
+    size_t choice = 0;
+    while (choice < NO_VALUE_QUERY && !is_value_query(query, choice))
+        choice++;
+    return (enum value_query)choice;
 }
 
 void make_any_query(struct random *random, const struct palette *palette, const struct any_plot *plot,
