@@ -2,17 +2,17 @@
  * Queries at the limits, asked of the library alone, with a working list and without one.
  *
  * Costs at the limit of 32 bits: the reference would take too long, but the costs can be added up by hand. Relation 0
- * has 2,046 rows, 2,043 times (0) and then three times (1); the plot's values are these two. "Stands in relation 0"
+ * has 2,046 rows, 2,043 times (0) and then three times (1); the queries range over these two. "Stands in relation 0"
  * costs 1 and the rows up to and including the first identical one, or all of them:
  *
  *   0                                                             1 + 1 = 2
  *   1                                                             1 + 2,044 = 2,045
- *   5                                                             1 + 2,046 = 2,047
+ *   5, a cell of the candidate                                    1 + 2,046 = 2,047
  *
  *   every x: x = x and every x: x = x and .. 20 times over        2 + 4 + .. + 2^20 = 2^21 - 2
  *   every x, 20 of them above one another: not 5 stands in
  *     relation 0, and every x: x stands in relation 0             2^20 * (2,047 + 2 + 2,045) = 2^32 - 2^21
- *   5 = 5                                                         1
+ *   0 = 0                                                         1
  *
  * The two long parts and one equality cost 2^32 - 1, the most that a budget can cover. The row asked last is (1), and
  * its count ends two rows before the relation does.
@@ -25,7 +25,8 @@
 #include <stdio.h>
 #include <string.h>
 
-enum { ROWS = 2046, ROWS_OF_0 = 2043, X = FIRST_VARIABLE };
+/* X is bound by the quantifiers, Y is the candidate's second cell. */
+enum { ROWS = 2046, ROWS_OF_0 = 2043, X = FIRST_VARIABLE, Y };
 
 static uint32_t query[MOST_NODES + 1][NODE_WORDS];
 static uint32_t node_count;
@@ -35,6 +36,10 @@ static uint32_t header[HEADER_WORDS + 1];
 static size_t header_length;
 static uint32_t words[MOST_WORDS];
 static size_t length;
+
+/* The candidate has two cells, or none. */
+static uint32_t candidate[2];
+static size_t candidate_length;
 
 static void start_query(void)
 {
@@ -74,26 +79,50 @@ struct answer {
 /* What no call writes. */
 static const struct answer unwritten = {99, 99, 99};
 
+/* A working list, with a word behind what any query needs. */
+static uint32_t list[PLOTASK_LIST_WORDS + 1];
+static size_t list_length = PLOTASK_LIST_WORDS;
+
+/* Has the candidate's second cell hold this. */
+static void set_candidate(uint32_t cell)
+{
+    candidate[1] = cell;
+    candidate_length = 2;
+}
+
+static struct answer ask_listed(uint32_t budget)
+{
+    struct answer answer = unwritten;
+    answer.number = plotask_ask(header, header_length, words, length, query[0], node_count * NODE_WORDS, candidate,
+                                candidate_length, list, list_length, budget, &answer.truth, &answer.cost);
+    return answer;
+}
+
+static struct answer ask_unlisted(uint32_t budget)
+{
+    struct answer answer = unwritten;
+    answer.number = plotask_ask_unlisted(header, header_length, words, length, query[0], node_count * NODE_WORDS,
+                                         candidate, candidate_length, budget, &answer.truth, &answer.cost);
+    return answer;
+}
+
 static bool is_answer(const struct answer *given, const struct answer *expected)
 {
     return given->number == expected->number && given->truth == expected->truth && given->cost == expected->cost;
 }
 
-/* Checks that the query, with no candidate, has this answer by both ways. A refused one writes no truth and no cost. */
+static void check_given(const char *name, const char *way, struct answer given, const struct answer *expected)
+{
+    if (!check(is_answer(&given, expected)))
+        printf("%s, %s a list: number %" PRIu32 ", truth %" PRIu32 ", cost %" PRIu32 "\n", name, way, given.number,
+               given.truth, given.cost);
+}
+
+/* Checks that the query has this answer by both ways. A refused one writes no truth and no cost. */
 static void check_answer(const char *name, uint32_t budget, const struct answer *expected)
 {
-    static uint32_t list[PLOTASK_CELLS];
-    const uint32_t none[1] = {0};
-    struct answer listed = unwritten, unlisted = unwritten;
-    listed.number = plotask_ask(header, header_length, words, length, query[0], node_count * NODE_WORDS, none, 0, list,
-                                PLOTASK_CELLS, budget, &listed.truth, &listed.cost);
-    unlisted.number = plotask_ask_unlisted(header, header_length, words, length, query[0], node_count * NODE_WORDS,
-                                           none, 0, budget, &unlisted.truth, &unlisted.cost);
-    const struct answer *const given[] = {&listed, &unlisted};
-    for (size_t i = 0; i < 2; i++)
-        if (!check(is_answer(given[i], expected)))
-            printf("%s, %s a list: number %" PRIu32 ", truth %" PRIu32 ", cost %" PRIu32 "\n", name,
-                   i == 0 ? "with" : "without", given[i]->number, given[i]->truth, given[i]->cost);
+    check_given(name, "with", ask_listed(budget), expected);
+    check_given(name, "without", ask_unlisted(budget), expected);
 }
 
 static void check_truth(const char *name, uint32_t budget, uint32_t truth, uint32_t cost)
@@ -112,7 +141,7 @@ static void make_costly_query(size_t equalities)
     start_query();
     for (size_t i = 0; i < equalities; i++) {
         add_node(AND, node_count + 1, node_count + 2);
-        add_node(EQUAL, 5, 5);
+        add_node(EQUAL, 0, 0);
     }
     add_node(AND, node_count + 1, node_count + 1 + 59); /* the part on its left has 59 nodes */
     for (size_t i = 0; i < 20; i++) {
@@ -125,7 +154,7 @@ static void make_costly_query(size_t equalities)
         add_node(EVERY, 0, node_count + 1);
     add_node(AND, node_count + 1, node_count + 3);
     add_node(NOT, node_count + 1, 0);
-    add_node(ROW_STANDS, 0, 5);
+    add_node(ROW_STANDS, 0, Y);
     add_node(EVERY, 0, node_count + 1);
     add_node(ROW_STANDS, 0, X);
 }
@@ -136,11 +165,13 @@ static void check_costs(void)
     start_plot(1, &arity);
     for (uint32_t row = 0; row < ROWS; row++)
         add_row(0, row >= ROWS_OF_0, 0);
+    set_candidate(5);
     make_costly_query(1);
     check_truth("the highest cost", UINT32_MAX, TRUTH_TRUE, UINT32_MAX);
     make_costly_query(2);
     check_refusal("one more than the highest cost", UINT32_MAX, 46);
     check_refusal("one more than the highest cost, budget 0", 0, 46);
+    candidate_length = 0;
 }
 
 /* A quantifier over the values above an equality of each value and a term. */
@@ -170,7 +201,77 @@ static void check_most_values(void)
     make_value_query(SOME, words[length - 1]);
     check_truth("the last of 3,510 values", values, TRUTH_TRUE, values);
     make_value_query(SOME, words[length - 1] + 1);
+    check_truth("a constant behind 3,510 values", values + 1, TRUTH_TRUE, values + 1);
+    check_refusal("a constant behind 3,510 values, one too many for the budget", values, 46);
+    make_value_query(SOME, Y);
+    set_candidate(words[length - 1] + 1);
     check_truth("none of 3,510 values", values, TRUTH_FALSE, values);
+    candidate_length = 0;
+}
+
+/* "Some" above a chain of "and", with 50 rows of six constants: each is `first` and those at further steps. */
+static void make_widest_query(uint32_t first, uint32_t step)
+{
+    start_query();
+    add_node(SOME, 0, 1);
+    while (node_count < MOST_NODES - 1) {
+        add_node(AND, node_count + 1, node_count + 2);
+        add_node(ROW_STANDS, 0, 0);
+    }
+    add_node(ROW_STANDS, 0, 0);
+    for (uint32_t node = 1; node < MOST_NODES; node++)
+        for (uint32_t i = 2; query[node][0] == ROW_STANDS && i < NODE_WORDS; i++, first += step)
+            query[node][i] = first;
+}
+
+static void fill_list(uint32_t word)
+{
+    for (size_t i = 0; i <= PLOTASK_LIST_WORDS; i++)
+        list[i] = word;
+}
+
+/* Whether the list begins with the plot's values and so many constants, and has `behind` in all words after these. */
+static bool list_is(uint32_t first, uint32_t step, size_t constants, uint32_t behind)
+{
+    size_t at = 0;
+    bool same = true;
+    for (size_t i = 0; i < length; i += 1 + arity_of(header, words[i]))
+        for (size_t column = 1; column <= arity_of(header, words[i]); column++)
+            same = same && list[at++] == words[i + column];
+    for (size_t i = 0; i < constants; i++, first += step)
+        same = same && list[at++] == first;
+    while (at <= PLOTASK_LIST_WORDS)
+        same = same && list[at++] == behind;
+    return same;
+}
+
+/*
+ * The most words that a list can need, over the plot of 3,510 values as it is: 300 constants more, all different or all
+ * the same. The first row is not among the 584 of relation 0, so that each value costs 585 and the rest is not asked.
+ */
+static void check_longest_list(void)
+{
+    static const struct {
+        const char *name;
+        uint32_t step;
+        size_t constants;
+    } cases[] = {{"300 different constants", 100, 300}, {"300 equal constants", 0, 1}};
+    for (size_t i = 0; i < 2; i++) {
+        uint32_t cost = 585 * (uint32_t)(PLOTASK_CELLS + cases[i].constants);
+        make_widest_query(1, cases[i].step);
+        check(node_count == MOST_NODES);
+        fill_list(77);
+        check_truth(cases[i].name, cost, TRUTH_FALSE, cost);
+        check(list_is(1, cases[i].step, cases[i].constants, 77));
+        fill_list(78);
+        check_refusal(cases[i].name, cost - 1, 46);
+        check(list_is(1, cases[i].step, cases[i].constants, 78));
+        fill_list(79);
+        list_length = PLOTASK_LIST_WORDS - 1;
+        check_given(cases[i].name, "with one word less of", ask_listed(UINT32_MAX), &(const struct answer){45, 99, 99});
+        check(list[0] == 79 && memcmp(list, list + 1, PLOTASK_LIST_WORDS * sizeof *list) == 0);
+        list_length = PLOTASK_LIST_WORDS;
+    }
 }
 
 /* 100 nodes in one chain, over the plot as it is: each quantifier stops at its first value. */
@@ -239,6 +340,7 @@ int main(void)
 {
     check_costs();
     check_most_values();
+    check_longest_list();
     check_most_nodes();
     check_lengths();
     check_most_rows();

@@ -1,6 +1,6 @@
 /*
- * Document 01's "Readings to hold up beside the rules", what a row costs, and a history with a log, asked of the
- * library and of the reference at once.
+ * Document 01's "Readings to hold up beside the rules", what a row costs, values named in the query, and a history with
+ * a log, asked of the library and of the reference at once.
  */
 #include "differential/compare.h"
 #include "support/checks.h"
@@ -31,6 +31,7 @@ static const struct plot_text row_m1_m1_6 = {1, {3}, 4, {0, M(1), M(1), 6}};
 static const struct plot_text two_relations = {2, {1, 1}, 4, {0, 201, 1, M(1)}};
 static const struct plot_text row_m1 = {1, {1}, 2, {0, M(1)}};
 static const struct plot_text rows_m1_8 = {1, {1}, 4, {0, M(1), 0, 8}};
+static const struct plot_text row_5 = {1, {1}, 2, {0, 5}};
 static const struct plot_text row_m200 = {1, {1}, 2, {0, M(200)}};
 static const struct plot_text three_pairs = {1, {2}, 9, {0, 5, 6, 0, 5, M(1), 0, 5, 7}};
 static const struct plot_text six_rows = {2, {1, 1}, 12, {0, 5, 1, 7, 0, 6, 0, M(1), 0, 6, 0, 9}};
@@ -56,6 +57,12 @@ static const struct query_text zero_or_not = {
 static const struct query_text some_equal = {2, {{SOME, 0, 1}, {EQUAL, X(0), X(0)}}};
 static const struct query_text every_equal = {2, {{EVERY, 0, 1}, {EQUAL, X(0), X(0)}}};
 static const struct query_text every_7 = {2, {{EVERY, 0, 1}, {EQUAL, X(0), 7}}};
+static const struct query_text some_unused_201 = {
+    5, {{SOME, 0, 1}, {AND, 2, 3}, {EQUAL, X(0), 201}, {NOT, 4}, {ROW_STANDS, 0, X(0)}}};
+static const struct query_text some_unused = {
+    5, {{SOME, 0, 1}, {AND, 2, 3}, {EQUAL, X(0), X(1)}, {NOT, 4}, {ROW_STANDS, 0, X(0)}}};
+static const struct query_text some_7_and_9 = {4, {{AND, 2, 1}, {EQUAL, 9, 9}, {SOME, 0, 3}, {EQUAL, X(0), 7}}};
+static const struct query_text every_in_some = {4, {{EVERY, 0, 1}, {SOME, 1, 2}, {NOT, 3}, {EQUAL, X(1), 6}}};
 
 struct reading {
     const char *name;
@@ -85,7 +92,7 @@ static const struct reading readings[] = {
     {"6: after m1 by 201", &two_relations, {1, 201}, &without, {{201}, 1}, 100, 0, NO, 4},
     {"6: after m1 by 202", &two_relations, {1, 202}, &without, {{201}, 1}, 100, 0, YES, 4},
     {"7: without twice", &two_relations, {0, 0}, &without_without, {{201}, 1}, 100, 0, UNKNOWN, 6},
-    {"8: x = 0 or not x = 0", &row_m1, {0, 0}, &zero_or_not, {{0}, 0}, 100, 0, UNKNOWN, 4},
+    {"8: x = 0 or not x = 0", &row_m1, {0, 0}, &zero_or_not, {{0}, 0}, 100, 0, UNKNOWN, 7},
     {"9: some x, x = x, no rows", &no_rows, {0, 0}, &some_equal, {{0}, 0}, 0, 0, NO, 0},
     {"9: every x, x = x, no rows", &no_rows, {0, 0}, &every_equal, {{0}, 0}, 0, 0, YES, 0},
     {"10: every x, x = 7", &rows_m1_8, {0, 0}, &every_7, {{0}, 0}, 9, 0, NO, 2},
@@ -124,6 +131,20 @@ static const struct reading charges[] = {
     {"charge: every value of the six rows", &six_rows, {0, 0}, &every_stands, {{0}, 0}, 23, 0, YES, 23},
 };
 
+/*
+ * "Some" and "every" range over the plot's values and then the query's own constants, by node and word: 201 "stands
+ * only in the question". The budget is the cost.
+ */
+static const struct reading named[] = {
+    {"named: some unused, 201", &row_5, {0, 0}, &some_unused_201, {{0}, 0}, 4, 0, YES, 4},
+    {"named: some unused, no rows", &no_rows, {0, 0}, &some_unused_201, {{0}, 0}, 2, 0, YES, 2},
+    {"named: some unused, the candidate's 201", &row_5, {0, 0}, &some_unused, {{0, 201}, 2}, 1, 0, NO, 1},
+    {"named: every x, x = 7, no rows", &no_rows, {0, 0}, &every_7, {{0}, 0}, 1, 0, YES, 1},
+    {"named: 9 in node 1, before 7 in node 3", &row_5, {0, 0}, &some_7_and_9, {{0}, 0}, 4, 0, YES, 4},
+    {"named: 6 as the value of both quantifiers", &row_m1, {0, 0}, &every_in_some, {{0}, 0}, 4, 0, UNKNOWN, 4},
+    {"named: 6 after m1 by 6", &row_m1, {1, 6}, &every_in_some, {{0}, 0}, 1, 0, NO, 1},
+};
+
 static void check_named(const char *name, bool holds)
 {
     if (!check(holds))
@@ -151,7 +172,8 @@ static void check_reading(const struct reading *reading)
     memcpy(query.words, reading->query->words, sizeof reading->query->words);
     if (reading->substitution.null != 0)
         both_substitute(&plot, reading->substitution.null, reading->substitution.cell, &count);
-    uint32_t number = both_ask(&plot, &query, &reading->candidate, plot.length, reading->budget, &truth, &cost);
+    size_t need = list_need(&plot, &query);
+    uint32_t number = both_ask(&plot, &query, &reading->candidate, need, reading->budget, &truth, &cost);
     bool same = number == 0 && truth == reading->truth && cost == reading->cost;
     check_named(reading->name, number == reading->number && (number != 0 || same));
 }
@@ -184,9 +206,11 @@ static void check_limits(void)
         query.words[node * NODE_WORDS + 1] = node + 1 < MOST_NODES ? node + 1 : 0;
     }
     query.length = MOST_NODES * NODE_WORDS;
-    check_named("12: 100 nodes", both_ask(&plot, &query, &none, 1, 1, &truth, &cost) == 0 && truth == NO);
+    size_t need = list_need(&plot, &query); /* the plot's cell, and the two terms of `0 = 0` */
+    bool answered = both_ask(&plot, &query, &none, need, 1, &truth, &cost) == 0;
+    check_named("12: 100 nodes", need == 3 && answered && truth == NO);
     query.length += NODE_WORDS;
-    check_named("12: 808 words", both_ask(&plot, &query, &none, 1, 1, &truth, &cost) == 21);
+    check_named("12: 808 words", both_ask(&plot, &query, &none, need, 1, &truth, &cost) == 21);
 }
 
 /* A step of the history: the call, what it returns, and the words in use of plot and log after it. */
@@ -282,6 +306,8 @@ int main(void)
         check_reading(&readings[i]);
     for (size_t i = 0; i < sizeof charges / sizeof *charges; i++)
         check_charge(&charges[i]);
+    for (size_t i = 0; i < sizeof named / sizeof *named; i++)
+        check_charge(&named[i]);
     check_limits();
     check_history();
     check_longest_entry();

@@ -1,6 +1,6 @@
 /*
- * Which values a plot has, and in which order, on plots where a walk over the rows could go wrong. The library and the
- * reference are asked, with a working list and without one.
+ * Which values a query ranges over, and in which order, where a walk over the rows and then the query's words could go
+ * wrong. The library and the reference are asked, with a working list and without one.
  */
 #include "differential/compare.h"
 #include "support/checks.h"
@@ -47,11 +47,12 @@ static bool answers(const uint32_t nodes[][NODE_WORDS], size_t count, uint32_t c
     uint32_t cost_given;
     query.length = count * NODE_WORDS;
     memcpy(query.words, nodes, query.length * sizeof *query.words);
-    if (both_ask(&plot, &query, &candidate, plot.length, cost, &truth_given, &cost_given) != 0)
+    size_t need = list_need(&plot, &query);
+    if (both_ask(&plot, &query, &candidate, need, cost, &truth_given, &cost_given) != 0)
         return false;
     if (truth_given != truth || cost_given != cost)
         return false;
-    return cost == 0 || both_ask(&plot, &query, &candidate, plot.length, cost - 1, &truth_given, &cost_given) == 46;
+    return cost == 0 || both_ask(&plot, &query, &candidate, need, cost - 1, &truth_given, &cost_given) == 46;
 }
 
 /* Each value is found after those before it, and no further one is met; the cell `absent` is none of them. */
@@ -109,6 +110,74 @@ static const struct {
     {"values not in rising order", 9, {0, 9, M(200), 0, 3, 9, 0, M(1), 0}, {5, {9, M(200), 3, M(1), 0}}},
 };
 
+/*
+ * A plot of three relations, of arities 2, 1 and 6, and the nodes from 3 on of a query whose nodes 0 to 2 ask about its
+ * range, and ask no further node if the answer is true.
+ */
+static const struct {
+    const char *name;
+    size_t used;
+    uint32_t words[9];
+    size_t nodes;
+    uint32_t query[3][NODE_WORDS];
+    struct values values;
+} named[] = {
+    {"a term that the plot lacks", 2, {1, 5}, 1, {{EQUAL, 7, X(0)}}, {2, {5, 7}}},
+    {"a term that the plot has", 3, {0, 5, 6}, 1, {{EQUAL, 7, 5}}, {3, {5, 6, 7}}},
+    {"the last word of the plot as a term", 3, {0, 5, 6}, 1, {{EQUAL, 6, 7}}, {3, {5, 6, 7}}},
+    {"a term twice in a node", 2, {1, 5}, 1, {{EQUAL, 7, 7}}, {2, {5, 7}}},
+    {"a term in two nodes", 2, {1, 5}, 3, {{OR, 4, 5}, {EQUAL, 7, 8}, {EQUAL, 9, 7}}, {4, {5, 7, 8, 9}}},
+    {"a right child before the left", 2, {1, 5}, 3, {{OR, 5, 4}, {EQUAL, 9, 8}, {EQUAL, 7, 9}}, {4, {5, 9, 8, 7}}},
+    {"a term below a quantifier", 2, {1, 5}, 3, {{NOT, 4}, {SOME, 6, 5}, {EQUAL, X(6), 4}}, {2, {5, 4}}},
+    {"no rows and two terms", 0, {0}, 1, {{EQUAL, CONSTANTS - 1, 0}}, {2, {CONSTANTS - 1, 0}}},
+    {"a null and a term", 2, {1, M(1)}, 1, {{EQUAL, 0, X(0)}}, {2, {M(1), 0}}},
+    {"a relation's number alone", 2, {1, 5}, 1, {{ROW_STANDS, 1, X(0)}}, {1, {5}}},
+    {"a relation's number as a term", 2, {1, 5}, 1, {{ROW_STANDS, 1, 1}}, {2, {5, 1}}},
+    {"a node's kind as a term", 2, {1, 5}, 1, {{EQUAL, 5, 2}}, {2, {5, 2}}},
+    {"a variable's and a child's number as terms", 2, {1, 5}, 1, {{EQUAL, 1, 3}}, {3, {5, 1, 3}}},
+    {"the first inked value as a term", 2, {1, 5}, 1, {{EQUAL, 0, X(0)}}, {2, {5, 0}}},
+    {"the first of two terms of a row", 2, {1, 5}, 1, {{ROW_STANDS, 0, 8, X(0)}}, {2, {5, 8}}},
+    {"the last word of the query",
+     7,
+     {2, 1, 2, 3, 4, 5, 6},
+     1,
+     {{ROW_STANDS, 2, X(0), X(0), X(0), X(0), X(0), 9}},
+     {7, {1, 2, 3, 4, 5, 6, 9}}},
+    {"six terms of a row, of which the plot has two",
+     3,
+     {0, 5, 3},
+     1,
+     {{ROW_STANDS, 2, 7, 5, 8, 7, 3, 4}},
+     {5, {5, 3, 7, 8, 4}}},
+};
+
+/* Each value is found after those before it, and no further one is met. */
+static void expect_range(size_t at)
+{
+    static const uint32_t every[3][NODE_WORDS] = {{OR, 1, 3}, {EVERY, 1, 2}, {EQUAL, X(1), X(1)}};
+    static const uint32_t find[3][NODE_WORDS] = {{OR, 1, 3}, {SOME, 1, 2}, {EQUAL, X(1), X(0)}};
+    const struct values *values = &named[at].values;
+    uint32_t query[6][NODE_WORDS];
+    memcpy(query[3], named[at].query, sizeof named[at].query);
+    memcpy(query, every, sizeof every);
+    bool holds = answers(query, 3 + named[at].nodes, 0, TRUTH_TRUE, (uint32_t)values->count);
+    memcpy(query, find, sizeof find);
+    for (uint32_t i = 0; i < values->count; i++)
+        holds = holds && answers(query, 3 + named[at].nodes, values->cells[i], TRUTH_TRUE, i + 1);
+    if (!check(holds))
+        printf("the range over %s is another\n", named[at].name);
+}
+
+static void check_named(void)
+{
+    static const uint32_t arities[] = {2, 1, 6};
+    for (size_t i = 0; i < sizeof named / sizeof *named; i++) {
+        start(3, arities);
+        add_rows(named[i].words, named[i].used);
+        expect_range(i);
+    }
+}
+
 /* 4,096 words of which all cells but the last are 5. */
 static void check_full_plot(void)
 {
@@ -129,6 +198,7 @@ int main(void)
         expect_values(plots[i].name, &plots[i].values, 1);
     }
     check_relation_numbers();
+    check_named();
     check_full_plot();
     return finish_checks();
 }

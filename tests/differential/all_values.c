@@ -45,7 +45,7 @@ static void note_all(const struct any_plot *plot)
             note(RELATION_NUMBER_FIRST);
             break;
         }
-    if (!is_value(plot, plot->words[0]))
+    if (!is_among(range, range_count, plot->words[0]))
         note(RELATION_NUMBER_ONLY);
     if (used == MOST_WORDS && places[value_count - 1] == used - 1)
         note(LAST_OF_4096_WORDS);
@@ -108,11 +108,11 @@ static void note_values(const struct any_plot *plot, enum value_query kind, uint
         note(NAMED_IN_VALUES);
     if (kind == ALL_AND_NAMED && range_count > value_count)
         note(NAMED_BUT_NOT_ASKED);
-    if (kind == VALUES_UP_TO_EACH && value_count >= 10)
+    if ((kind == VALUES_UP_TO_EACH || kind == UP_TO_EACH_AND_NAMED) && value_count >= 10)
         note(VALUES_IN_VALUES);
     if (kind == VALUES_UP_TO_ONE || kind == UP_TO_ONE_AND_NAMED)
         note_one(plot, cell);
-    if (kind == ALL_VALUES && value_count > 0)
+    if ((kind == ALL_VALUES || kind == ALL_AND_NAMED) && value_count > 0)
         note_all(plot);
 }
 
