@@ -286,6 +286,7 @@ static void stack_table(void)
 
 int main(void)
 {
+    check_listing();
     query_table();
     full_table();
     call_table();

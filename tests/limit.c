@@ -209,7 +209,7 @@ static void check_most_values(void)
     candidate_length = 0;
 }
 
-/* "Some" above a chain of "and", with 50 rows of six constants: each is `first` and those at further steps. */
+/* "Some" above a chain of "and" with 50 rows of six constants. The first is given; each next one is a step higher. */
 static void make_widest_query(uint32_t first, uint32_t step)
 {
     start_query();
@@ -256,6 +256,7 @@ static void check_longest_list(void)
         uint32_t step;
         size_t constants;
     } cases[] = {{"300 different constants", 100, 300}, {"300 equal constants", 0, 1}};
+    const struct answer short_list = {45, unwritten.truth, unwritten.cost};
     for (size_t i = 0; i < 2; i++) {
         uint32_t cost = 585 * (uint32_t)(PLOTASK_CELLS + cases[i].constants);
         make_widest_query(1, cases[i].step);
@@ -268,7 +269,7 @@ static void check_longest_list(void)
         check(list_is(1, cases[i].step, cases[i].constants, 78));
         fill_list(79);
         list_length = PLOTASK_LIST_WORDS - 1;
-        check_given(cases[i].name, "with one word less of", ask_listed(UINT32_MAX), &(const struct answer){45, 99, 99});
+        check_given(cases[i].name, "with one word less of", ask_listed(UINT32_MAX), &short_list);
         check(list[0] == 79 && memcmp(list, list + 1, PLOTASK_LIST_WORDS * sizeof *list) == 0);
         list_length = PLOTASK_LIST_WORDS;
     }

@@ -1,4 +1,4 @@
-/* The parts of a query: listing the values, and testing whether a row stands in a relation. */
+/* The parts of a query: listing its range, and testing whether a row stands in a relation. */
 #include "baseline.h"
 
 #include <string.h>
@@ -23,7 +23,19 @@ static int contains(const uint32_t *list, size_t n, uint32_t cell)
     return 0;
 }
 
-size_t list_by_scan(const struct plotask_header *header, const uint32_t *plot, uint32_t *list)
+/* The first of a node's terms, and their number. */
+INLINED const uint32_t *terms_of(const struct plotask_header *header, const uint32_t *node, uint32_t *count)
+{
+    if (node[0] == PLOTASK_STANDS) {
+        *count = header->arities[node[1]];
+        return node + 2;
+    }
+    *count = node[0] == PLOTASK_EQUAL ? 2 : 0;
+    return node + 1;
+}
+
+size_t list_by_scan(const struct plotask_header *header, const uint32_t *plot, const uint32_t *query,
+                    size_t query_words, uint32_t *list)
 {
     const uint32_t *end = plot + header->used;
     size_t count = 0;
@@ -32,28 +44,48 @@ size_t list_by_scan(const struct plotask_header *header, const uint32_t *plot, u
         for (uint32_t left = header->arities[*plot++]; left > 0; left--, plot++)
             if (!contains(list, count, *plot))
                 list[count++] = *plot;
+    for (size_t at = 0; at < query_words; at += PLOTASK_NODE_WORDS) {
+        uint32_t left;
+        for (const uint32_t *term = terms_of(header, query + at, &left); left > 0; left--, term++)
+            if (*term < PLOTASK_CONSTANTS && !contains(list, count, *term))
+                list[count++] = *term;
+    }
     return count;
 }
 
-/* A slot holds a value's index in the list, plus 1; 0 is free. At most 3,510 of the 8,192 slots are taken. */
-size_t list_by_table(const struct plotask_header *header, const uint32_t *plot, uint32_t *list)
+/*
+ * Appends a value to a list of `count` unless it is there, and returns the new number. A slot holds a value's index in
+ * the list, plus 1; 0 is free. At most 3,810 of the 8,192 slots are taken.
+ */
+INLINED size_t add_by_table(uint16_t slots[SLOTS], uint32_t *list, size_t count, uint32_t value)
+{
+    uint32_t at = value * 2654435761u >> 19;
+
+    while (slots[at] != 0 && list[slots[at] - 1] != value)
+        at = (at + 1) % SLOTS;
+    if (slots[at] == 0) {
+        list[count++] = value;
+        slots[at] = (uint16_t)count;
+    }
+    return count;
+}
+
+size_t list_by_table(const struct plotask_header *header, const uint32_t *plot, const uint32_t *query,
+                     size_t query_words, uint32_t *list)
 {
     uint16_t slots[SLOTS];
     const uint32_t *end = plot + header->used;
     size_t count = 0;
 
     memset(slots, 0, sizeof slots);
-    while (plot < end) {
-        for (uint32_t left = header->arities[*plot++]; left > 0; left--) {
-            uint32_t cell = *plot++;
-            uint32_t at = cell * 2654435761u >> 19;
-            while (slots[at] != 0 && list[slots[at] - 1] != cell)
-                at = (at + 1) % SLOTS;
-            if (slots[at] == 0) {
-                list[count++] = cell;
-                slots[at] = (uint16_t)count;
-            }
-        }
+    while (plot < end)
+        for (uint32_t left = header->arities[*plot++]; left > 0; left--, plot++)
+            count = add_by_table(slots, list, count, *plot);
+    for (size_t at = 0; at < query_words; at += PLOTASK_NODE_WORDS) {
+        uint32_t left;
+        for (const uint32_t *term = terms_of(header, query + at, &left); left > 0; left--, term++)
+            if (*term < PLOTASK_CONSTANTS)
+                count = add_by_table(slots, list, count, *term);
     }
     return count;
 }

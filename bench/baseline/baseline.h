@@ -1,6 +1,7 @@
 /*
  * The library's work written by hand in C, for speed, to compare times with. A query is not decoded here: each is a
- * loop written for it. Every plot is tested for soundness first, as the library does.
+ * loop written for it, and only the constants of its nodes are read. Every plot is tested for soundness first, as the
+ * library does.
  */
 #ifndef BASELINE_H
 #define BASELINE_H
@@ -17,10 +18,14 @@ static inline int is_cell_number(uint32_t number)
 
 int is_sound(const struct plotask_header *header, const uint32_t *plot, size_t plot_words);
 
-/* Lists the plot's values, each once, in the order in which they first occur, and returns their number. */
-typedef size_t listing(const struct plotask_header *header, const uint32_t *plot, uint32_t *list);
+/*
+ * Lists the plot's values and then the query's constants, each once, in the order in which they first occur, and
+ * returns their number.
+ */
+typedef size_t listing(const struct plotask_header *header, const uint32_t *plot, const uint32_t *query,
+                       size_t query_words, uint32_t *list);
 
-listing list_by_scan;  /* searches the list for each cell */
+listing list_by_scan;  /* searches the list for each cell and constant */
 listing list_by_table; /* with a hash table of 16 KiB */
 
 /* The truth of "the row stands in the relation" of a sound plot; what it costs is added to `cost`. */

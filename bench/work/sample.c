@@ -162,6 +162,15 @@ void ask_values(struct sample *sample)
     add_node(sample, PLOTASK_EQUAL, PLOTASK_VARIABLE(0), PLOTASK_VARIABLE(0));
 }
 
+void ask_named(struct sample *sample)
+{
+    sample->query_words = 0;
+    add_node(sample, PLOTASK_EVERY, 0, 1);
+    add_node(sample, PLOTASK_OR, 3, 2);
+    add_node(sample, PLOTASK_EQUAL, 999000, 999001);
+    add_node(sample, PLOTASK_EQUAL, PLOTASK_VARIABLE(0), PLOTASK_VARIABLE(0));
+}
+
 void ask_first_values(struct sample *sample)
 {
     sample->query_words = 0;

@@ -70,6 +70,9 @@ void ask_absent(struct sample *sample);
 /* every v0: v0 = v0 */
 void ask_values(struct sample *sample);
 
+/* every v0: v0 = v0 or 999000 = 999001, where the right child has the lower number; no plot here has the constants */
+void ask_named(struct sample *sample);
+
 /* every v0: some v1: v1 = v1, where "some" stops at the first value */
 void ask_first_values(struct sample *sample);
 

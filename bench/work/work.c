@@ -59,14 +59,14 @@ void ask_last_node(void)
     refusal = ask_nodes(now.query + now.query_words - PLOTASK_NODE_WORDS, PLOTASK_NODE_WORDS, UINT32_MAX);
 }
 
-static void ask_by_hand(listing *list_values)
+static void ask_by_hand(listing *list_range)
 {
     uint64_t cost = 0;
 
     refusal = !is_sound(&now.header, now.plot, PLOTASK_WORDS);
     if (refusal != PLOTASK_DONE)
         return;
-    truth = by_hand(list, list_values(&now.header, now.plot, list), &cost);
+    truth = by_hand(list, list_range(&now.header, now.plot, now.query, now.query_words, list), &cost);
     refusal = cost > UINT32_MAX;
     count = (uint32_t)cost;
 }
@@ -84,7 +84,7 @@ void ask_hashing(void)
 void ask_reference(void)
 {
     refusal = ref_ask(PLOTASK_HEADER(&now.header), now.plot, PLOTASK_WORDS, now.query, now.query_words, now.candidate,
-                      now.candidate_cells, list, PLOTASK_CELLS + 300, UINT32_MAX, &truth, &count);
+                      now.candidate_cells, list, PLOTASK_LIST_WORDS, UINT32_MAX, &truth, &count);
 }
 
 void decode(void)
@@ -252,6 +252,25 @@ void must_do(work *piece)
 {
     piece();
     must(refusal == PLOTASK_DONE, "a call is refused");
+}
+
+static void must_list(listing *list_range, const uint32_t *range, size_t count)
+{
+    must(list_range(&now.header, now.plot, now.query, now.query_words, list) == count, "another range by hand");
+    must(memcmp(list, range, count * sizeof *list) == 0, "another range by hand");
+}
+
+void check_listing(void)
+{
+    static uint32_t range[PLOTASK_LIST_WORDS];
+
+    make_plot(&now, PLOTASK_COLUMNS, FULL_ROWS, FEW_VALUES);
+    ask_named(&now);
+    must_do(ask);
+    must(count == FEW_VALUES + 2, "the constants of a query are not in its range");
+    memcpy(range, list, sizeof range);
+    must_list(list_by_scan, range, FEW_VALUES + 2);
+    must_list(list_by_table, range, FEW_VALUES + 2);
 }
 
 /* A row that is entered by hand is counted: the library, which tests the counts, takes the plot that it leaves. */

@@ -35,7 +35,7 @@ extern const struct build *build;
 /* What the last work returned: a refusal; if that is 0, the truth and cost of a query, or the count of another call. */
 extern uint32_t refusal, truth, count;
 
-/* A query as a loop in C: its truth over the listed values, and its cost. Set before ask_scanning and ask_hashing. */
+/* A query as a loop in C: its truth over the listed range, and its cost. Set before ask_scanning and ask_hashing. */
 typedef uint32_t answering(const uint32_t *values, size_t count, uint64_t *cost);
 extern answering *by_hand;
 
@@ -61,6 +61,9 @@ work there_and_back, there_and_back_by_hand, there_and_back_reference;
 
 /* The two calls by themselves: a logged fill with a fresh log, and the undo of its entry, again and again. */
 work substitute_logged, undo;
+
+/* Ends the program unless the range is listed by hand as by the library, for a query with constants. */
+void check_listing(void);
 
 /* A plot of this many rows, with null 1 in the first of every six cells, to replace, and its card to decode. */
 void prepare_calls(uint32_t columns, uint32_t rows);
