@@ -11,8 +11,7 @@ ghost use Rattle.query.specs.Named.{constantsAmong, namedIn, HasTerms};
 ghost use mathlib.Core.Bool.{true};
 use super::bucket::bucket_of;
 use calculus::cell::CONSTANTS;
-use query::inked::term_count;
-use query::inked::terms_start;
+use query::inked::terms_of;
 use query::words::NODE_WORDS;
 
 // Each word packs a value (low 20 bits) and a link (high 12 bits): cells are below 2^20, and a link is at most 4,095.
@@ -103,9 +102,7 @@ pub fn add_named(
     let mut count = n;
     let mut node = 0;
     while node < query.len() / NODE_WORDS {
-        let start = terms_start(query, node);
-        let end = start + term_count(query, arities, node);
-        count = add_constants(list, heads, count, &query[start..end]);
+        count = add_constants(list, heads, count, terms_of(query, arities, node));
         node += 1;
     }
     count

@@ -10,7 +10,7 @@ use lib.ListN.{length, getD, take, drop}
 use Rattle.calculus.specs.Cell.{isConstant}
 use Rattle.calculus.proofs.Lists.{drop-step}
 use Rattle.query.specs.Words.{Kind, rowStands, equals, negates, noKind, joins, ranges, kindOf, wordAt, nodeWords, nodeCount}
-use Rattle.query.specs.Named.{inkedAt, namedBy, namedFrom, firstTerm, termCount, constantsAmong, HasTerms}
+use Rattle.query.specs.Named.{inkedAt, namedBy, namedFrom, firstTerm, termCount, startOf, countAt, termsOf, constantsAmong, HasTerms}
 
 pub first-word : (qs : List ℕ) (i : ℕ) → wordAt qs i 0 ≡ getD qs (i * nodeWords) 0
 first-word qs i = ap (λ (n : ℕ). getD qs n 0) (let e : i * nodeWords + 0 ≡ i * nodeWords = omega arith in e)
@@ -75,16 +75,6 @@ pub part-lent : (qs : List ℕ) (s t a n : ℕ) → s ≡ a → t ≡ n → take
 part-lent qs s t a n e f = let g : s + t - s ≡ n = omega arith in rw (g, e) refl
 
 module _ (ars qs : List ℕ) where
-  -- where a node's terms begin in the question, and the terms
-  abbrev pub startOf : ℕ → ℕ
-  startOf i = i * nodeWords + firstTerm (kindOf (wordAt qs i 0))
-
-  abbrev pub countAt : ℕ → ℕ
-  countAt i = termCount ars qs i (kindOf (wordAt qs i 0))
-
-  abbrev pub termsOf : ℕ → List ℕ
-  termsOf i = take (countAt i) (drop (startOf i) qs)
-
   named-kind : (i : ℕ) (k : Kind) → namedBy ars qs i k ≡ inkedAt qs i (firstTerm k) (termCount ars qs i k)
   unfolding inkedAt
   named-kind i rowStands = refl
@@ -104,19 +94,19 @@ module _ (ars qs : List ℕ) where
     within-kind i noKind = omega arith
 
     -- a node's terms are within the node
-    pub terms-within : (i : ℕ) → startOf i + countAt i ≤ i * nodeWords + nodeWords
+    pub terms-within : (i : ℕ) → startOf ars qs i + countAt ars qs i ≤ i * nodeWords + nodeWords
     terms-within i = omega (arith, within-kind i (kindOf (wordAt qs i 0)))
 
     pub node-end : (i : ℕ) → i < nodeCount qs → i * nodeWords + nodeWords ≤ length qs
     node-end i l = let w = terms .whole in omega arith
 
-    pub named-node : (i : ℕ) → i < nodeCount qs → namedBy ars qs i (kindOf (wordAt qs i 0)) ≡ constantsAmong (termsOf i)
+    pub named-node : (i : ℕ) → i < nodeCount qs → namedBy ars qs i (kindOf (wordAt qs i 0)) ≡ constantsAmong (termsOf ars qs i)
     named-node i l =
         named-kind i (kindOf (wordAt qs i 0)) ∙
-        inked-among qs i (firstTerm (kindOf (wordAt qs i 0))) (countAt i) (omega (arith, terms-within i, node-end i l))
+        inked-among qs i (firstTerm (kindOf (wordAt qs i 0))) (countAt ars qs i) (omega (arith, terms-within i, node-end i l))
 
     -- the nodes from i: node i, and those after it
-    pub named-rest : (i : ℕ) → i < nodeCount qs → namedFrom ars qs i (nodeCount qs - i) ≡ constantsAmong (termsOf i) ++ namedFrom ars qs (i + 1) (nodeCount qs - (i + 1))
+    pub named-rest : (i : ℕ) → i < nodeCount qs → namedFrom ars qs i (nodeCount qs - i) ≡ constantsAmong (termsOf ars qs i) ++ namedFrom ars qs (i + 1) (nodeCount qs - (i + 1))
     unfolding namedFrom
     named-rest i l =
         let e : nodeCount qs - i ≡ suc (nodeCount qs - (i + 1)) = omega arith in

@@ -1,11 +1,11 @@
 -- The constants that a question names. Document 02, request 6: "the question's own inked terms, by node and word".
-use Prim.Native.Nat.{ℕ, zero, suc, _*_, _≤_, _<_}
+use Prim.Native.Nat.{ℕ, zero, suc, _+_, _*_, _≤_, _<_}
 use mathlib.Core.Path.{_≡_}
 use mathlib.Core.Bool.{cond}
 use mathlib.Core.List.{List, [], _∷_, _++_}
 use Rattle.calculus.specs.Cell.{isConstant}
 use Rattle.calculus.specs.Formula.{Query}
-use lib.ListN.{length}
+use lib.ListN.{length, take, drop}
 use Rattle.instance.specs.Header.{arityOf, maxRelations, maxColumns}
 use Rattle.query.specs.Words.{Kind, rowStands, equals, negates, noKind, joins, ranges, kindOf, wordAt, nodeWords, nodeCount}
 use Rattle.query.specs.Tree.{formulaOf}
@@ -58,6 +58,17 @@ termCount ars qs i negates = 0
 termCount ars qs i (joins j) = 0
 termCount ars qs i (ranges j) = 0
 termCount ars qs i noKind = 0
+
+-- where a node's terms begin in the question, how many there are, and the terms
+module _ (ars qs : List ℕ) where
+  abbrev pub startOf : ℕ → ℕ
+  startOf i = i * nodeWords + firstTerm (kindOf (wordAt qs i 0))
+
+  abbrev pub countAt : ℕ → ℕ
+  countAt i = termCount ars qs i (kindOf (wordAt qs i 0))
+
+  abbrev pub termsOf : ℕ → List ℕ
+  termsOf i = take (countAt i) (drop (startOf i) qs)
 
 -- the constants among words, each occurrence of one
 unfoldable pub constantsAmong : List ℕ → List ℕ

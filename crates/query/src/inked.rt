@@ -3,7 +3,7 @@ ghost use mathlib.Core.Path.{_≡_};
 ghost use Prim.Native.Nat.{_<_, _+_, _*_};
 ghost use lib.ListN.{length};
 ghost use Rattle.query.specs.Words.{nodeCount, nodeWords, wordAt, kindOf};
-ghost use Rattle.query.specs.Named.{firstTerm, termCount, constantsAmong, namedIn, HasTerms};
+ghost use Rattle.query.specs.Named.{firstTerm, termCount, termsOf, constantsAmong, namedIn, HasTerms};
 use super::words::NODE_WORDS;
 use calculus::cell::CONSTANTS;
 
@@ -34,6 +34,16 @@ pub fn term_count(query: &[u32], arities: &[u32; 8], node: usize) -> usize
     0
 }
 
+// A node's terms, as a part of the question.
+pub fn terms_of<'a>(query: &'a [u32], arities: &[u32; 8], node: usize) -> &'a [u32]
+    requires { ⌜ HasTerms (now arities) (now query) × (node < nodeCount (now query)) ⌝ }
+    ensures { λ r. ⌜ now r ≡ termsOf (now (arities .entry)) (now (query .entry)) node ⌝ }
+{
+    let start = terms_start(query, node);
+    let end = start + term_count(query, arities, node);
+    &query[start..end]
+}
+
 // The number of constants among words.
 fn count_constants(words: &[u32]) -> usize
     ensures { λ r. ⌜ r ≡ length (constantsAmong (now (words .entry))) ⌝ }
@@ -57,9 +67,7 @@ pub fn count_named(query: &[u32], arities: &[u32; 8]) -> usize
     let mut count = 0;
     let mut node = 0;
     while node < query.len() / NODE_WORDS {
-        let start = terms_start(query, node);
-        let end = start + term_count(query, arities, node);
-        count += count_constants(&query[start..end]);
+        count += count_constants(terms_of(query, arities, node));
         node += 1;
     }
     count

@@ -4,10 +4,9 @@ use mathlib.Core.Path.{_≡_}
 use mathlib.Core.List.{List, _++_}
 use native.Mathlib.Nat.{sub-zero}
 use native.Mathlib.Omega.{arith}
-use lib.ListN.{length, take, drop}
 use Rattle.query.specs.Words.{nodeCount}
-use Rattle.query.specs.Named.{namedFrom, namedIn, constantsAmong, HasTerms}
-use Rattle.query.proofs.KindTerms.{part-lent, termsOf, terms-within, node-end, named-rest}
+use Rattle.query.specs.Named.{namedFrom, namedIn, termsOf, constantsAmong}
+use Rattle.query.proofs.KindTerms.{named-rest}
 use Rattle.domain.specs.Chains.{Chained}
 use Rattle.domain.proofs.Listing.{Naming, naming-starts, naming-room, naming-node, naming-all}
 use Rattle.domain.proofs.chain.add_named.Statement.{statement}
@@ -24,16 +23,13 @@ abbrev μ-loop : tie.MeasureT-loop
 loop-holds : tie.Need-loop-holds Inv-loop μ-loop
 loop-holds c = (omega arith, c .before .before .pre .0 .1, rw sub-zero (naming-starts _ _ _))
 
-terms-start-requires : tie.Need-terms-start-requires Inv-loop μ-loop
-terms-start-requires c κs = (c .before .before .before .before .pre .0 .0 .whole, omega arith)
-
-term-count-requires : tie.Need-term-count-requires Inv-loop μ-loop
-term-count-requires c κs = (c .before .before .before .before .before .pre .0 .0, omega arith)
+terms-of-requires : tie.Need-terms-of-requires Inv-loop μ-loop
+terms-of-requires c κs = (c .before .before .before .before .before .before .pre .0 .0, omega arith)
 
 -- the terms of the node
-module _ (c : tie.After-term-count Inv-loop μ-loop) where
+module _ (c : tie.After-terms-of Inv-loop μ-loop) where
   abbrev start : tie.Start Inv-loop μ-loop
-  start = c .before .before .before .before .before .before
+  start = c .before .before .before .before .before .before .before
 
   abbrev qs : List ℕ
   qs = start .args .query .now
@@ -41,20 +37,11 @@ module _ (c : tie.After-term-count Inv-loop μ-loop) where
   abbrev ars : List ℕ
   ars = start .args .arities .now
 
-  abbrev terms : HasTerms ars qs
-  terms = start .pre .0 .0
-
   abbrev node : ℕ
-  node = c .before .before .before .loop .node
+  node = c .before .before .before .before .loop .node
 
   below : node < nodeCount qs
   below = omega arith
-
-  ends : c .before .terms-start .result + c .term-count .result ≤ length qs
-  ends = omega (arith, c .before .terms-start .ensures, c .term-count .ensures, terms-within ars qs terms node, node-end ars qs terms node below)
-
-  lent : take (c .before .terms-start .result + c .term-count .result - c .before .terms-start .result) (drop (c .before .terms-start .result) qs) ≡ termsOf ars qs node
-  lent = part-lent qs _ _ _ _ (c .before .terms-start .ensures) (c .term-count .ensures)
 
   abbrev here : List ℕ
   here = constantsAmong (termsOf ars qs node)
@@ -62,32 +49,16 @@ module _ (c : tie.After-term-count Inv-loop μ-loop) where
   abbrev rest : List ℕ
   rest = namedFrom ars qs (node + 1) (nodeCount qs - (node + 1))
 
-  so-far : Naming (namedIn ars qs) (start .args .list .now) (start .args .n) (c .before .before .before .loop .list) (c .before .before .before .loop .count) (here ++ rest)
-  so-far = rw (named-rest ars qs terms node below) at (c .before .before .before .loop .inv .2)
-
-add-end : tie.Need-add-end Inv-loop μ-loop
-add-end c = omega (arith, ends c)
-
-mul-add-constants : tie.Need-mul-add-constants Inv-loop μ-loop
-mul-add-constants c = omega (arith, ends (c .before .before))
-
-sub-add-constants : tie.Need-sub-add-constants Inv-loop μ-loop
-sub-add-constants c = omega arith
-
-part-add-constants-start : tie.Need-part-add-constants-start Inv-loop μ-loop
-part-add-constants-start c = omega arith
-
-part-add-constants-end : tie.Need-part-add-constants-end Inv-loop μ-loop
-part-add-constants-end c = omega (arith, ends (c .before .before))
+  so-far : Naming (namedIn ars qs) (start .args .list .now) (start .args .n) (c .before .before .before .before .loop .list) (c .before .before .before .before .loop .count) (here ++ rest)
+  so-far = rw (named-rest ars qs (start .pre .0 .0) node below) at (c .before .before .before .before .loop .inv .2)
 
 add-constants-requires : tie.Need-add-constants-requires Inv-loop μ-loop
 add-constants-requires c κs =
-    let b = c .before .before .before in
-    let room = naming-room (here b) (rest b) (so-far b) in
-    rw (lent b) (
-      omega (arith, room, start b .pre .1 .0, so-far b .added .long),
-      omega (arith, room, start b .pre .1 .1),
-      b .before .before .before .loop .inv .1,
+    let room = naming-room (here c) (rest c) (so-far c) in
+    rw (c .terms-of .ensures) (
+      omega (arith, room, start c .pre .1 .0, so-far c .added .long),
+      omega (arith, room, start c .pre .1 .1),
+      c .before .before .before .before .loop .inv .1,
     )
 
 add-node : tie.Need-add-node Inv-loop μ-loop
@@ -98,9 +69,9 @@ loop-less c = omega arith
 
 loop-again : tie.Need-loop-again Inv-loop μ-loop
 loop-again c =
-    let b = c .before .before .before .before .before .before in
+    let b = c .before .before .before in
     let call = c .before .before .add-constants in
-    let added = rw (lent b) at (call .ensures .1) in
+    let added = rw (b .terms-of .ensures) at (call .ensures .1) in
     (omega arith, call .ensures .0, naming-node (here b) (rest b) (so-far b) added)
 
 same-length : tie.Need-same-length Inv-loop μ-loop
@@ -120,13 +91,7 @@ add-named-spec =
     Inv-loop
     μ-loop
     loop-holds
-    terms-start-requires
-    term-count-requires
-    add-end
-    mul-add-constants
-    sub-add-constants
-    part-add-constants-start
-    part-add-constants-end
+    terms-of-requires
     add-constants-requires
     add-node
     loop-less

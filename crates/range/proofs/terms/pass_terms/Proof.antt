@@ -6,8 +6,8 @@ use native.Mathlib.Nat.{sub-zero}
 use native.Mathlib.Omega.{arith}
 use lib.ListN.{length, take, drop}
 use Rattle.query.specs.Words.{nodeCount, nodeWords}
-use Rattle.query.specs.Named.{namedFrom, namedIn, constantsAmong, HasTerms}
-use Rattle.query.proofs.KindTerms.{part-lent, startOf, countAt, termsOf, terms-within, node-end, named-rest}
+use Rattle.query.specs.Named.{namedFrom, namedIn, startOf, countAt, termsOf, constantsAmong, HasTerms}
+use Rattle.query.proofs.KindTerms.{part-lent, terms-within, node-end, named-rest}
 use Rattle.range.specs.Flagged.{Passed}
 use Rattle.range.proofs.Asked.{passed-starts, passed-then, asking-kept}
 use Rattle.range.proofs.terms.pass_terms.Statement.{statement}
