@@ -132,9 +132,9 @@ void make_row_query(struct random *random, const struct palette *palette, const 
                     struct any_cells *candidate, struct any_query *query);
 
 /*
- * Queries about the range alone, which cost 1 for each value that they come to. Those of the second half have constants
- * in other nodes, numbered before and after these: of them an equality is asked after VALUES_UP_TO_ONE if its cell is
- * not found, and a further one if the first is not true. Else they are not asked.
+ * Queries about the range alone, which cost 1 for each value that they come to. Those of the second half also have two
+ * equalities of constants, in nodes numbered before and after the others. They are asked only if UP_TO_ONE_AND_NAMED
+ * does not find its cell: the first, and the second unless the first is true.
  */
 enum value_query {
     ALL_VALUES,
@@ -146,7 +146,7 @@ enum value_query {
     NO_VALUE_QUERY
 };
 
-/* The number of the first of the constants' nodes that is asked: its terms decide whether the second is. */
+/* The node of the equality of constants that is asked first. */
 enum { FIRST_NAMED_NODE = 5 };
 
 /* One of these, for a plot that has rows, with its candidate. */

@@ -20,7 +20,7 @@ struct tree {
     size_t node_count;
 };
 
-/* A constant for a term: most often of the palette, else the first, the last or one that may be another word. */
+/* A constant for a term: most often of the palette, else a limit, or one that may be a variable's or node's number. */
 static uint32_t named_constant(struct tree *tree)
 {
     switch (below(tree->random, 16)) {
