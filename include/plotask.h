@@ -111,7 +111,7 @@
  *
  *   ask            3,616 for a question of 1 node, and for any of up to 4 levels, where the tests of plot and question
  *                  go deepest; at most 208 more for each further level; 23,512 for 100 nodes in one chain
- *   ask unlisted   3,056 for the same questions; at most 208 more for each further level; 22,952 for 100 nodes in one
+ *   ask unlisted   3,200 for the same questions; at most 208 more for each further level; 23,096 for 100 nodes in one
  *                  chain
  *   null counts    1,040
  *   insert           368
