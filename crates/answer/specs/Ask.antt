@@ -68,12 +68,12 @@ hasPlace none n = true
 abbrev pub needed : Header → (ws qs : List ℕ) → List ℕ
 needed h ws qs = cellsOf (rows h ws) ++ namedIn (h .arities) qs
 
--- No question needs more: 3,510 cells and 300 inked terms (`proofs/Need.antt`, `need-few`).
+-- The most that a question may need: 3,510 cells and 300 inked terms. `proofs/Need.antt`, `need-few`: none needs more.
 abbrev pub mostNeeded : ℕ
 mostNeeded = 3810
 
--- Where "some" and "every" get their values from: the list has them; or, document 02, "finds the plot's values by
--- walking the rows and passing over any cell that stood earlier", and then the question's inked terms in the same way.
+-- Where "some" and "every" get their values from: from the list; or by walking the rows "and passing over any cell that
+-- stood earlier" (document 02, request 4), and then the question's inked terms in the same way.
 abbrev pub rangeOf : Lent → List ℕ → List Row → List ℕ
 rangeOf (list buffer) named rs = rangeOver named rs
 rangeOf none named rs = walkedRange named rs

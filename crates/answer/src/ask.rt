@@ -20,8 +20,8 @@ use instance::header::Header;
 use known::describe;
 use query::inked::count_named;
 
-// Answers by the list of the range. The array is of this function, so that it can take the place on the stack that the
-// listing has left.
+// Answers by the list of the range. The array is a local of this function, so that it can take the place on the
+// stack that the listing has left.
 fn answer_listed(
     header: Header,
     instance: &[u32],

@@ -8,7 +8,7 @@ ghost use lib.ListN.{length, take};
 ghost use Rattle.calculus.specs.Model.{outcomeOf};
 ghost use Rattle.instance.specs.InstanceWellFormed.{InstanceOf};
 ghost use Rattle.instance.specs.Run.{modelOf};
-ghost use Rattle.known.specs.Known.{knownWords, flagsFrom, aritiesIn, flagAt, unpassed};
+ghost use Rattle.known.specs.Known.{knownWords, maxQueryWords, flagsFrom, aritiesIn, flagAt, unpassed};
 ghost use Rattle.query.specs.Words.{nodeCount, nodeWords};
 ghost use Rattle.query.specs.Named.{namedIn, queryOf, HasTerms};
 ghost use Rattle.instance.specs.Rows.{rowsFrom};
@@ -51,7 +51,7 @@ fn ranging(query: &[u32]) -> bool
 // Sets the flag of each place that a walk over the range passes over, if a node ranges over values.
 fn pass_for(words: &[u32], query: &[u32], arities: &[u32; 8], known: &mut [u32; 170])
     requires { ⌜ InstanceOf (aritiesIn (now known)) (now words) × HasTerms (now arities) (now query)
-        × (aritiesIn (now known) ≡ now arities) × (length (now query) ≤ 800) ⌝ }
+        × (aritiesIn (now known) ≡ now arities) × (length (now query) ≤ maxQueryWords) ⌝ }
     requires { ⌜ (length (now known) ≡ knownWords) × ((p : ℕ) → flagAt (now known) p ≡ false) ⌝ }
     ensures kept { λ _. ⌜ (length (now (known .exit)) ≡ knownWords) × (take flagsFrom (now (known .exit)) ≡ take flagsFrom (now (known .entry))) ⌝ }
     ensures walked { λ _. ⌜ (rangesAmong (now (query .entry)) (nodeCount (now (query .entry))) ≡ true

@@ -1,7 +1,7 @@
 -- The relational calculus (document 01: questions, as trees). A variable is bound by a quantifier or by the candidate row.
 use Prim.Native.Nat.{ℕ}
 use mathlib.Core.Bool.{Bool, true, _&&_}
-use mathlib.Core.List.{List, [], _∷_, _++_, map}
+use mathlib.Core.List.{List, map}
 use lib.ListN.{getD}
 use Rattle.calculus.specs.Cell.{isConstant, allConstant}
 use Rattle.calculus.specs.Padded.{padded}
@@ -51,23 +51,7 @@ inked (negation f) = inked f
 inked (junction j f g) = inked f && inked g
 inked (quantified j v f) = inked f
 
--- the constants of a formula, from left to right, each occurrence of one
-abbrev pub constantIn : Term → List ℕ
-constantIn (const c) = c ∷ []
-constantIn (var v) = []
-
-abbrev pub constantsIn : List Term → List ℕ
-constantsIn [] = []
-constantsIn (t ∷ ts) = constantIn t ++ constantsIn ts
-
-unfoldable pub constantsOf : Formula → List ℕ
-constantsOf (atom r ts) = constantsIn ts
-constantsOf (equal s t) = constantIn s ++ constantIn t
-constantsOf (negation f) = constantsOf f
-constantsOf (junction j f g) = constantsOf f ++ constantsOf g
-constantsOf (quantified j v f) = constantsOf f
-
--- A question: its formula, and its inked terms "by node and word", each occurrence of one. A node's right child may
+-- A question: its formula, and its inked terms "by node and word", repeats included. A node's right child may
 -- have a lower number than its left one, so the order of the words is not that of the formula.
 pub record Query : Type 0 where
   pub formula : Formula
@@ -76,7 +60,3 @@ pub record Query : Type 0 where
 -- every constant of a question is an inked value
 abbrev pub inkedQuery : Query → Bool
 inkedQuery q = inked (q .formula) && allConstant (q .named)
-
--- a formula whose nodes are numbered from left to right, as a question
-abbrev pub inOrder : Formula → Query
-inOrder f = record { formula = f; named = constantsOf f }

@@ -86,7 +86,8 @@ null-absent = 43
 abbrev pub output-too-short : ℕ
 output-too-short = 44
 
--- "working list shorter than the plot's cells"
+-- Document 02, request 6: "The working list needs a word for each cell of the plot and each inked term"; "45 for this
+-- need"
 abbrev pub buffer-too-short : ℕ
 buffer-too-short = 45
 

@@ -1,14 +1,10 @@
 -- The range, listed in a buffer row by row and then node by node. Assumes nothing.
-use Prim.Native.Nat.{ℕ, _+_, _≤_, _<_}
+use Prim.Native.Nat.{ℕ, _+_, _≤_}
 use mathlib.Core.Path.{_≡_, refl, sym, ap, _∙_}
-use mathlib.Core.Bool.{Bool, cond}
-use mathlib.Core.List.{List, [], _∷_, _++_, append-assoc, append-nil}
-use native.Mathlib.Numerals.{add-one}
+use mathlib.Core.List.{List, [], _++_, append-assoc, append-nil}
 use native.Mathlib.Omega.{arith}
-use borrow.Author.Tests.{lt-ltb, le-ltb}
-use lib.ListN.{length, getD, take, drop, length-map, length-append, take-append-drop}
-use lib.Seq.{length-take-le, take-suc}
-use Rattle.calculus.specs.Row.{Row, cellsOf}
+use lib.ListN.{length, take, drop, length-map, length-append, take-append-drop}
+use lib.Seq.{length-take-le}
 use Rattle.calculus.specs.Domain.{distinct}
 use Rattle.calculus.specs.Overwrite.{overwrite}
 use Rattle.calculus.proofs.Listing.{listing-distinct}
@@ -16,36 +12,6 @@ use Rattle.query.specs.Named.{constantsAmong}
 use Rattle.query.proofs.KindTerms.{among-append}
 use Rattle.domain.specs.Chains.{wordValue, valuesOf, Chained, Added}
 use Rattle.domain.proofs.Chains.{added-then, added-none}
-
--- n values of the cells `all` are listed in a buffer, and the cells of the rows `rest` are still to come
-pub record Listing (all before buffer : List ℕ) (n : ℕ) (rest : List Row) : Type 0 where
-  pub seen : List ℕ
-  pub room : n + length (cellsOf rest) ≤ length before
-  pub cells : seen ++ cellsOf rest ≡ all
-  pub added : Added before 0 seen buffer n
-
-pub listing-starts : (rs : List Row) (buffer : List ℕ) → length (cellsOf rs) ≤ length buffer → Listing (cellsOf rs) buffer buffer 0 rs
-listing-starts rs buffer l = record { seen = []; room = omega arith; cells = refl; added = added-none buffer 0 }
-
--- the cells of the next row are added
-module _ {all before buffer : List ℕ} {n : ℕ} {row : Row} {rest : List Row} (s : Listing all before buffer n (row ∷ rest)) where
-  pub listing-room : n + length (row .cells) ≤ length buffer
-  unfolding cellsOf
-  listing-room = omega (arith, s .room, s .added .long, length-append (row .cells) (cellsOf rest))
-
-  pub listing-row : {after : List ℕ} {m : ℕ} → Added buffer n (row .cells) after m → Listing all before after m rest
-  unfolding cellsOf
-  listing-row a = record {
-    seen = s .seen ++ row .cells;
-    room = omega (arith, s .room, a .most, length-append (row .cells) (cellsOf rest));
-    cells = append-assoc (s .seen) (row .cells) (cellsOf rest) ∙ s .cells;
-    added = added-then (s .added) a;
-  }
-
--- no row is left: all cells are added
-pub listing-all : {all before buffer : List ℕ} {n : ℕ} → Listing all before buffer n [] → Added before 0 all buffer n
-unfolding cellsOf
-listing-all {all} {before} {buffer} {n} s = rw (sym (append-nil (s .seen)) ∙ s .cells) at (s .added)
 
 -- ---- the constants among words, and the inked terms of nodes
 
@@ -56,19 +22,6 @@ module _ (ws : List ℕ) (i : ℕ) where
 
   pub among-room : length (constantsAmong (take i ws)) + length (constantsAmong (drop i ws)) ≡ length (constantsAmong ws)
   among-room = sym (length-append (constantsAmong (take i ws)) (constantsAmong (drop i ws))) ∙ ap length (sym among-split)
-
--- one word more
-pub among-more : (ws : List ℕ) (i : ℕ) → i < length ws → getD ws i 0 < 1000000 → constantsAmong (take (i + 1) ws) ≡ constantsAmong (take i ws) ++ getD ws i 0 ∷ []
-unfolding constantsAmong
-among-more ws i l k =
-    ap (λ (n : ℕ). constantsAmong (take n ws)) (add-one i) ∙ ap constantsAmong (take-suc ws i 0 l) ∙ among-append (take i ws) (getD ws i 0 ∷ []) ∙
-    ap (λ (b : Bool). constantsAmong (take i ws) ++ cond b (getD ws i 0 ∷ []) []) (lt-ltb (getD ws i 0) 1000000 k)
-
-pub among-same : (ws : List ℕ) (i : ℕ) → i < length ws → 1000000 ≤ getD ws i 0 → constantsAmong (take (i + 1) ws) ≡ constantsAmong (take i ws)
-unfolding constantsAmong
-among-same ws i l k =
-    ap (λ (n : ℕ). constantsAmong (take n ws)) (add-one i) ∙ ap constantsAmong (take-suc ws i 0 l) ∙ among-append (take i ws) (getD ws i 0 ∷ []) ∙
-    ap (λ (b : Bool). constantsAmong (take i ws) ++ cond b (getD ws i 0 ∷ []) []) (le-ltb (getD ws i 0) 1000000 k) ∙ append-nil (constantsAmong (take i ws))
 
 -- what holds of equal lists
 pub same-added :

@@ -1,5 +1,6 @@
 -- The two calls for a question, as C sees them: `plotask_ask_unlisted` returns and stores what `plotask_ask` does,
--- unless that returns 45. The one never returns 45, and the other not with a list of 3,810 words (PLOTASK_LIST_WORDS).
+-- unless that returns 45. The former never returns 45, and neither does the latter with at least 3,810 list words
+-- (PLOTASK_LIST_WORDS).
 use Prim.Native.Nat.{ℕ}
 use mathlib.Core.Path.{_≡_}
 use mathlib.Core.List.{List}

@@ -14,9 +14,13 @@ use Rattle.instance.specs.Header.{maxRelations, maxWords}
 abbrev pub placesAt : ℕ
 placesAt = maxRelations + maxRelations
 
--- 4,096 values or words of an instance, and then the 800 words of the longest question
+-- the words of the longest question: 100 nodes of 8 words
+abbrev pub maxQueryWords : ℕ
+maxQueryWords = 800
+
+-- 4,096 values or words of an instance, and then the words of the question
 abbrev pub maxPlaces : ℕ
-maxPlaces = maxWords + 800
+maxPlaces = maxWords + maxQueryWords
 
 -- where the flags begin, their words (32 flags to a word), and the length of the array
 abbrev pub flagsFrom : ℕ

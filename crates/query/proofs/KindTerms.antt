@@ -2,11 +2,12 @@
 use Prim.Native.Nat.{ℕ, zero, suc, _+_, _-_, _*_, _≤_, _<_}
 use mathlib.Core.Path.{_≡_, refl, ap, _∙_}
 use mathlib.Core.Bool.{Bool, true, false, cond}
-use mathlib.Core.List.{List, [], _∷_, _++_}
+use mathlib.Core.List.{List, [], _∷_, _++_, append-nil}
 use native.Mathlib.Numerals.{add-one}
 use native.Mathlib.Omega.{arith}
 use borrow.Author.Tests.{lt-ltb, le-ltb}
 use lib.ListN.{length, getD, take, drop}
+use lib.Seq.{take-suc}
 use Rattle.calculus.specs.Cell.{isConstant}
 use Rattle.calculus.proofs.Lists.{drop-step}
 use Rattle.query.specs.Words.{Kind, rowStands, equals, negates, noKind, joins, ranges, kindOf, wordAt, nodeWords, nodeCount}
@@ -37,18 +38,6 @@ other-kind ars qs i (suc (suc (suc (suc (suc (suc zero)))))) n = (refl, λ m. re
 other-kind ars qs i (suc (suc (suc (suc (suc (suc (suc zero))))))) n = (refl, λ m. refl)
 other-kind ars qs i (suc (suc (suc (suc (suc (suc (suc (suc w)))))))) n = (refl, λ m. refl)
 
--- the constants among words, one word more
-pub among-rest : (ws : List ℕ) (i : ℕ) → i < length ws → constantsAmong (drop i ws) ≡ cond (isConstant (getD ws i 0)) (getD ws i 0 ∷ constantsAmong (drop (i + 1) ws)) (constantsAmong (drop (i + 1) ws))
-unfolding constantsAmong
-among-rest ws i l = rw (drop-step ws i l)
-
--- the number of them
-pub among-here : (ws : List ℕ) (i : ℕ) → i < length ws → getD ws i 0 < 1000000 → length (constantsAmong (drop i ws)) ≡ suc (length (constantsAmong (drop (i + 1) ws)))
-among-here ws i l k = rw (among-rest ws i l, lt-ltb (getD ws i 0) 1000000 k) refl
-
-pub among-other : (ws : List ℕ) (i : ℕ) → i < length ws → 1000000 ≤ getD ws i 0 → constantsAmong (drop i ws) ≡ constantsAmong (drop (i + 1) ws)
-among-other ws i l k = rw (among-rest ws i l, le-ltb (getD ws i 0) 1000000 (omega (arith, k))) refl
-
 pub among-append : (xs ys : List ℕ) → constantsAmong (xs ++ ys) ≡ constantsAmong xs ++ constantsAmong ys
 unfolding constantsAmong
 among-append [] ys = refl
@@ -59,6 +48,18 @@ among-append (x ∷ xs) ys = go (isConstant x) (among-append xs ys)
         cond b (x ∷ constantsAmong (xs ++ ys)) (constantsAmong (xs ++ ys)) ≡ cond b (x ∷ constantsAmong xs) (constantsAmong xs) ++ constantsAmong ys
     go true e = ap (λ (l : List ℕ). x ∷ l) e
     go false e = e
+
+-- the constants among words, one word more
+pub among-next : (ws : List ℕ) (i : ℕ) → i < length ws → constantsAmong (take (i + 1) ws) ≡ constantsAmong (take i ws) ++ cond (isConstant (getD ws i 0)) (getD ws i 0 ∷ []) []
+unfolding constantsAmong
+among-next ws i l =
+    ap (λ (n : ℕ). constantsAmong (take n ws)) (add-one i) ∙ ap constantsAmong (take-suc ws i 0 l) ∙ among-append (take i ws) (getD ws i 0 ∷ [])
+
+pub among-more : (ws : List ℕ) (i : ℕ) → i < length ws → getD ws i 0 < 1000000 → constantsAmong (take (i + 1) ws) ≡ constantsAmong (take i ws) ++ getD ws i 0 ∷ []
+among-more ws i l k = among-next ws i l ∙ rw (lt-ltb (getD ws i 0) 1000000 k) refl
+
+pub among-same : (ws : List ℕ) (i : ℕ) → i < length ws → 1000000 ≤ getD ws i 0 → constantsAmong (take (i + 1) ws) ≡ constantsAmong (take i ws)
+among-same ws i l k = among-next ws i l ∙ rw (le-ltb (getD ws i 0) 1000000 (omega (arith, k))) (append-nil (constantsAmong (take i ws)))
 
 -- the inked terms in k words are the constants among these
 pub inked-among : (qs : List ℕ) (i j k : ℕ) → i * nodeWords + j + k ≤ length qs → inkedAt qs i j k ≡ constantsAmong (take k (drop (i * nodeWords + j) qs))
@@ -75,15 +76,6 @@ pub part-lent : (qs : List ℕ) (s t a n : ℕ) → s ≡ a → t ≡ n → take
 part-lent qs s t a n e f = let g : s + t - s ≡ n = omega arith in rw (g, e) refl
 
 module _ (ars qs : List ℕ) where
-  named-kind : (i : ℕ) (k : Kind) → namedBy ars qs i k ≡ inkedAt qs i (firstTerm k) (termCount ars qs i k)
-  unfolding inkedAt
-  named-kind i rowStands = refl
-  named-kind i equals = refl
-  named-kind i negates = refl
-  named-kind i (joins j) = refl
-  named-kind i (ranges j) = refl
-  named-kind i noKind = refl
-
   module _ (terms : HasTerms ars qs) where
     within-kind : (i : ℕ) (k : Kind) → firstTerm k + termCount ars qs i k ≤ nodeWords
     within-kind i rowStands = omega (arith, terms .narrow (wordAt qs i 1))
@@ -102,7 +94,6 @@ module _ (ars qs : List ℕ) where
 
     pub named-node : (i : ℕ) → i < nodeCount qs → namedBy ars qs i (kindOf (wordAt qs i 0)) ≡ constantsAmong (termsOf ars qs i)
     named-node i l =
-        named-kind i (kindOf (wordAt qs i 0)) ∙
         inked-among qs i (firstTerm (kindOf (wordAt qs i 0))) (countAt ars qs i) (omega (arith, terms-within i, node-end i l))
 
     -- the nodes from i: node i, and those after it

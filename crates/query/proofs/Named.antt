@@ -11,7 +11,7 @@ use Rattle.calculus.proofs.All.{all-append}
 use Rattle.calculus.specs.Cell.{isConstant, allConstant}
 use Rattle.instance.specs.Header.{arityOf, maxColumns}
 use Rattle.query.specs.Words.{Kind, rowStands, equals, negates, noKind, joins, ranges, kindOf, wordAt, nodeCount}
-use Rattle.query.specs.Named.{inkedAt, namedBy, namedFrom, namedIn}
+use Rattle.query.specs.Named.{inkedAt, namedBy, namedFrom, namedIn, firstTerm, termCount}
 
 inked-constant : (qs : List ℕ) (i j k : ℕ) → allConstant (inkedAt qs i j k) ≡ true
 unfolding inkedAt all
@@ -62,13 +62,7 @@ leaves-few qs i (suc k) = omega (arith, leaf-few (kindOf (wordAt qs i 0)), leave
 
 module _ (ars qs : List ℕ) where
   by-constant : (i : ℕ) (k : Kind) → allConstant (namedBy ars qs i k) ≡ true
-  unfolding all
-  by-constant i rowStands = inked-constant qs i _ _
-  by-constant i equals = inked-constant qs i _ _
-  by-constant i negates = refl
-  by-constant i (joins j) = refl
-  by-constant i (ranges j) = refl
-  by-constant i noKind = refl
+  by-constant i k = inked-constant qs i (firstTerm k) (termCount ars qs i k)
 
   from-constant : (i k : ℕ) → allConstant (namedFrom ars qs i k) ≡ true
   unfolding namedFrom all
@@ -79,14 +73,17 @@ module _ (ars qs : List ℕ) where
   named-constant = from-constant 0 (nodeCount qs)
 
   module _ (narrow : (r : ℕ) → arityOf ars r ≤ maxColumns) where
-    by-few : (i : ℕ) (k : Kind) → length (namedBy ars qs i k) ≤ maxColumns * leafCount k
+    count-few : (i : ℕ) (k : Kind) → termCount ars qs i k ≤ maxColumns * leafCount k
     unfolding leafCount
-    by-few i rowStands = omega (arith, inked-few qs i 2 (arityOf ars (wordAt qs i 1)), narrow (wordAt qs i 1))
-    by-few i equals = omega (arith, inked-few qs i 1 2)
-    by-few i negates = omega arith
-    by-few i (joins j) = omega arith
-    by-few i (ranges j) = omega arith
-    by-few i noKind = omega arith
+    count-few i rowStands = omega (arith, narrow (wordAt qs i 1))
+    count-few i equals = omega arith
+    count-few i negates = omega arith
+    count-few i (joins j) = omega arith
+    count-few i (ranges j) = omega arith
+    count-few i noKind = omega arith
+
+    by-few : (i : ℕ) (k : Kind) → length (namedBy ars qs i k) ≤ maxColumns * leafCount k
+    by-few i k = omega (arith, inked-few qs i (firstTerm k) (termCount ars qs i k), count-few i k)
 
     pub from-few : (i k : ℕ) → length (namedFrom ars qs i k) ≤ maxColumns * leavesFrom qs i k
     unfolding namedFrom leavesFrom

@@ -10,20 +10,32 @@ use Rattle.instance.specs.Header.{arityOf, maxRelations, maxColumns}
 use Rattle.query.specs.Words.{Kind, rowStands, equals, negates, noKind, joins, ranges, kindOf, wordAt, nodeWords, nodeCount}
 use Rattle.query.specs.Tree.{formulaOf}
 
--- the inked ones of the terms in k words from word j of node i, each occurrence of one
+-- the inked terms among the terms in k words from word j of node i, repeats included
 unfoldable pub inkedAt : List ℕ → ℕ → ℕ → ℕ → List ℕ
 inkedAt qs i j zero = []
 inkedAt qs i j (suc k) = cond (isConstant (wordAt qs i j)) (wordAt qs i j ∷ inkedAt qs i (suc j) k)
     (inkedAt qs i (suc j) k)
 
--- those of a node, by its kind: kinds 1 and 2 have terms
+-- a node's terms by its kind: the word of the first, and how many there are; kinds 1 and 2 have terms
+abbrev pub firstTerm : Kind → ℕ
+firstTerm rowStands = 2
+firstTerm equals = 1
+firstTerm negates = 1
+firstTerm (joins j) = 1
+firstTerm (ranges j) = 1
+firstTerm noKind = 1
+
+abbrev pub termCount : List ℕ → List ℕ → ℕ → Kind → ℕ
+termCount ars qs i rowStands = arityOf ars (wordAt qs i 1)
+termCount ars qs i equals = 2
+termCount ars qs i negates = 0
+termCount ars qs i (joins j) = 0
+termCount ars qs i (ranges j) = 0
+termCount ars qs i noKind = 0
+
+-- the inked terms of a node
 abbrev pub namedBy : List ℕ → List ℕ → ℕ → Kind → List ℕ
-namedBy ars qs i rowStands = inkedAt qs i 2 (arityOf ars (wordAt qs i 1))
-namedBy ars qs i equals = inkedAt qs i 1 2
-namedBy ars qs i negates = []
-namedBy ars qs i (joins j) = []
-namedBy ars qs i (ranges j) = []
-namedBy ars qs i noKind = []
+namedBy ars qs i k = inkedAt qs i (firstTerm k) (termCount ars qs i k)
 
 -- those of k nodes from node i
 unfoldable pub namedFrom : List ℕ → List ℕ → ℕ → ℕ → List ℕ
@@ -43,22 +55,6 @@ queryOf ars qs = record { formula = formulaOf ars qs; named = namedIn ars qs }
 
 -- ---- for the code: the words of a node's terms, as a part of the question
 
-abbrev pub firstTerm : Kind → ℕ
-firstTerm rowStands = 2
-firstTerm equals = 1
-firstTerm negates = 1
-firstTerm (joins j) = 1
-firstTerm (ranges j) = 1
-firstTerm noKind = 1
-
-abbrev pub termCount : List ℕ → List ℕ → ℕ → Kind → ℕ
-termCount ars qs i rowStands = arityOf ars (wordAt qs i 1)
-termCount ars qs i equals = 2
-termCount ars qs i negates = 0
-termCount ars qs i (joins j) = 0
-termCount ars qs i (ranges j) = 0
-termCount ars qs i noKind = 0
-
 -- where a node's terms begin in the question, how many there are, and the terms
 module _ (ars qs : List ℕ) where
   abbrev pub startOf : ℕ → ℕ
@@ -70,12 +66,12 @@ module _ (ars qs : List ℕ) where
   abbrev pub termsOf : ℕ → List ℕ
   termsOf i = take (countAt i) (drop (startOf i) qs)
 
--- the constants among words, each occurrence of one
+-- the constants among words, repeats included
 unfoldable pub constantsAmong : List ℕ → List ℕ
 constantsAmong [] = []
 constantsAmong (w ∷ ws) = cond (isConstant w) (w ∷ constantsAmong ws) (constantsAmong ws)
 
--- what a pass over the terms may assume: whole nodes, and sheets that the head has
+-- what a pass over the terms may assume: whole nodes, and relations that are numbers below eight
 pub record HasTerms (ars qs : List ℕ) : Type 0 where
   pub whole : nodeCount qs * nodeWords ≡ length qs
   pub eight : length ars ≡ maxRelations

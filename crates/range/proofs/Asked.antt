@@ -6,8 +6,8 @@ use mathlib.Core.List.{List, [], _∷_, _++_, append-nil}
 use native.Mathlib.Omega.{arith}
 use borrow.Author.Tests.{lt-ltb, leb-true, leb-false, ltb-true, ltb-false}
 use lib.Dec.{leb, ltb}
-use lib.ListN.{length, getD, take, drop, length-append}
-use lib.Seq.{take-suc, take-all, take-length, take-append-add, getD-append-add, getD-take, getD-drop, length-take-le}
+use lib.ListN.{length, getD, take, drop, length-append, length-drop, List·getD-eq-default}
+use lib.Seq.{take-all, take-length, take-append-add, getD-append-add, getD-take, getD-drop, length-take-le}
 use Rattle.calculus.specs.Cell.{isConstant}
 use Rattle.calculus.specs.Domain.{listing}
 use Rattle.calculus.specs.Listed.{listed}
@@ -15,7 +15,7 @@ use Rattle.calculus.proofs.Listed.{listed-append}
 use Rattle.calculus.proofs.Listing.{listing-append}
 use Rattle.known.specs.Known.{flagAt, unpassed}
 use Rattle.query.specs.Named.{constantsAmong}
-use Rattle.query.proofs.KindTerms.{among-append}
+use Rattle.query.proofs.KindTerms.{among-next as among-one}
 use Rattle.instance.specs.Header.{arityOf}
 use Rattle.range.specs.Flagged.{Flagged, stoodBefore, Asking, Passed}
 use Rattle.range.specs.Walked.{passes}
@@ -125,15 +125,7 @@ module _ (qs : List ℕ) (start end p : ℕ) (ordered : start ≤ end) (within :
   terms = take (end - start) (drop start qs)
 
   terms-long : length terms ≡ end - start
-  terms-long = length-part start end qs ordered within
-    where
-      length-part : (a b : ℕ) (l : List ℕ) → a ≤ b → b ≤ length l → length (take (b - a) (drop a l)) ≡ b - a
-      length-part a b l o m = length-take-le (b - a) (drop a l) (omega (arith, lib-length-drop a l))
-        where
-          lib-length-drop : (a : ℕ) (l : List ℕ) → length (drop a l) ≡ length l - a
-          lib-length-drop zero l = omega arith
-          lib-length-drop (suc a) [] = omega arith
-          lib-length-drop (suc a) (x ∷ l) = omega (arith, lib-length-drop a l)
+  terms-long = length-take-le (end - start) (drop start qs) (omega (arith, length-drop start qs))
 
   term-at : start ≤ p → p < end → getD terms (p - start) 0 ≡ getD qs p 0
   term-at a b =
@@ -150,19 +142,13 @@ module _ (qs : List ℕ) (start end p : ℕ) (ordered : start ≤ end) (within :
       same : (n m : ℕ) → take n terms ≡ take m terms → constantsAmong (take n terms) ≡ constantsAmong (take m terms) ++ []
       same n m e = ap constantsAmong e ∙ sym (append-nil (constantsAmong (take m terms)))
 
-      one : (v : ℕ) → constantsAmong (v ∷ []) ≡ cond (isConstant v) (v ∷ []) []
-      one v = refl
-
       go : (a : Bool) → leb start p ≡ a → (b : Bool) → ltb p end ≡ b → constantsAmong (take (p + 1 - start) terms) ≡ constantsAmong (take (p - start) terms) ++ adding (a && b)
       go true e true f =
           let low = leb-true start p e in
           let high = ltb-true p end f in
-          let next : p + 1 - start ≡ suc (p - start) = omega arith in
-          ap (λ (n : ℕ). constantsAmong (take n terms)) next ∙
-          ap constantsAmong (take-suc terms (p - start) 0 (omega (arith, terms-long))) ∙
-          among-append (take (p - start) terms) (getD terms (p - start) 0 ∷ []) ∙
-          ap (λ (v : ℕ). constantsAmong (take (p - start) terms) ++ constantsAmong (v ∷ [])) (term-at low high) ∙
-          ap (λ (l : List ℕ). constantsAmong (take (p - start) terms) ++ l) (one (getD qs p 0))
+          let next : p + 1 - start ≡ p - start + 1 = omega arith in
+          ap (λ (n : ℕ). constantsAmong (take n terms)) next ∙ among-one terms (p - start) (omega (arith, terms-long)) ∙
+          ap (λ (v : ℕ). constantsAmong (take (p - start) terms) ++ cond (isConstant v) (v ∷ []) []) (term-at low high)
       go true e false f =
           let low = leb-true start p e in
           let high = ltb-false p end f in
@@ -201,13 +187,8 @@ passes-long ars earlier left [] = refl
 passes-long ars earlier zero (w ∷ ws) = ap suc (passes-long ars earlier (arityOf ars w) ws)
 passes-long ars earlier (suc left) (w ∷ ws) = ap suc (passes-long ars (earlier ++ w ∷ []) left ws)
 
-past-end : (bs : List Bool) (q : ℕ) → length bs ≤ q → getD bs q false ≡ false
-past-end [] q l = refl
-past-end (b ∷ bs) zero l = absurd (omega arith)
-past-end (b ∷ bs) (suc q) l = past-end bs q (omega arith)
-
 pub none-behind : (ars ws : List ℕ) (q : ℕ) → length ws ≤ q → getD (passes ars [] 0 ws) q false ≡ false
-none-behind ars ws q l = past-end (passes ars [] 0 ws) q (omega (arith, passes-long ars [] 0 ws))
+none-behind ars ws q l = List·getD-eq-default (passes ars [] 0 ws) false {n = q} (omega (arith, passes-long ars [] 0 ws))
 
 -- the whole question was walked
 pub passed-whole :

@@ -1,4 +1,4 @@
--- What a walk that passes over the flagged words finds: the active domain, in order. Assumes nothing.
+-- What a walk that passes over the flagged words finds: the range, in order. Assumes nothing.
 use Prim.Native.Nat.{ℕ, zero, suc, _+_}
 use mathlib.Core.Path.{_≡_, refl, sym, ap, _∙_}
 use mathlib.Core.Bool.{Bool, true, false, _||_, cond}

@@ -6,7 +6,7 @@ use mathlib.Core.List.{List, _++_}
 use lib.ListN.{length, take}
 use Rattle.calculus.specs.Domain.{listing}
 use Rattle.instance.specs.Header.{maxWords}
-use Rattle.known.specs.Known.{knownWords, flagsFrom, flagAt, unpassed}
+use Rattle.known.specs.Known.{knownWords, maxQueryWords, flagsFrom, flagAt, unpassed}
 use Rattle.range.specs.Cache.{Cached}
 
 -- the flag of place p becomes b; every other flag, the counts and the arities stay
@@ -25,10 +25,10 @@ stoodBefore known ws i = unpassed known 0 (take i ws)
 pub record Asking (ws qs known heads : List ℕ) : Type 0 where
   pub size : length known ≡ knownWords
   pub short : length ws ≤ maxWords
-  pub few : length qs ≤ 800
+  pub few : length qs ≤ maxQueryWords
   pub cached : Cached heads ws (unpassed known 0 ws) (length ws)
 
--- The words of the question from word p to word r were walked: beside what stood before word p, the constants `named`
+-- The words of the question from word p to word r were walked: besides what stood before word p, the constants `named`
 -- are not passed over, each once. No flag stands from word r on.
 pub record Passed (ws qs before : List ℕ) (p : ℕ) (named after : List ℕ) (r : ℕ) : Type 0 where
   pub size : length after ≡ length before

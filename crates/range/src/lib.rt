@@ -1,3 +1,3 @@
-// The values of an instance without a list of them: flags for the words that a walk passes over.
+// What quantifiers range over without a list of it: flags for the words that a walk passes over.
 mod pass;
 pub mod terms;

@@ -10,7 +10,7 @@ ghost use Rattle.calculus.specs.Cell.{isConstant};
 ghost use Rattle.calculus.specs.Listed.{listed};
 ghost use Rattle.instance.specs.InstanceWellFormed.{InstanceOf};
 ghost use Rattle.instance.specs.Rows.{rowsFrom};
-ghost use Rattle.known.specs.Known.{knownWords, flagsFrom, aritiesIn, flagAt, unpassed};
+ghost use Rattle.known.specs.Known.{knownWords, maxQueryWords, flagsFrom, aritiesIn, flagAt, unpassed};
 ghost use Rattle.query.specs.Words.{nodeWords};
 ghost use Rattle.query.specs.Named.{constantsAmong, namedIn, HasTerms};
 ghost use Rattle.range.specs.Flagged.{stoodBefore, Asking, Passed};
@@ -63,8 +63,8 @@ fn between(start: usize, place: usize, end: usize) -> bool
     place < end
 }
 
-// Passes over the words of a node, from word `first` of the question, but for each new inked term; the terms are the
-// words from `start` to `end`.
+// Passes over the words of a node, from word `first` of the question, except each new inked term; the terms are the
+// words from `start` on and before `end`.
 fn pass_node(
     words: &[u32],
     query: &[u32],
@@ -92,7 +92,7 @@ fn pass_node(
     }
 }
 
-// Passes over the question's words but for each new inked term.
+// Passes over the question's words, except each new inked term.
 fn pass_terms(
     words: &[u32],
     query: &[u32],
@@ -114,10 +114,11 @@ fn pass_terms(
     }
 }
 
-// Sets the flag of each place that a walk over the instance's words and then the question's passes over.
+// Sets the flag of each place that a walk over the instance's words and then the question's passes over. The promise
+// speaks of the values that are left and their order, not of which place of equal ones is left.
 pub fn pass_over(words: &[u32], query: &[u32], arities: &[u32; 8], known: &mut [u32; 170])
     requires { ⌜ InstanceOf (aritiesIn (now known)) (now words) × HasTerms (now arities) (now query)
-        × (aritiesIn (now known) ≡ now arities) × (length (now query) ≤ 800) ⌝ }
+        × (aritiesIn (now known) ≡ now arities) × (length (now query) ≤ maxQueryWords) ⌝ }
     requires { ⌜ (length (now known) ≡ knownWords) × ((p : ℕ) → flagAt (now known) p ≡ false) ⌝ }
     ensures kept { λ _. ⌜ (length (now (known .exit)) ≡ knownWords)
         × (take flagsFrom (now (known .exit)) ≡ take flagsFrom (now (known .entry))) ⌝ }

@@ -77,7 +77,7 @@ module _ (ars qs : List ℕ) (i : ℕ) where
           not-true (isTermRole (getD (rowOf k a) m unnamed)) (all-getD (λ r. not (isTermRole r)) (rowOf k a) m unnamed refl others)
 
   node-words : ((r : ℕ) → getD ars r 0 ≤ 6) → (k : Kind) → kindOf (word qs i 0) ≡ k → inkedWords ars qs i 0 8 ≡ namedBy ars qs i k
-  unfolding all
+  unfolding all inkedAt
   node-words narrow rowStands e = terms-between 2 a (omega (arith, narrow (word qs i 1))) before within after
     where
       at : (m : ℕ) → role ars qs i (suc m) ≡ getD (relation ∷ replicate a term) m unnamed

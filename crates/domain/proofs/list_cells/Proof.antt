@@ -1,7 +1,7 @@
 -- `domain::list_cells` meets its contract: the first n words of the buffer are chained, and hold the values of the rows before i. Assumes nothing.
 use Prim.Native.Nat.{ℕ, _≤_, _<_, _-_, _+_}
 use mathlib.Core.Path.{_≡_}
-use mathlib.Core.List.{List, [], _∷_}
+use mathlib.Core.List.{List, [], _++_}
 use native.Mathlib.Omega.{arith}
 use lib.ListN.{length, take, drop, getD}
 use Rattle.calculus.specs.Row.{Row, cellsOf}
@@ -10,20 +10,20 @@ use Rattle.instance.specs.InstanceWellFormed.{InstanceOf}
 use Rattle.instance.specs.Rows.{rowsFrom}
 use Rattle.instance.proofs.Walk.{WalkIn, walk-in, AtRow, row-here, rows-end, relation-few, row-lent}
 use Rattle.domain.specs.Chains.{Chained}
-use Rattle.domain.proofs.Listing.{Listing, listing-starts, listing-row, listing-room, listing-all}
+use Rattle.domain.proofs.Listing.{Naming, naming-starts, naming-room, naming-node, naming-all}
 use Rattle.domain.proofs.list_cells.Statement.{statement}
 use Rattle.domain.proofs.list_cells.Tie as tie
 
 abbrev Inv-loop : tie.InvT-loop
 Inv-loop words arities buffer₀ heads₀ n₀ i₀ buffer heads n i =
     WalkIn arities words i × (n ≤ i) × Chained heads buffer n
-    × Listing (cellsOf (rowsFrom arities 0 words)) buffer₀ buffer n (rowsFrom arities 0 (drop i words))
+    × Naming (cellsOf (rowsFrom arities 0 words)) buffer₀ 0 buffer n (cellsOf (rowsFrom arities 0 (drop i words)))
 
 abbrev μ-loop : tie.MeasureT-loop
 μ-loop words arities buffer₀ heads₀ n₀ i₀ buffer heads n i = length words - i
 
 loop-holds : tie.Need-loop-holds Inv-loop μ-loop
-loop-holds c = (walk-in _ _ (c .before .before .pre .0 .0), omega arith, c .before .before .pre .0 .1, listing-starts _ _ (c .before .before .pre .1))
+loop-holds c = (walk-in _ _ (c .before .before .pre .0 .0), omega arith, c .before .before .pre .0 .1, naming-starts _ _ 0)
 
 -- the row at index i
 module _ (c : tie.In-loop Inv-loop μ-loop) where
@@ -57,7 +57,11 @@ module _ (c : tie.In-loop Inv-loop μ-loop) where
   sum : i + 1 + a ≡ i + (1 + a)
   sum = omega arith
 
-  to-come : Listing (cellsOf (rowsFrom ars 0 ws)) (start .args .buffer .now) (c .before .loop .buffer) (c .before .loop .n) (row ∷ rowsFrom ars 0 (drop (i + (1 + a)) ws))
+  abbrev rest : List ℕ
+  rest = cellsOf (rowsFrom ars 0 (drop (i + (1 + a)) ws))
+
+  to-come : Naming (cellsOf (rowsFrom ars 0 ws)) (start .args .buffer .now) 0 (c .before .loop .buffer) (c .before .loop .n) (row .cells ++ rest)
+  unfolding cellsOf
   to-come = rw (here .rows) at (c .before .loop .inv .3)
 
 add-first : tie.Need-add-first Inv-loop μ-loop
@@ -101,7 +105,7 @@ add-cells-requires c κs =
     let b = c .before .before .before .before .before in
     let h = here b in
     rw (row-lent (ws b) (i b) (a b)) (
-      listing-room (to-come b),
+      omega (arith, naming-room (row b .cells) (rest b) (to-come b), to-come b .added .long, start b .pre .1),
       omega (arith, h .size, h .next .within, start b .pre .0 .0 .well-formed .few),
       h .cells,
       b .before .loop .inv .2,
@@ -114,13 +118,14 @@ loop-again : tie.Need-loop-again Inv-loop μ-loop
 loop-again c =
     let b = c .before .before .before .before .before .before .before .before in
     let added = rw (row-lent (ws b) (i b) (a b)) at (c .before .before .add-cells .ensures .1) in
-    rw (sum b) ((given b, here b .next), omega (arith, added .most, here b .size), c .before .before .add-cells .ensures .0, listing-row (to-come b) added)
+    rw (sum b) ((given b, here b .next), omega (arith, added .most, here b .size), c .before .before .add-cells .ensures .0, naming-node (row b .cells) (rest b) (to-come b) added)
 
 all-listed :
     (c : tie.After-loop Inv-loop μ-loop) →
-    Listing
+    Naming
     (cellsOf (rowsFrom (c .before .before .before .before .args .arities .now) 0 (c .before .before .before .before .args .words .now)))
-    (c .before .before .before .before .args .buffer .now) (c .before .loop .buffer) (c .before .loop .n) []
+    (c .before .before .before .before .args .buffer .now) 0 (c .before .loop .buffer) (c .before .loop .n) []
+unfolding cellsOf
 all-listed c =
     let ws = c .before .before .before .before .args .words .now in
     let e : c .before .loop .i ≡ length ws = omega (arith, c .before .loop .inv .0 .1 .within) in
@@ -130,7 +135,7 @@ same-length : tie.Need-same-length Inv-loop μ-loop
 same-length c = c .before .loop .inv .3 .added .long
 
 returns : tie.Need-returns Inv-loop μ-loop
-returns c = (c .before .loop .inv .2, listing-all (all-listed c))
+returns c = (c .before .loop .inv .2, naming-all (all-listed c))
 
 pub list-cells-spec : {M : Type 1} → statement M
 list-cells-spec =

@@ -23,6 +23,7 @@ use Rattle.answer.proofs.Admitted.{admitted-done}
 use Rattle.answer.proofs.AskLaws.{admitted-refused, refused-asked, evaluated-asked, no-list}
 use Rattle.answer.proofs.AskLaws.{Described, described, described-unflagged, described-kept, evaluable, walked-ranged, evaluated-top, described-places, has-terms}
 use Rattle.answer.proofs.Told.{ask-told}
+use Rattle.known.specs.Known.{maxQueryWords}
 use Rattle.known.proofs.Parts.{places-kept}
 use Rattle.answer.proofs.unlisted.ask_unlisted.Statement.{statement}
 use Rattle.answer.proofs.unlisted.ask_unlisted.Tie as tie
@@ -76,7 +77,7 @@ module _ (c : tie.After-arities) where
   eight : length (h at .arities) ≡ maxRelations
   eight = search needs
 
-  words : length (qs at) ≤ 800
+  words : length (qs at) ≤ maxQueryWords
   words = let n = count-within (qs at) (passes .right) in omega (arith, n .1, n .2)
 
 -- after the instance was described

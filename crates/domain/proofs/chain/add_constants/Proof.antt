@@ -1,14 +1,16 @@
 -- `domain::chain::add_constants` meets its contract: the constants before index i are added. Assumes nothing.
 use Prim.Native.Nat.{_+_, _-_, _≤_}
+use mathlib.Core.Path.{ap}
+use mathlib.Core.List.{[], _∷_}
 use mathlib.Core.Logic.{⊎-elim}
 use native.Mathlib.Omega.{arith}
-use lib.ListN.{length, take}
+use lib.ListN.{length, take, getD, length-append}
 use lib.Seq.{take-all}
 use Rattle.query.specs.Named.{constantsAmong}
-use Rattle.query.proofs.KindTerms.{among-here}
+use Rattle.query.proofs.KindTerms.{among-more, among-same}
 use Rattle.domain.specs.Chains.{Chained, Added}
 use Rattle.domain.proofs.Chains.{added-none, added-then}
-use Rattle.domain.proofs.Listing.{among-room, among-more, among-same, same-added}
+use Rattle.domain.proofs.Listing.{among-room, same-added}
 use Rattle.domain.proofs.chain.add_constants.Statement.{statement}
 use Rattle.domain.proofs.chain.add_constants.Tie as tie
 
@@ -43,7 +45,7 @@ add-value-requires c κs =
     let inv = b .before .loop .inv in
     let word = c .before .before .before .if1 .taken in
     let room : b .before .loop .count + 1 ≤ start .args .n + length (constantsAmong ws) =
-    omega (arith, inv .2 .most, among-room ws i, among-here ws i (b .loop-test .taken) word)
+    omega (arith, inv .2 .most, among-room ws (i + 1), ap length (among-more ws i (b .loop-test .taken) (omega (arith, word))), length-append (constantsAmong (take i ws)) (getD ws i 0 ∷ []))
     in
     (omega (arith, room, start .pre .0, inv .2 .long), omega (arith, room, start .pre .1), omega (arith, word), inv .1)
 
@@ -62,8 +64,8 @@ loop-again c =
     let inv = b .before .loop .inv in
     let r =
     ⊎-elim
-    (λ a. same-added (a .7) (a .8) (a .9) (a .4 .ensures .0) (rw (← among-more ws i (b .loop-test .taken) (a .0 .taken)) at (added-then (inv .2) (a .4 .ensures .1))))
-    (λ a. same-added (a .1) (a .2) (a .3) (inv .1) (rw (← among-same ws i (b .loop-test .taken) (a .0 .left)) at (inv .2)))
+    (λ a. same-added (a .7) (a .8) (a .9) (a .4 .ensures .0) (rw (← among-more ws i (b .loop-test .taken) (omega (arith, a .0 .taken))) at (added-then (inv .2) (a .4 .ensures .1))))
+    (λ a. same-added (a .1) (a .2) (a .3) (inv .1) (rw (← among-same ws i (b .loop-test .taken) (omega (arith, a .0 .left))) at (inv .2)))
     (c .if1 .came)
     in
     (omega arith, r .0, r .1)
