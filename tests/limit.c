@@ -230,7 +230,7 @@ static void fill_list(uint32_t word)
         list[i] = word;
 }
 
-/* Whether the list begins with the plot's values and so many constants, and has `behind` in all words after these. */
+/* Whether the list begins with the plot's values and that many constants, and has `behind` in all words after these. */
 static bool list_is(uint32_t first, uint32_t step, size_t constants, uint32_t behind)
 {
     size_t at = 0;

@@ -300,7 +300,7 @@ static struct answer answer_of(uint32_t number, const struct lent *truth, const 
 }
 
 /*
- * Fails unless the list that an ask of an undamaged plot left begins with the range, and is as before behind it. Both
+ * Fails unless the list that an ask of an undamaged plot left begins with the range, and is as before after it. Both
  * sides could have the same wrong range.
  */
 static void check_list(const struct any_plot *plot, const struct any_query *query, const struct lent *list)

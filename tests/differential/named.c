@@ -5,7 +5,7 @@
 /* The highest cost for which a query is asked again. */
 enum { MOST_COST = 3000 };
 
-/* The plot's values, and behind them the constants that only the query has. */
+/* The plot's values, and after them the constants that only the query has. */
 static uint32_t range[PLOT_ROOM];
 static size_t value_count;
 static size_t range_count;

@@ -1,5 +1,5 @@
--- What quantifiers range over without a list of it. Document 02, request 4: "finds the plot's values by walking the rows
--- and passing over any cell that stood earlier"; request 6: and then the question's inked terms.
+-- What quantifiers range over without a list of it. Document 02, request 4: "finds the plot's values by walking the
+-- rows and passing over any cell that stood earlier"; request 6: and then the question's inked terms.
 use Prim.Native.Nat.{ℕ, zero, suc}
 use mathlib.Core.Bool.{Bool, true, cond}
 use mathlib.Core.List.{List, [], _∷_, _++_}
