@@ -17,6 +17,7 @@ int main(void)
     check_nodes();
     check_names();
     check_questions();
+    check_plain();
     check_changes();
     check_ranges();
     check_ways();

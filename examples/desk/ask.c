@@ -179,7 +179,7 @@ static bool take_question_name(struct line *line, char name[NAME_ROOM])
 }
 
 /* Keeps a text under a name, if there is room for it, and says what changed. */
-static bool keep_question(struct desk *desk, const char *name, const char *text, int length)
+static bool keep_question(struct desk *desk, const char *name, const char *text, int length, bool plain)
 {
     struct question *question = find_question(desk, (struct word){.start = name, .length = strlen(name)});
 
@@ -196,6 +196,7 @@ static bool keep_question(struct desk *desk, const char *name, const char *text,
         fprintf(desk->out, "%s is another question now%s\n", name, dropped ? "; the old one is not asked again" : "");
     }
     snprintf(question->text, sizeof question->text, "%.*s", length, text);
+    question->plain = plain;
     return true;
 }
 
@@ -214,7 +215,8 @@ bool name_question(struct desk *desk, struct line *line)
     int length = (int)(line->at - typed.at);
     if (!test_question(&desk->plot, line, &typed) || !take_end(line))
         return false;
-    return keep_question(desk, name, line->text + typed.at, length) ||
+    bool plain = is_plain(typed.tree.words, typed.tree.nodes * PLOTASK_NODE_WORDS);
+    return keep_question(desk, name, line->text + typed.at, length, plain) ||
            refuse(line, name_at, 0, "the desk has room for %d questions with names; forget one first", (int)QUESTIONS);
 }
 
@@ -252,14 +254,23 @@ static bool refuse_asked(const struct plot *plot, struct line *line, const struc
     }
 }
 
-static void say_answer(FILE *out, const struct answer *answer)
+/*
+ * What the verdict says about the ways to ink the marks, and not more than is proved. Unknown never says that some way
+ * makes it true: and(equal(v0, 1), equal(v0, 2)) of m1 is unknown, and every way makes it false.
+ */
+static const char *remark_on(const struct asked *asked)
 {
-    static const char *const meanings[] = {[PLOTASK_FALSE] = "it stays so however the marks are filled in",
-                                           [PLOTASK_UNKNOWN] = "the rules could not tell",
-                                           [PLOTASK_TRUE] = "it stays so however the marks are filled in"};
+    if (asked->answer.truth != PLOTASK_UNKNOWN)
+        return "it stays so however the marks are filled in";
+    return is_plain(asked->words, asked->word_count)
+               ? "some way to ink the marks makes it false"
+               : "the rules could not tell; it may hold for every way to ink the marks";
+}
 
-    print_answer(out, answer);
-    fprintf(out, ": %s\n", meanings[answer->truth]);
+static void say_answer(FILE *out, const struct asked *asked)
+{
+    print_answer(out, &asked->answer);
+    fprintf(out, ": %s\n", remark_on(asked));
 }
 
 /* ask QUESTION CELL.. [within LOOKS] [unlisted], where the question is in words or a name. */
@@ -282,9 +293,18 @@ bool ask(struct desk *desk, struct line *line)
     asked.answer = ask_plot(&desk->plot, &asked, asked.cells);
     if (asked.answer.refusal != PLOTASK_DONE)
         return refuse_asked(&desk->plot, line, &typed, &asked, &row, allowance_at);
-    say_answer(desk->out, &asked.answer);
+    say_answer(desk->out, &asked);
     remember(desk, &asked);
     return true;
+}
+
+static void list_asked(FILE *out, const struct plot *plot, const struct asked *asked)
+{
+    fputs(is_plain(asked->words, asked->word_count) ? "asked, plain: " : "asked: ", out);
+    print_asked(out, plot, asked);
+    fputs(": ", out);
+    print_answer(out, &asked->answer);
+    fputc('\n', out);
 }
 
 /* questions */
@@ -292,15 +312,12 @@ bool questions(struct desk *desk, struct line *line)
 {
     if (!take_end(line))
         return false;
-    for (size_t i = 0; i < desk->question_count; i++)
-        fprintf(desk->out, "%s: %s\n", desk->questions[i].name, desk->questions[i].text);
-    for (size_t i = 0; i < desk->asked_count; i++) {
-        fputs("asked: ", desk->out);
-        print_asked(desk->out, &desk->plot, &desk->asked[i]);
-        fputs(": ", desk->out);
-        print_answer(desk->out, &desk->asked[i].answer);
-        fputc('\n', desk->out);
+    for (size_t i = 0; i < desk->question_count; i++) {
+        const struct question *question = &desk->questions[i];
+        fprintf(desk->out, "%s%s: %s\n", question->name, question->plain ? ", plain" : "", question->text);
     }
+    for (size_t i = 0; i < desk->asked_count; i++)
+        list_asked(desk->out, &desk->plot, &desk->asked[i]);
     if (desk->question_count + desk->asked_count == 0)
         fputs("no questions yet\n", desk->out);
     return true;

@@ -37,6 +37,7 @@ static const char more_help[] = "A SHEET is a name or a number from 0. A blank g
                                 "(1000000 if it is left out), and \"unlisted\", to ask without a working list.\n"
                                 "A question: in(SHEET, TERM, ..)  equal(TERM, TERM)  not(Q)  and(Q, Q)  or(Q, Q)\n"
                                 "  some(NAME, Q)  every(NAME, Q)\n"
+                                "  It is plain if it has neither not nor every.\n"
                                 "A term: a value; v0 for the first cell of the row asked about, v1 for the\n"
                                 "  second; a NAME after some or every, which takes each value of the plot, marks\n"
                                 "  too, then each value that the question names.\n"

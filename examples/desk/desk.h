@@ -42,9 +42,11 @@ struct plot {
     size_t fill_count;
 };
 
+/* A question with a name. Its text is read each time it is asked. */
 struct question {
     char name[NAME_ROOM];
     char text[LINE_ROOM];
+    bool plain; /* noted when it gets the name, since the text cannot be read if its sheets are gone */
 };
 
 struct answer {

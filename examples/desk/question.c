@@ -200,6 +200,14 @@ bool take_question(struct line *line, const struct plot *plot, struct tree *tree
     return take_node(&r) || tree->nodes > PLOTASK_NODES;
 }
 
+bool is_plain(const uint32_t *words, size_t count)
+{
+    for (size_t node = 0; node < count; node += PLOTASK_NODE_WORDS)
+        if (words[node] == PLOTASK_NOT || words[node] == PLOTASK_EVERY)
+            return false;
+    return true;
+}
+
 bool is_kind(struct word word)
 {
     return kind_of(word) != 0;

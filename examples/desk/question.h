@@ -19,6 +19,11 @@ struct question *find_question(struct desk *desk, struct word name);
  * after some or every gets the number of a variable that the question does not write itself; if there is none, 16.
  */
 bool take_question(struct line *line, const struct plot *plot, struct tree *tree);
+/*
+ * Whether a question, given by its words, is plain: it has no not and no every. The kinds of its nodes decide that, and
+ * not what it means: not(not(..)) is not plain.
+ */
+bool is_plain(const uint32_t *words, size_t count);
 /* Whether a word is one that a question starts with: in, equal, not, and, or, some or every. */
 bool is_kind(struct word word);
 

@@ -210,10 +210,10 @@ static void check_fresh_start(void)
     says("load " CARD, READ_12 "\nthe questions asked of the old plot are not asked again");
     refuses("^take back", 48);
     says("hangs -", "hangs has 2 rows; the blank is m3");
-    says("questions", "q: in(pairs, v0, v1)\np: or(equal(5, 6), in(1, 5, 5))\nr: in(hangs, v0)");
+    says("questions", "q, plain: in(pairs, v0, v1)\np, plain: or(equal(5, 6), in(1, 5, 5))\nr, plain: in(hangs, v0)");
     says("fill m1 5", "m1 is now 5, in 1 cell");
     says("take back", "m1 stands again, in 1 cell");
-    says("ask q 5 201", "unknown, 2 looks: the rules could not tell");
+    says("ask q 5 201", "unknown, 2 looks: some way to ink the marks makes it false");
     says("fill m2 5", "m2 is now 5, in 1 cell\nbecame settled: q 5 201: true, 2 looks; before: unknown, 2 looks\n"
                       "no verdict was unsettled");
     /* a plot with one sheet less, whose only sheet has two columns */

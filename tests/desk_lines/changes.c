@@ -36,7 +36,7 @@ static void check_rows_filled(void)
     START("sheet hangs lamp", "hangs m1", "hangs m2");
     type("ask in(hangs, v0) m1");
     says("fill m1 5", "m1 is now 5, in 1 cell\nno question became settled, and no verdict was unsettled");
-    says("questions", "asked: in(hangs, v0) 5 (asked of m1): true, 2 looks");
+    says("questions", "asked, plain: in(hangs, v0) 5 (asked of m1): true, 2 looks");
     type("ask equal(v0, v1) 5 m2");
     says("fill m2 5", "m2 is now 5, in 1 cell\n"
                       "became settled: equal(v0, v1) 5 5 (asked of 5 m2): true, 1 look; before: unknown, 1 look\n"
@@ -44,30 +44,32 @@ static void check_rows_filled(void)
     says("take back", "m2 stands again, in 1 cell\n"
                       "changed: equal(v0, v1) 5 m2: unknown, 1 look; before: true, 1 look");
     says("take back", "m1 stands again, in 1 cell\nno verdict changed");
-    says("questions", "asked: in(hangs, v0) m1: true, 2 looks\nasked: equal(v0, v1) 5 m2: unknown, 1 look");
+    says("questions", "asked, plain: in(hangs, v0) m1: true, 2 looks\n"
+                      "asked, plain: equal(v0, v1) 5 m2: unknown, 1 look");
     says("fill m1 m2", "m1 is now m2, in 1 cell\nno question became settled, and no verdict was unsettled");
     says("fill m2 5", "m2 is now 5, in 2 cells\n"
                       "became settled: equal(v0, v1) 5 5 (asked of 5 m2): true, 1 look; before: unknown, 1 look\n"
                       "no verdict was unsettled");
-    says("questions", "asked: in(hangs, v0) 5 (asked of m1): true, 2 looks\n"
-                      "asked: equal(v0, v1) 5 5 (asked of 5 m2): true, 1 look");
+    says("questions", "asked, plain: in(hangs, v0) 5 (asked of m1): true, 2 looks\n"
+                      "asked, plain: equal(v0, v1) 5 5 (asked of 5 m2): true, 1 look");
     type("ask in(hangs, v0) 5");
     type("take back");
     type("take back");
-    says("questions", "asked: in(hangs, v0) m1: true, 2 looks\nasked: equal(v0, v1) 5 m2: unknown, 1 look\n"
-                      "asked: in(hangs, v0) 5: unknown, 3 looks");
+    says("questions", "asked, plain: in(hangs, v0) m1: true, 2 looks\n"
+                      "asked, plain: equal(v0, v1) 5 m2: unknown, 1 look\n"
+                      "asked, plain: in(hangs, v0) 5: unknown, 3 looks");
 }
 
 /* A mark that is filled, and then written again: each row has the fills that came after it was asked, and no others. */
 static void check_mark_again(void)
 {
     START("sheet hangs lamp", "hangs m1", "ask equal(v0, 5) m1", "fill m1 5", "hangs m1");
-    says("ask equal(v0, 6) m1", "unknown, 1 look: the rules could not tell");
+    says("ask equal(v0, 6) m1", "unknown, 1 look: some way to ink the marks makes it false");
     says("fill m1 6", "m1 is now 6, in 1 cell\n"
                       "became settled: equal(v0, 6) 6 (asked of m1): true, 1 look; before: unknown, 1 look\n"
                       "no verdict was unsettled");
-    says("questions", "asked: equal(v0, 5) 5 (asked of m1): true, 1 look\n"
-                      "asked: equal(v0, 6) 6 (asked of m1): true, 1 look");
+    says("questions", "asked, plain: equal(v0, 5) 5 (asked of m1): true, 1 look\n"
+                      "asked, plain: equal(v0, 6) 6 (asked of m1): true, 1 look");
     says("take back", "m1 stands again, in 1 cell\n"
                       "changed: equal(v0, 6) m1: unknown, 1 look; before: true, 1 look");
     says("take back", "m1 stands again, in 1 cell\n"
@@ -85,16 +87,17 @@ static void check_mark_again(void)
 static void check_row_again(void)
 {
     START("sheet hangs lamp", "hangs m1", "ask in(hangs, v0) m1", "fill m1 5");
-    says("ask in(hangs, v0) m1", "unknown, 2 looks: the rules could not tell");
-    says("questions", "asked: in(hangs, v0) 5 (asked of m1): true, 2 looks\nasked: in(hangs, v0) m1: unknown, 2 looks");
+    says("ask in(hangs, v0) m1", "unknown, 2 looks: some way to ink the marks makes it false");
+    says("questions", "asked, plain: in(hangs, v0) 5 (asked of m1): true, 2 looks\n"
+                      "asked, plain: in(hangs, v0) m1: unknown, 2 looks");
     type("ask equal(v0, 5) 7");
     says("take back", "m1 stands again, in 1 cell\n"
                       "changed: in(hangs, v0) m1: true, 2 looks; before: unknown, 2 looks");
-    says("questions", "asked: in(hangs, v0) m1: true, 2 looks\nasked: equal(v0, 5) 7: false, 1 look");
+    says("questions", "asked, plain: in(hangs, v0) m1: true, 2 looks\nasked, plain: equal(v0, 5) 7: false, 1 look");
     START("sheet hangs lamp", "hangs m1", "ask in(hangs, v0) m1", "fill m1 m2", "fill m2 m1", "ask in(hangs, v0) m1");
-    says("questions", "asked: in(hangs, v0) m1: true, 2 looks");
+    says("questions", "asked, plain: in(hangs, v0) m1: true, 2 looks");
     says("take back", "m2 stands again, in 1 cell\nno verdict changed");
-    says("questions", "asked: in(hangs, v0) m2 (asked of m1): true, 2 looks");
+    says("questions", "asked, plain: in(hangs, v0) m2 (asked of m1): true, 2 looks");
 }
 
 /* A question that was within its allowance, and is no longer after a fill was taken back or a row entered. */
@@ -104,7 +107,7 @@ static void check_allowance_spent(void)
     says("ask in(hangs, v0) 5 within 2", "true, 2 looks: it stays so however the marks are filled in");
     says("take back", "m1 stands again, in 1 cell\n"
                       "changed: in(hangs, v0) 5 within 2: refused 46; before: true, 2 looks");
-    says("questions", "asked: in(hangs, v0) 5 within 2: refused 46");
+    says("questions", "asked, plain: in(hangs, v0) 5 within 2: refused 46");
     says("hangs 5", "hangs has 3 rows");
     says("fill m1 6", "m1 is now 6, in 1 cell\nno question became settled, and no verdict was unsettled");
     says("take back", "m1 stands again, in 1 cell\nno verdict changed");
@@ -124,9 +127,9 @@ static void check_fewer_looks(void)
 {
     START("sheet hangs lamp", "hangs m1", "hangs 5", "ask in(hangs, v0) 5", "ask every(x, equal(x, 7))");
     says("fill m1 5", "m1 is now 5, in 1 cell\nno question became settled, and no verdict was unsettled");
-    says("questions", "asked: in(hangs, v0) 5: true, 2 looks\nasked: every(x, equal(x, 7)): false, 1 look");
+    says("questions", "asked, plain: in(hangs, v0) 5: true, 2 looks\nasked: every(x, equal(x, 7)): false, 1 look");
     says("take back", "m1 stands again, in 1 cell\nno verdict changed");
-    says("questions", "asked: in(hangs, v0) 5: true, 3 looks\nasked: every(x, equal(x, 7)): false, 2 looks");
+    says("questions", "asked, plain: in(hangs, v0) 5: true, 3 looks\nasked: every(x, equal(x, 7)): false, 2 looks");
 }
 
 #define NOW_7     "m1 is now 7, in 1 cell\n"

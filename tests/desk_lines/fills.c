@@ -77,14 +77,14 @@ static void check_full_log(void)
     refuses("^fill m2 5", 47);
     refuses("  ^fill m2 m2", 47);
     refuses("fill ^m1 5", 43);
-    says("questions", "asked: in(hangs, v0) m2 (asked of m1): true, 2 looks");
+    says("questions", "asked, plain: in(hangs, v0) m2 (asked of m1): true, 2 looks");
     for (size_t i = FILLS; i > 0; i--)
         says("take back", i % 2 == 1 ? "m1 stands again, in 1 cell\nno verdict changed"
                                      : "m2 stands again, in 1 cell\nno verdict changed");
     refuses("^take back", 48);
     expect("the plot is as it was", memcmp(&first.header, &desk.plot.header, sizeof first.header) == 0 &&
                                         memcmp(first.words, desk.plot.words, sizeof first.words) == 0);
-    says("questions", "asked: in(hangs, v0) m1: true, 2 looks");
+    says("questions", "asked, plain: in(hangs, v0) m1: true, 2 looks");
 }
 
 /* A fill of two cells takes the last four words of the log, and taking it back makes room again. */

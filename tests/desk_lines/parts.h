@@ -10,6 +10,7 @@ void check_reading(void);   /* reading.c: questions that cannot be read, or that
 void check_nodes(void);     /* nodes.c: the size of a question */
 void check_names(void);     /* names.c: variables and the names for them */
 void check_questions(void); /* questions.c: questions with names, allowances, and those that are kept */
+void check_plain(void);     /* plain.c: which questions are plain, and what is said after unknown */
 void check_changes(void);   /* changes.c: what becomes of the questions asked */
 void check_ranges(void);    /* ranges.c: the values of some and every */
 void check_ways(void);      /* ways.c: with a working list and without one */

@@ -95,9 +95,10 @@ static void check_same(void)
     type("ask q 1 within 9");
     type("ask q 1 within 9 unlisted");
     type("ask q 1 within 1000000");
-    says("questions", "q: in(hangs, v0)\nasked: in(hangs,v0) 1: true, 2 looks\nasked: in(hangs, v0) 2: false, 2 looks\n"
-                      "asked: in(hangs, v0) 1: true, 2 looks\nasked: q 1 within 9: true, 2 looks\n"
-                      "asked: q 1 within 9 unlisted: true, 2 looks\nasked: q 1: true, 2 looks");
+    says("questions", "q, plain: in(hangs, v0)\nasked, plain: in(hangs,v0) 1: true, 2 looks\n"
+                      "asked, plain: in(hangs, v0) 2: false, 2 looks\nasked, plain: in(hangs, v0) 1: true, 2 looks\n"
+                      "asked, plain: q 1 within 9: true, 2 looks\nasked, plain: q 1 within 9 unlisted: true, 2 looks\n"
+                      "asked, plain: q 1: true, 2 looks");
     type("ask q m1");
     type("ask q m1 1");
     type("ask q 1 m1");
@@ -152,8 +153,8 @@ static void check_renamed(void)
          "q is another question now; the old one is not asked again");
     says("question q: not(in(hangs,v0))", "q is another question now");
     says("question q: not(in(hangs, v0))", "q is another question now");
-    says("questions", "q: not(in(hangs, v0))\nqq: in(hangs, v0)\nasked: qq 5: unknown, 2 looks\n"
-                      "asked: equal(v0, 5) m1: unknown, 1 look");
+    says("questions", "q: not(in(hangs, v0))\nqq, plain: in(hangs, v0)\nasked, plain: qq 5: unknown, 2 looks\n"
+                      "asked, plain: equal(v0, 5) m1: unknown, 1 look");
     type("ask q 7");
     says("fill m1 7", "m1 is now 7, in 1 cell\nbecame settled: qq 5: false, 2 looks; before: unknown, 2 looks\n"
                       "became settled: equal(v0, 5) 7 (asked of m1): false, 1 look; before: unknown, 1 look\n"
@@ -172,8 +173,8 @@ static void check_forgotten(void)
     misses("forget q ^p", "the end of the line", "p");
     misses("forget ^in(hangs, v0)", "the name of a question", "in");
     says("forget p", "p is no question now");
-    says("questions", "q: in(hangs, v0)\nr: equal(v0, 6)\nasked: q 5: unknown, 2 looks\n"
-                      "asked: in(hangs, v0) 6: unknown, 2 looks");
+    says("questions", "q, plain: in(hangs, v0)\nr, plain: equal(v0, 6)\nasked, plain: q 5: unknown, 2 looks\n"
+                      "asked, plain: in(hangs, v0) 6: unknown, 2 looks");
     says("forget", "2 questions not asked again");
     says("fill m1 5", "m1 is now 5, in 1 cell");
     says("forget r", "r is no question now");
@@ -194,7 +195,7 @@ static void check_long_question(void)
     at = repeat(at, " ", 4095 - strlen("ask equal(v0,5) m1"));
     repeat(at, "5)", 1);
     snprintf(line, sizeof line, "ask %s m1", question);
-    says(line, "unknown, 1 look: the rules could not tell");
+    says(line, "unknown, 1 look: some way to ink the marks makes it false");
     snprintf(answer, sizeof answer,
              "m1 is now 5, in 1 cell\nbecame settled: %s 5 (asked of m1): true, 1 look; before: unknown, 1 look\n"
              "no verdict was unsettled",

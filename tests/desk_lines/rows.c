@@ -184,7 +184,7 @@ static void check_full_plot(void)
     refuses_with("hangs 5 ^6", 27, "", ": hangs has 1 column");
     expect("the full plot is sound", is_sound());
     says("census", "m6 stands in 584 cells\nm200 stands in 1 cell");
-    says("ask in(three, 7, 8, 9)", "unknown, 3 looks: the rules could not tell");
+    says("ask in(three, 7, 8, 9)", "unknown, 3 looks: some way to ink the marks makes it false");
     says("fill m200 9",
          "m200 is now 9, in 1 cell\nbecame settled: in(three, 7, 8, 9): true, 3 looks; before: unknown, 3 looks\n"
          "no verdict was unsettled");

@@ -97,6 +97,30 @@ struct verdict refer(const struct account *account, const struct any_query *quer
     return verdict;
 }
 
+/* Whether a node and what is below it have neither not nor every. */
+static bool is_plain_at(const struct any_query *query, uint32_t node)
+{
+    const uint32_t *words = query->words + node * NODE_WORDS;
+
+    switch (words[0]) {
+    case ROW_STANDS:
+    case EQUAL:
+        return true;
+    case AND:
+    case OR:
+        return is_plain_at(query, words[1]) && is_plain_at(query, words[2]);
+    case SOME:
+        return is_plain_at(query, words[2]);
+    default:
+        return false;
+    }
+}
+
+bool is_plain_query(const struct any_query *query)
+{
+    return is_plain_at(query, 0);
+}
+
 /* Asks a question again, of its row as it is now; returns the verdict before. */
 static struct verdict refer_again(struct account *account, struct kept *kept)
 {
@@ -325,9 +349,10 @@ static size_t drop_asked_by(struct account *account, const char *name)
     return dropped;
 }
 
-void account_name(struct account *account, const char *name, const char *text)
+void account_name(struct account *account, const char *name, const char *text, const struct any_query *query)
 {
     size_t named = 0;
+    bool is_plain = is_plain_query(query);
 
     start_answer(account);
     while (named < account->named_count && strcmp(account->named[named].name, name) != 0)
@@ -340,8 +365,11 @@ void account_name(struct account *account, const char *name, const char *text)
     } else {
         bool dropped = drop_asked_by(account, name) > 0;
         add(account, "%s is another question now%s\n", name, dropped ? "; the old one is not asked again" : "");
+        if (is_plain != account->named[named].is_plain)
+            meet(is_plain ? MET_PLAIN_ANEW : MET_OTHER_ANEW);
     }
     account->named[named].name = name;
+    account->named[named].is_plain = is_plain;
     snprintf(account->named[named].text, LINE_ROOM, "%s", text);
 }
 
@@ -353,14 +381,21 @@ void account_forgotten(struct account *account)
     add(account, "%zu question%s not asked again\n", dropped, plural(dropped));
 }
 
+/* What is said after a verdict. An unknown is told apart by whether its question is plain. */
+static const char *remark_on(const struct kept *kept)
+{
+    if (kept->verdict.truth != TRUTH_UNKNOWN)
+        return "it stays so however the marks are filled in";
+    return is_plain_query(&kept->query) ? "some way to ink the marks makes it false"
+                                        : "the rules could not tell; it may hold for every way to ink the marks";
+}
+
 /* A question is kept once, as the latest; of more than there is room for, the oldest goes. */
 void account_asked(struct account *account, struct kept *kept)
 {
     start_answer(account);
     add_verdict(account, &kept->verdict);
-    add(account, ": %s\n",
-        kept->verdict.truth == TRUTH_UNKNOWN ? "the rules could not tell"
-                                             : "it stays so however the marks are filled in");
+    add(account, ": %s\n", remark_on(kept));
     for (size_t i = account->kept_count; i > 0; i--)
         if (is_same(account, &account->kept[i - 1], kept)) {
             kept->row.fills = account->kept[i - 1].row.fills;
@@ -378,10 +413,15 @@ void account_asked(struct account *account, struct kept *kept)
 void account_questions(struct account *account)
 {
     start_answer(account);
-    for (size_t i = 0; i < account->named_count; i++)
-        add(account, "%s: %s\n", account->named[i].name, account->named[i].text);
+    for (size_t i = 0; i < account->named_count; i++) {
+        const struct named *named = &account->named[i];
+        meet(named->is_plain ? MET_PLAIN_NAMED : MET_OTHER_NAMED);
+        add(account, "%s%s: %s\n", named->name, named->is_plain ? ", plain" : "", named->text);
+    }
     for (size_t i = 0; i < account->kept_count; i++) {
-        add(account, "asked: ");
+        bool is_plain = is_plain_query(&account->kept[i].query);
+        meet(is_plain ? MET_PLAIN_ASKED : MET_OTHER_ASKED);
+        add(account, is_plain ? "asked, plain: " : "asked: ");
         add_kept(account, &account->kept[i]);
         add(account, ": ");
         add_verdict(account, &account->kept[i].verdict);

@@ -39,6 +39,7 @@ struct kept {
 struct named {
     const char *name;
     char text[LINE_ROOM];
+    bool is_plain;
 };
 
 struct account {
@@ -68,7 +69,7 @@ void account_row(struct account *account, const char *sheet_name, uint32_t sheet
                  const bool *blank);
 void account_fill(struct account *account, uint32_t mark, uint32_t cell);
 void account_take_back(struct account *account);
-void account_name(struct account *account, const char *name, const char *text);
+void account_name(struct account *account, const char *name, const char *text, const struct any_query *query);
 void account_asked(struct account *account, struct kept *kept);
 void account_forgotten(struct account *account);
 void account_questions(struct account *account);
@@ -79,6 +80,9 @@ void account_loaded(struct account *account, const char *path);
 /* What the reference says of a question. */
 struct verdict refer(const struct account *account, const struct any_query *query, const struct any_cells *row,
                      uint32_t allowance);
+
+/* Whether a query that is not refused has neither not nor every, from its top down to its leaves. */
+bool is_plain_query(const struct any_query *query);
 
 uint32_t count_mark(const struct account *account, uint32_t mark);
 size_t log_words_used(const struct account *account);

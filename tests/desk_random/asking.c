@@ -169,9 +169,10 @@ static void meet_verdict(const struct any_plot *plot, const struct verdict *verd
 {
     meet(asked.name ? MET_BY_NAME : MET_IN_WORDS);
     meet(unlisted ? MET_UNLISTED : MET_LISTED);
-    meet(verdict->truth == TRUTH_TRUE      ? MET_ANSWERED_TRUE
-         : verdict->truth == TRUTH_UNKNOWN ? MET_ANSWERED_UNKNOWN
-                                           : MET_ANSWERED_FALSE);
+    if (verdict->truth == TRUTH_UNKNOWN)
+        meet(is_plain_query(&asked.query) ? MET_PLAIN_UNKNOWN : MET_OTHER_UNKNOWN);
+    else
+        meet(verdict->truth == TRUTH_TRUE ? MET_ANSWERED_TRUE : MET_ANSWERED_FALSE);
     if (verdict->looks == asked.allowance)
         meet(MET_ALLOWANCE_TAKEN);
     if (asked.spelling.nodes == MOST_NODES)
@@ -272,7 +273,7 @@ static void account_named(struct talk *talk, const char *name)
 {
     size_t at = 0, before = talk->account.named_count;
 
-    account_name(&talk->account, name, asked.spelling.text);
+    account_name(&talk->account, name, asked.spelling.text, &asked.query);
     if (talk->account.named_count == before)
         meet(MET_NAMED_AGAIN);
     while (strcmp(talk->account.named[at].name, name) != 0)

@@ -51,7 +51,8 @@ enum typed_command command_of(const char *bytes, size_t length);
     CASE(UNLISTED, "asked without a working list")                                  \
     CASE(ANSWERED_TRUE, "true")                                                     \
     CASE(ANSWERED_FALSE, "false")                                                   \
-    CASE(ANSWERED_UNKNOWN, "unknown")                                               \
+    CASE(PLAIN_UNKNOWN, "unknown of a plain question")                              \
+    CASE(OTHER_UNKNOWN, "unknown of a question that is not plain")                  \
     CASE(ALLOWANCE_TAKEN, "the looks are the allowance")                            \
     CASE(HUNDRED_NODES, "a question of 100 nodes is answered")                      \
     CASE(VALUE_NAMED, "some or every, and a value that only the question names")    \
@@ -70,6 +71,12 @@ enum typed_command command_of(const char *bytes, size_t length);
     CASE(ROW_OF_SEVEN, "26 for the seventh cell of the row")                        \
     CASE(NO_VARIABLE_LEFT, "24 for a name that gets no variable")                   \
     CASE(NAMED_AGAIN, "a name is given to another question")                        \
+    CASE(PLAIN_ANEW, "a name goes to a plain question, from one that is not")       \
+    CASE(OTHER_ANEW, "a name goes from a plain question to one that is not")        \
+    CASE(PLAIN_NAMED, "a question with a name is listed as plain")                  \
+    CASE(OTHER_NAMED, "a question with a name is listed, and is not plain")         \
+    CASE(PLAIN_ASKED, "a question that was asked is listed as plain")               \
+    CASE(OTHER_ASKED, "a question that was asked is listed, and is not plain")      \
     CASE(NAMED_BEFORE, "a question that has a name is asked of another row")        \
     CASE(ASKED_AGAIN, "the same question is asked of the same row")                 \
     CASE(OLDEST_DROPPED, "the oldest of 32 questions is no longer asked")           \
