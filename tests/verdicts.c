@@ -4,8 +4,8 @@
  * asked of the program and of the library, and again after every change. The page's answers have to be what comes out.
  *
  *   ```desk
- *   > ask in(store, v0) 201   # a student says false      a typed line; what the student says has to be wrong
- *   unknown, 2 looks: the rules could not tell            the answer, up to the next typed line
+ *   > ask in(store, v0) 201   # a student says false             a typed line; what the student says has to be wrong
+ *   unknown, 2 looks: some way to ink the marks makes it false   the answer, up to the next typed line
  *   ```
  */
 #include "page/comment.h"
@@ -16,7 +16,7 @@
 #include <string.h>
 
 /* A page on which fewer questions are asked has lost some. */
-enum { ASKS = 29 };
+enum { ASKS = 35 };
 
 /* The page, as far as it has been read. */
 struct page {

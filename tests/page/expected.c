@@ -15,13 +15,32 @@ void expect_line(struct expected *expected, const char *format, ...)
     line->is_start = false;
 }
 
-void expect_answer(struct expected *expected, const struct answer *answer)
+void expect_refused(struct expected *expected, uint32_t number)
+{
+    expect_line(expected, "refused %u, column ", (unsigned)number);
+    expected->lines[expected->count - 1].is_start = true;
+}
+
+/* What is said after a verdict and its looks. */
+static const char *ways_to_ink(const struct answer *answer, bool is_plain)
+{
+    if (is_settled(answer))
+        return "it stays so however the marks are filled in";
+    if (is_plain)
+        return "some way to ink the marks makes it false";
+    return "the rules could not tell; it may hold for every way to ink the marks";
+}
+
+void expect_answer(struct expected *expected, const struct answer *answer, bool is_plain)
 {
     char text[ANSWER_BYTES];
 
+    if (is_refused(answer)) {
+        expect_refused(expected, answer->number);
+        return;
+    }
     write_answer(answer, text);
-    expect_line(expected, "%s%s", text, is_refused(answer) ? ", column " : ": ");
-    expected->lines[expected->count - 1].is_start = true;
+    expect_line(expected, "%s: %s", text, ways_to_ink(answer, is_plain));
 }
 
 bool is_expected(const struct expected_line *line, const char *text)

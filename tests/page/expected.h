@@ -20,8 +20,11 @@ struct expected {
 
 __attribute__((format(printf, 2, 3))) void expect_line(struct expected *expected, const char *format, ...);
 
-/* Expects a line that starts with an answer: a verdict with its looks and a colon, or a refusal and its column. */
-void expect_answer(struct expected *expected, const struct answer *answer);
+/* Expects a line that starts with a refusal and its column. */
+void expect_refused(struct expected *expected, uint32_t number);
+
+/* Expects the answer to a question: a verdict, its looks and what is said after them, or a refusal. */
+void expect_answer(struct expected *expected, const struct answer *answer, bool is_plain);
 
 /* Whether the page's line is the expected one. */
 bool is_expected(const struct expected_line *line, const char *text);

@@ -27,10 +27,8 @@ static const char *plural(uint32_t n)
 /* Expects a refusal, unless the number is 0; returns whether it does. */
 static bool expect_refusal(struct expected *expected, uint32_t number)
 {
-    const struct answer answer = refusal(number);
-
     if (number != 0)
-        expect_answer(expected, &answer);
+        expect_refused(expected, number);
     return number != 0;
 }
 

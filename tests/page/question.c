@@ -209,3 +209,16 @@ size_t scan_question(const char **at, const struct sheets *sheets, uint32_t word
     *at = r.at;
     return r.nodes * PLOTASK_NODE_WORDS;
 }
+
+bool is_plain(const uint32_t *words, size_t length)
+{
+    static const bool plain[PLOTASK_EVERY + 1] = {
+        [PLOTASK_STANDS] = true, [PLOTASK_EQUAL] = true, [PLOTASK_AND] = true,
+        [PLOTASK_OR] = true,     [PLOTASK_SOME] = true,
+    };
+    size_t node = 0;
+
+    while (node < length && plain[words[node]])
+        node += PLOTASK_NODE_WORDS;
+    return node == length;
+}

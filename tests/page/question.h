@@ -14,4 +14,7 @@
  */
 size_t scan_question(const char **at, const struct sheets *sheets, uint32_t words[PLOTASK_QUERY_WORDS]);
 
+/* Whether a question that was read is plain: `in`, `equal`, `and`, `or` and `some` alone. */
+bool is_plain(const uint32_t *words, size_t length);
+
 #endif

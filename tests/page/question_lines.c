@@ -83,7 +83,7 @@ const char *obey_ask(struct session *session, const char *rest, struct expected 
     const char *fault = ask_question(session, &question, &row, &manner, &answer);
     if (fault)
         return fault;
-    expect_answer(expected, &answer);
+    expect_answer(expected, &answer, is_plain(question.words, question.length));
     expected->is_ask = true;
     return NULL;
 }
