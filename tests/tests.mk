@@ -5,6 +5,8 @@ ROUNDS ?= 6000
 SANITIZED_ROUNDS ?= 2500
 DESK_ROUNDS ?= 600
 SANITIZED_DESK_ROUNDS ?= 200
+PLAIN_ROUNDS ?= 200000
+SANITIZED_PLAIN_ROUNDS ?= 20000
 RUNS ?= 1000
 LIMIT ?= timeout 600
 
@@ -13,9 +15,9 @@ COMPARED := tests/differential tests/generators tests/reference tests/support
 TRANSCRIPTS := README.md $(wildcard tests/desk/*.txt)
 BIN := target/c/bin
 SANITIZED := target/c-sanitized/bin
-WITH_SANITIZERS := $(addprefix $(SANITIZED)/,differential desk desk_lines desk_random)
+WITH_SANITIZERS := $(addprefix $(SANITIZED)/,differential plain desk desk_lines desk_random)
 
-# every test, the differential one and the desk's with sanitizers too; the last line is the total
+# every test, those on random input and the desk's with sanitizers too; the last line is the total
 c-test: lib $(PROGRAM) $(HOSTS) $(DESK) $(TESTS:%=$(BIN)/%) $(WITH_SANITIZERS)
 	@{ $(MAKE) -s --no-print-directory example desk-start verdicts && \
 	$(LIMIT) $(BIN)/transcripts $(DESK) $(TRANSCRIPTS) && \
@@ -25,6 +27,8 @@ c-test: lib $(PROGRAM) $(HOSTS) $(DESK) $(TESTS:%=$(BIN)/%) $(WITH_SANITIZERS)
 	$(LIMIT) $(SANITIZED)/desk_random $(SEED) $(SANITIZED_DESK_ROUNDS) && \
 	$(LIMIT) $(BIN)/header && $(LIMIT) $(BIN)/readings && $(LIMIT) $(BIN)/counts && $(LIMIT) $(BIN)/unlisted && \
 	$(LIMIT) $(BIN)/limit && $(LIMIT) $(BIN)/stack && \
+	$(LIMIT) $(BIN)/plain $(SEED) $(PLAIN_ROUNDS) && \
+	$(LIMIT) $(SANITIZED)/plain $(SEED) $(SANITIZED_PLAIN_ROUNDS) && \
 	$(LIMIT) $(BIN)/differential $(SEED) $(ROUNDS) && \
 	$(LIMIT) $(SANITIZED)/differential $(SEED) $(SANITIZED_ROUNDS) && \
 	$(LIMIT) $(BIN)/feed $(PROGRAM) $(SEED) $(RUNS); } > target/c/tests.log || { cat target/c/tests.log; exit 1; }
@@ -57,7 +61,9 @@ $(BIN)/limit: $(call objects,c,tests/reference tests/support) $(LIBRARY)
 $(BIN)/transcripts: $(call objects,c,tests/support)
 $(BIN)/stack: $(call objects,c,bench/baseline bench/measure bench/work tests/reference tests/support) $(LIBRARY)
 $(BIN)/verdicts: $(call objects,c,tests/page tests/reference tests/support) $(LIBRARY)
+$(BIN)/plain: $(call objects,c,tests/plain $(COMPARED)) $(LIBRARY)
 $(SANITIZED)/differential: $(call objects,c-sanitized,$(COMPARED)) $(LIBRARY)
+$(SANITIZED)/plain: $(call objects,c-sanitized,tests/plain $(COMPARED)) $(LIBRARY)
 
 # the desk without its own start
 desk_objects = $(filter-out %/main.o,$(call objects,$(1),examples/desk))

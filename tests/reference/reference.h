@@ -76,5 +76,7 @@ bool model_holds_a_null(const struct model *model);
  */
 uint64_t two_valued_leaves(const struct model *model, const uint32_t *query, size_t query_length);
 bool two_valued_yes(const struct model *model, const uint32_t *query, size_t query_length);
+/* The same over the plot's values alone: what it would say if the constants that the query names were not in range. */
+bool two_valued_yes_unnamed(const struct model *model, const uint32_t *query, size_t query_length);
 
 #endif

@@ -93,3 +93,10 @@ bool two_valued_yes(const struct model *model, const uint32_t *words, size_t len
     take_apart(model, words, length);
     return yes(&query.nodes[0], NULL, model->candidate);
 }
+
+bool two_valued_yes_unnamed(const struct model *model, const uint32_t *words, size_t length)
+{
+    take_apart(model, words, length);
+    value_count = plot_values(&plot, values);
+    return yes(&query.nodes[0], NULL, model->candidate);
+}

@@ -1,0 +1,57 @@
+/*
+ * Document 02's "When a true is missed and when not": what is answered on small random input, beside what two-valued
+ * logic says on every completion: plain [seed [rounds [first round]]].
+ */
+#include "differential/compare.h"
+#include "plain/cases.h"
+#include "plain/judge.h"
+#include "plain/small.h"
+#include "plain/worked.h"
+#include "support/arguments.h"
+#include "support/checks.h"
+
+#include <inttypes.h>
+#include <stdio.h>
+#include <string.h>
+
+/* The queries that were judged, those of them that are plain, their completions, and the queries passed over. */
+static uint64_t query_count;
+static uint64_t plain_count;
+static uint64_t completion_count;
+static uint64_t too_large;
+
+static void run_round(uint64_t seed, uint64_t round)
+{
+    static struct asked asked;
+    static struct judged judged;
+    struct random random = random_of_round(seed, round);
+    begin_round(seed, round);
+    memset(&asked, 0, sizeof asked); /* a round follows from seed and number alone */
+    make_small(&random, &asked);
+    if (!judge(&asked, &judged)) {
+        too_large++;
+        return;
+    }
+    const char *broken = broken_claim(&judged);
+    if (broken != NULL)
+        fail_judged(broken, &asked, &judged);
+    meet_judged(&asked, &judged);
+    query_count++;
+    plain_count += judged.plain;
+    completion_count += judged.count;
+}
+
+int main(int count, char **arguments)
+{
+    uint64_t seed = number_argument(count, arguments, 1, 1);
+    uint64_t rounds = number_argument(count, arguments, 2, 200000);
+    uint64_t first = number_argument(count, arguments, 3, 0);
+    check_worked();
+    for (uint64_t round = first; round < first + rounds; round++)
+        run_round(seed, round);
+    check_cases();
+    printf("seed %" PRIu64 ", %" PRIu64 " rounds, %" PRIu64 " queries too large\n", seed, rounds, too_large);
+    printf("%" PRIu64 " queries, %" PRIu64 " of them plain, on %" PRIu64 " completions\n", query_count, plain_count,
+           completion_count);
+    return finish_checks();
+}
