@@ -23,13 +23,14 @@ use Rattle.instance.specs.declared.header.Header.{Header}
 use Rattle.instance.specs.Sound.{sound, rows}
 use Rattle.instance.specs.Run.{filledWords, modelOf}
 use Rattle.instance.proofs.Run.{fills-follow-model, candidate-cells}
-use Rattle.query.specs.Words.{nodeCount, rightLength}
+use Rattle.query.specs.Words.{rightLength}
 use Rattle.query.specs.Named.{namedIn, queryOf}
 use Rattle.query.proofs.Named.{named-constant}
+use Rattle.calculus.specs.Cell.{isConstant}
 use Rattle.calculus.specs.Formula.{inkedQuery}
 use Rattle.query.specs.Scope.{Scopes}
 use Rattle.query.specs.Check.{passed, checkQuery}
-use Rattle.query.proofs.Passed.{passed-inked, count-within, are-cells, same-candidate}
+use Rattle.query.proofs.Passed.{passed-constants, are-cells, same-candidate}
 use Rattle.answer.specs.declared.asked.Asked.the-variants.{Verdict, Refused}
 use Rattle.evaluate.specs.declared.evaluated.Evaluated.{Evaluated}
 use Rattle.evaluate.specs.declared.evaluated.Evaluated.the-variants as evaluated
@@ -121,7 +122,8 @@ not-refused e = let z : _≡_ {A = ℕ} 0 1 = cc in omega arith
 pub asks-inked : (h : Header) (ws qs candidate : List ℕ) (lent : Lent) → Asks h ws qs candidate lent → inkedQuery (queryOf (h .arities) qs) ≡ true
 asks-inked h ws qs candidate lent a =
     and-intro
-    (passed-inked (h .relations) (h .arities) qs candidate (a .right) (a .scopes) (a .passes) (nodeCount qs) 0 (count-within qs (a .right) .0))
+    (passed-constants (h .relations) (h .arities) qs candidate (a .right) (a .scopes) (a .passes) isConstant
+    (named-constant (h .arities) qs))
     (named-constant (h .arities) qs)
 
 -- run B passes the checks of run A: of the candidate they use only the length and that its words are cells, and fills keep both

@@ -5,7 +5,7 @@ use mathlib.Core.Bool.{true}
 use mathlib.Core.List.{List}
 use Rattle.calculus.specs.declared.truth.Truth.{Truth}
 use Rattle.calculus.specs.Order.{_⊑_, ofBool}
-use Rattle.calculus.specs.Model.{Fill, run, plain, saysYes}
+use Rattle.calculus.specs.Model.{Fill, run, complete, saysYes}
 use Rattle.instance.specs.declared.header.Header.{Header}
 use Rattle.instance.specs.Run.{filledWords, modelOf, Ran}
 use Rattle.query.specs.Named.{queryOf}
@@ -24,7 +24,7 @@ pub record Rerun (h : Header) (ws qs candidate : List ℕ) (fs : List Fill) (t :
   pub kept : t ⊑ truth
   pub no-more : cost ≤ n
   pub two-valued :
-      plain (run fs (modelOf h ws candidate)) ≡ true →
+      complete (run fs (modelOf h ws candidate)) ≡ true →
       truth ≡ ofBool (saysYes (run fs (modelOf h ws candidate)) (queryOf (h .arities) qs))
 
 -- the whole of demand 3: every instance, question, candidate, budget and list of fills, by every way of asking; run B asks by the same way as run A

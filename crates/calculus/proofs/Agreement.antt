@@ -10,7 +10,7 @@ use Rattle.calculus.specs.declared.truth.Truth.the-variants.{False, Unkn
 use Rattle.calculus.specs.Cell.{isConstant, allConstant}
 use Rattle.calculus.specs.Row.{Row, cellsOf}
 use Rattle.calculus.specs.Kleene.{Junction, conj, disj, join, unit, negate}
-use Rattle.calculus.specs.Formula.{Formula, atom, equal, negation, junction, quantified, value, values, termInked, inked}
+use Rattle.calculus.specs.Formula.{Formula, atom, equal, negation, junction, quantified, value, values, termPasses, constantsPass, inked}
 use Rattle.calculus.specs.Eval.{Outcome, over, eval}
 use Rattle.calculus.specs.Unify.{under, unifies}
 use Rattle.calculus.specs.Closed.{tuples, some, identical, stands, equality, closedOver}
@@ -19,10 +19,10 @@ use Rattle.calculus.specs.Order.{ofBool}
 use Rattle.calculus.proofs.Bools.{false-not-true, and-parts, and-intro}
 use Rattle.calculus.proofs.Valuations.{under-keeps}
 use Rattle.calculus.proofs.Unification.{unifies-agrees}
-use Rattle.calculus.proofs.Tuples.{or-mono, identical-refl}
-use Rattle.calculus.proofs.Constants.{keeps-all, constant-value, constant-values}
+use Rattle.calculus.proofs.Tuples.{or-mono, identical-refl, tuples-pass}
+use Rattle.calculus.proofs.Constants.{fixes-all, constant-value, constant-values}
 use Rattle.calculus.specs.All.{all}
-use Rattle.calculus.proofs.All.{all-set, all-split, all-parts}
+use Rattle.calculus.proofs.All.{all-set, all-parts}
 
 negate-bool : (b : Bool) → negate (ofBool b) ≡ ofBool (not b)
 negate-bool true = refl
@@ -43,22 +43,9 @@ constants-unify : (xs ys : List ℕ) → allConstant xs ≡ true → allConstant
 constants-unify xs ys p q e =
     let u = unifies-agrees xs ys .0 e in
     let v = u .valuation in
-    let same : xs ≡ ys = sym (keeps-all (under v) (under-keeps v) xs p) ∙ u .equal ∙ keeps-all (under v) (under-keeps v) ys q in
+    let fixed = fixes-all isConstant (under v) (under-keeps v) in
+    let same : xs ≡ ys = sym (fixed xs p) ∙ u .equal ∙ fixed ys q in
     rw (← same) (identical-refl xs)
-
--- if all cells are constants, every tuple of a relation is a list of constants
-tuples-known : (r : ℕ) (rs : List Row) → allConstant (cellsOf rs) ≡ true → all allConstant (tuples r rs) ≡ true
-unfolding all tuples cellsOf
-tuples-known r [] h = refl
-tuples-known r (row ∷ rs) h =
-    let c = all-split isConstant (row .cells) (cellsOf rs) h in
-    go (eqb (row .relation) r) (c .0) (tuples-known r rs (c .1))
-  where
-    go :
-        (b : Bool) → allConstant (row .cells) ≡ true → all allConstant (tuples r rs) ≡ true →
-        all allConstant (cond b (row .cells ∷ tuples r rs) (tuples r rs)) ≡ true
-    go true k ks = and-intro k ks
-    go false k ks = ks
 
 only-identical :
     (row : List ℕ) (ts : List (List ℕ)) → allConstant row ≡ true → all allConstant ts ≡ true → some (unifies row) ts ≡ true →
@@ -100,15 +87,18 @@ over-bool j f g (c ∷ cs) k each =
     ap (λ (t : Truth). join j (ofBool (g c)) t) (over-bool j f g cs (b .1) each) ∙
     join-bool j (g c) (overB j g cs)
 
-module _ (range : List ℕ) (known-range : allConstant range ≡ true) (rs : List Row) (plain : allConstant (cellsOf rs) ≡ true) where
+module _ (range : List ℕ) (known-range : allConstant range ≡ true)
+    (rs : List Row) (constant-cells : allConstant (cellsOf rs) ≡ true) where
   -- the verdict is true exactly if two-valued logic says yes, and false exactly if it says no
   pub two-valued :
       (f : Formula) → inked f ≡ true → (e : List ℕ) → allConstant e ≡ true →
       eval (closedOver range rs) f e .truth ≡ ofBool (says range rs f e)
-  unfolding eval says inked
-  two-valued (atom r ts) k e known = stands-bool (values e ts) (tuples r rs) (constant-values e known ts k) (tuples-known r rs plain)
+  unfolding eval says constantsPass
+  two-valued (atom r ts) k e known =
+      stands-bool (values e ts) (tuples r rs) (constant-values e known ts k)
+      (tuples-pass isConstant r rs constant-cells)
   two-valued (equal s t) k e known =
-      let b = and-parts (termInked s) (termInked t) k in
+      let b = and-parts (termPasses isConstant s) (termPasses isConstant t) k in
       equality-bool (value e s) (value e t) (constant-value e known s (b .0)) (constant-value e known t (b .1))
   two-valued (negation f) k e known = ap negate (two-valued f k e known) ∙ negate-bool (says range rs f e)
   two-valued (junction j f g) k e known =

@@ -11,7 +11,7 @@ use Rattle.calculus.specs.Formula.{Query, inked, inkedQuery, assignment,
 use Rattle.calculus.specs.Domain.{rangeOver}
 use Rattle.calculus.specs.Unify.{Valuation, under}
 use Rattle.calculus.specs.Order.{_⊑_, unknown, alike, _⊑ₒ_, ofBool}
-use Rattle.calculus.specs.Model.{Fill, Model, run, outcomeOf, saysYes, plain, valued, Shared}
+use Rattle.calculus.specs.Model.{Fill, Model, run, outcomeOf, saysYes, complete, valued, Shared}
 use Rattle.calculus.proofs.Bools.{and-parts, and-intro, zero-not-one}
 use Rattle.calculus.proofs.Rows.{cells-map}
 use Rattle.calculus.proofs.Valuations.{under-keeps, under-constant}
@@ -26,8 +26,8 @@ valued-constant : (v : Valuation) (cs : List ℕ) → allConstant (map (under v)
 valued-constant v cs = all-map isConstant (under v) (λ c. true) (λ c t. under-constant v c) cs (all-always (λ c. true) (λ c. refl) cs)
 
 -- without nulls, the verdict is that of two-valued logic
-pub plain-verdict : (b : Model) (f : Query) → inkedQuery f ≡ true → plain b ≡ true → outcomeOf b f .truth ≡ ofBool (saysYes b f)
-plain-verdict b f k p =
+pub complete-verdict : (b : Model) (f : Query) → inkedQuery f ≡ true → complete b ≡ true → outcomeOf b f .truth ≡ ofBool (saysYes b f)
+complete-verdict b f k p =
     let c = and-parts (allConstant (cellsOf (b .rows))) (allConstant (b .candidate)) p in
     let i = and-parts (inked (f .formula)) (allConstant (f .named)) k in
     two-valued (rangeOver (f .named) (b .rows))
@@ -37,8 +37,8 @@ plain-verdict b f k p =
 
 -- ---- every valuation
 
-pub valued-plain : (v : Valuation) (b : Model) → plain (valued v b) ≡ true
-valued-plain v b =
+pub valued-complete : (v : Valuation) (b : Model) → complete (valued v b) ≡ true
+valued-complete v b =
     and-intro
     (ap allConstant (cells-map (under v) (b .rows)) ∙ valued-constant v (cellsOf (b .rows)))
     (valued-constant v (b .candidate))
@@ -70,12 +70,12 @@ pub certain :
     (v : Valuation) (b : Model) (f : Query) (t : Bool) → inkedQuery f ≡ true → outcomeOf b f .truth ≡ ofBool t → saysYes (valued v b) f ≡ t
 certain v b f t k e =
     of-bool (saysYes (valued v b) f) t
-    (sym (plain-verdict (valued v b) f k (valued-plain v b)) ∙ settled t (valuation-kept v b f k .truth) e)
+    (sym (complete-verdict (valued v b) f k (valued-complete v b)) ∙ settled t (valuation-kept v b f k .truth) e)
 
 -- ---- runs A and B
 
 pub runs-share : (fs : List Fill) (b : Model) (f : Query) → inkedQuery f ≡ true → Shared fs b f
-runs-share fs b f k = record { kept = fills-kept fs b f k; two-valued = plain-verdict (run fs b) f k }
+runs-share fs b f k = record { kept = fills-kept fs b f k; two-valued = complete-verdict (run fs b) f k }
 
 -- if A's verdict is true or false, B's is the same
 pub verdict-kept : (fs : List Fill) (b : Model) (f : Query) (t : Bool) → inkedQuery f ≡ true → outcomeOf b f .truth ≡ ofBool t → outcomeOf (run fs b) f .truth ≡ ofBool t

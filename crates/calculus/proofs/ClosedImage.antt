@@ -23,7 +23,7 @@ use Rattle.calculus.proofs.Valuations.{after, after-is}
 use Rattle.calculus.proofs.Unification.{unifies-agrees}
 use Rattle.calculus.proofs.Distinct.{distinct-map}
 use Rattle.calculus.proofs.Tuples.{tuples-map, some-mono, some-of-map, identical-refl, identical-is}
-use Rattle.calculus.proofs.Constants.{keeps-all}
+use Rattle.calculus.proofs.Constants.{fixes-all}
 use Rattle.calculus.proofs.UpTo.{up-to-map}
 use Rattle.calculus.proofs.Lists.{map-same}
 
@@ -85,7 +85,7 @@ module _ (h : ℕ → ℕ) (keeps : Keeps h) where
   pub range-map : (named : List ℕ) → allConstant named ≡ true → (rs : List Row) → rangeOver named (map (mapRow h) rs) ≡ distinct (map h (rangeOver named rs))
   range-map named k rs =
       ap (λ (l : List ℕ). distinct (l ++ named)) (cells-map h rs) ∙
-      ap (λ (l : List ℕ). distinct (map h (cellsOf rs) ++ l)) (sym (keeps-all h keeps named k)) ∙
+      ap (λ (l : List ℕ). distinct (map h (cellsOf rs) ++ l)) (sym (fixes-all isConstant h keeps named k)) ∙
       ap distinct (sym (map-append h (cellsOf rs) named)) ∙ distinct-map h (cellsOf rs ++ named)
 
   -- the rows after the map are an image of the rows before it

@@ -6,9 +6,9 @@ use mathlib.Core.List.{List, [], _∷_, map}
 use lib.Dec.{eqb}
 use Rattle.calculus.specs.Cell.{isConstant, allConstant}
 use Rattle.calculus.specs.Domain.{without, distinct}
-use Rattle.calculus.specs.Formula.{Term, const, var, value, values, termInked, termsInked}
+use Rattle.calculus.specs.Formula.{Term, const, var, value, values, termPasses, termsPass}
 use Rattle.calculus.proofs.Bools.{and-parts, and-intro}
-use Rattle.calculus.specs.Order.{Keeps}
+use Rattle.calculus.specs.Order.{Fixes}
 use Rattle.calculus.specs.All.{all}
 use Rattle.calculus.proofs.All.{all-getD}
 
@@ -30,22 +30,22 @@ constant-distinct (c ∷ cs) h =
     let b = and-parts (isConstant c) (allConstant cs) h in
     and-intro (b .0) (constant-without c (distinct cs) (constant-distinct cs (b .1)))
 
--- a map that leaves constants as they are leaves a list of them as it is
-pub keeps-all : (h : ℕ → ℕ) → Keeps h → (cs : List ℕ) → allConstant cs ≡ true → map h cs ≡ cs
+-- a map that leaves what passes a test as it is leaves a list of it as it is
+pub fixes-all : (test : ℕ → Bool) (h : ℕ → ℕ) → Fixes test h → (cs : List ℕ) → all test cs ≡ true → map h cs ≡ cs
 unfolding all
-keeps-all h keeps [] k = refl
-keeps-all h keeps (c ∷ cs) k =
-    let b = and-parts (isConstant c) (allConstant cs) k in
-    rw (keeps c (b .0), keeps-all h keeps cs (b .1)) refl
+fixes-all test h fixes [] k = refl
+fixes-all test h fixes (c ∷ cs) k =
+    let b = and-parts (test c) (all test cs) k in
+    rw (fixes c (b .0), fixes-all test h fixes cs (b .1)) refl
 
 module _ (e : List ℕ) (known : allConstant e ≡ true) where
-  pub constant-value : (t : Term) → termInked t ≡ true → isConstant (value e t) ≡ true
+  pub constant-value : (t : Term) → termPasses isConstant t ≡ true → isConstant (value e t) ≡ true
   constant-value (const c) k = k
   constant-value (var v) k = all-getD isConstant e v 0 refl known
 
-  pub constant-values : (ts : List Term) → termsInked ts ≡ true → allConstant (values e ts) ≡ true
+  pub constant-values : (ts : List Term) → termsPass isConstant ts ≡ true → allConstant (values e ts) ≡ true
   unfolding all
   constant-values [] k = refl
   constant-values (t ∷ ts) k =
-      let b = and-parts (termInked t) (termsInked ts) k in
+      let b = and-parts (termPasses isConstant t) (termsPass isConstant ts) k in
       and-intro (constant-value t (b .0)) (constant-values ts (b .1))

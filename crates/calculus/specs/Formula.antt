@@ -36,20 +36,24 @@ variables = 16
 abbrev pub assignment : List ℕ → List ℕ
 assignment candidate = padded variables candidate
 
+-- every number in a `const` of a term, of terms and of a formula passes a test
+abbrev pub termPasses : (ℕ → Bool) → Term → Bool
+termPasses test (const c) = test c
+termPasses test (var v) = true
+
+abbrev pub termsPass : (ℕ → Bool) → List Term → Bool
+termsPass test ts = all (termPasses test) ts
+
+unfoldable pub constantsPass : (ℕ → Bool) → Formula → Bool
+constantsPass test (atom r ts) = termsPass test ts
+constantsPass test (equal s t) = termPasses test s && termPasses test t
+constantsPass test (negation f) = constantsPass test f
+constantsPass test (junction j f g) = constantsPass test f && constantsPass test g
+constantsPass test (quantified j v f) = constantsPass test f
+
 -- every number in a `const` of a formula is a constant (an inked value)
-abbrev pub termInked : Term → Bool
-termInked (const c) = isConstant c
-termInked (var v) = true
-
-abbrev pub termsInked : List Term → Bool
-termsInked ts = all termInked ts
-
-unfoldable pub inked : Formula → Bool
-inked (atom r ts) = termsInked ts
-inked (equal s t) = termInked s && termInked t
-inked (negation f) = inked f
-inked (junction j f g) = inked f && inked g
-inked (quantified j v f) = inked f
+abbrev pub inked : Formula → Bool
+inked f = constantsPass isConstant f
 
 -- A question: its formula, and its inked terms "by node and word", repeats included. A node's right child may
 -- have a lower number than its left one, so the order of the words is not that of the formula.

@@ -36,8 +36,8 @@ abbrev pub saysYes : Model → Query → Bool
 saysYes b q = says (rangeOver (q .named) (b .rows)) (b .rows) (q .formula) (assignment (b .candidate))
 
 -- no cell of the rows or of the candidate holds a null
-abbrev pub plain : Model → Bool
-plain b = allConstant (cellsOf (b .rows)) && allConstant (b .candidate)
+abbrev pub complete : Model → Bool
+complete b = allConstant (cellsOf (b .rows)) && allConstant (b .candidate)
 
 abbrev pub answerOf : Fill → Model → Answer
 answerOf f b = filled (f .log) (f .mark) (f .cell) (b .rows)
@@ -70,4 +70,4 @@ valued v b = record { rows = map (mapRow (under v)) (b .rows); candidate = map (
 -- logic .. says yes, and false exactly when it says no."
 pub record Shared (fs : List Fill) (b : Model) (q : Query) : Type 0 where
   pub kept : outcomeOf b q ⊑ₒ outcomeOf (run fs b) q
-  pub two-valued : plain (run fs b) ≡ true → outcomeOf (run fs b) q .truth ≡ ofBool (saysYes (run fs b) q)
+  pub two-valued : complete (run fs b) ≡ true → outcomeOf (run fs b) q .truth ≡ ofBool (saysYes (run fs b) q)

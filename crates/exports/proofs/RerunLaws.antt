@@ -2,32 +2,25 @@
 -- nothing.
 use Prim.Native.Nat.{ℕ}
 use mathlib.Core.Path.{_≡_, refl, sym, ap, _∙_}
-use mathlib.Core.Bool.{Bool, true, false}
 use mathlib.Core.List.{List, [], _∷_}
 use native.Mathlib.Omega.{arith}
 use lib.ListN.{length}
-use lib.Dec.{eqb}
-use borrow.Author.Tests.{eqb-true}
 use Rattle.calculus.specs.declared.truth.Truth.{Truth}
 use Rattle.calculus.specs.declared.truth.Truth.the-variants.{Unknown}
 use Rattle.calculus.specs.Kleene.{rank}
 use Rattle.calculus.specs.Order.{_⊑_, unknown, alike}
-use Rattle.calculus.specs.Refusal.{unsound}
 use Rattle.calculus.specs.Model.{Model, next, afterFills}
 use Rattle.instance.specs.Run.{fillAnswer, fillWords, filledWords}
 use Rattle.instance.proofs.Run.{Follows, follows-answer, follows-next}
 use Rattle.answer.specs.declared.asked.Asked.{Asked}
-use Rattle.answer.specs.declared.asked.Asked.the-variants as asked
-use Rattle.answer.specs.Ask.{Lent, ask}
-use Rattle.answer.specs.Numbers.{askedAs, askedNumber, verdictOf, costOf}
-use Rattle.answer.proofs.RerunLaws.{not-refused, verdict-asked, demand-three}
-use Rattle.calls.specs.Calls.{asks}
-use Rattle.calls.proofs.Numbers.{every-number}
+use Rattle.answer.specs.Numbers.{askedNumber, verdictOf, costOf}
+use Rattle.answer.proofs.RerunLaws.{verdict-asked, demand-three}
 use Rattle.exports.specs.Words.{headerLength, headerOf}
 use Rattle.exports.specs.Calls.{substituteAnswer, substituteWords, logAnswer, logWords, askAnswer}
 use Rattle.exports.specs.Steps.{Instance, answerOn, wordsLeft, Making, plainly, withLog, fillOf, fillJob, Step, fills, calls, instanceAfter, WriteNoWord, fillsAmong, fillsSeen, modelSeen}
 use Rattle.exports.specs.Rerun.{start, modelAfter, ExportedRerun, ExportedDemandThree}
 use Rattle.exports.proofs.Headed.{headed-yes, kept-yes}
+use Rattle.exports.proofs.Stored.{ask-is, Stored, stored}
 
 module _ (hs : List ℕ) (long : length hs ≡ headerLength) where
   -- a fill by the exported call is a fill by the library's call
@@ -40,10 +33,6 @@ module _ (hs : List ℕ) (long : length hs ≡ headerLength) where
   unfolding substituteAnswer logAnswer
   fill-answer plainly m c ws = headed-yes hs long (fillAnswer (headerOf hs) (fillOf plainly m c) ws)
   fill-answer (withLog log used) m c ws = headed-yes hs long (fillAnswer (headerOf hs) (fillOf (withLog log used) m c) ws)
-
-  ask-is : (ws qs candidate : List ℕ) (lent : Lent) (budget : ℕ) → askAnswer hs ws qs candidate lent budget ≡ ask (headerOf hs) ws qs candidate lent budget
-  unfolding askAnswer
-  ask-is ws qs candidate lent budget = kept-yes hs long (ask (headerOf hs) ws qs candidate lent budget) (asked.Refused unsound)
 
   abbrev of : List ℕ → Instance
   of ws = record { header = hs; words = ws }
@@ -68,66 +57,36 @@ module _ (hs : List ℕ) (long : length hs ≡ headerLength) where
       rw (fill-answer k m c ws, follows-answer (headerOf hs) first f ws b g, e, more) refl
   fills-seen (calls c ∷ ss) first ws b g q = ap (fillsSeen ss) (q .0) ∙ fills-seen ss first ws b g (rw (q .0) at (q .1))
 
--- a question that gets a verdict has a header slice of the right length
-has-length : (hs ws qs candidate : List ℕ) (lent : Lent) (budget : ℕ) (t : Truth) (n : ℕ) → askAnswer hs ws qs candidate lent budget ≡ asked.Verdict t n → length hs ≡ headerLength
-unfolding askAnswer
-has-length hs ws qs candidate lent budget t n e = go (eqb (length hs) headerLength) refl
-  where
-    go : (b : Bool) → eqb (length hs) headerLength ≡ b → length hs ≡ headerLength
-    go true is = eqb-true (length hs) headerLength is
-    go false is = absurd (not-refused (rw is at e))
-
--- a question is not refused with 0
-not-zero : (hs ws qs candidate : List ℕ) (lent : Lent) (budget : ℕ) → askAnswer hs ws qs candidate lent budget ≡ asked.Refused 0 → ⊥
-unfolding askAnswer
-not-zero hs ws qs candidate lent budget e = go (eqb (length hs) headerLength) refl
-  where
-    go : (b : Bool) → eqb (length hs) headerLength ≡ b → ⊥
-    go true is = every-number (asks (headerOf hs) qs candidate lent budget) ws 0 (ap askedAs (rw is at e)) .not-zero refl
-    go false is = let z : _≡_ {A = ℕ} 41 0 = cc (rw is at e) in omega arith
-
 -- a verdict that is kept, as its number
 rank-kept : {t u : Truth} → t ⊑ u → (rank t ≡ rank Unknown → ⊥) → rank u ≡ rank t
 rank-kept unknown some = absurd (some refl)
 rank-kept alike some = refl
 
 pub exported-demand-three : ExportedDemandThree
-exported-demand-three p qs candidate lent budget ss lent′ budget′ truth cost truth′ cost′ quiet longer larger zero = go (askAnswer (p .header) (p .words) qs candidate lent budget) refl
-  where
-    verdict :
-        (t : Truth) (n : ℕ) → askAnswer (p .header) (p .words) qs candidate lent budget ≡ asked.Verdict t n →
-        ExportedRerun p qs candidate ss (askAnswer (p .header) (p .words) qs candidate lent budget)
-        (askAnswer (instanceAfter ss p .header) (instanceAfter ss p .words) qs (modelAfter p candidate ss .candidate) lent′ budget′) truth cost truth′ cost′
-    verdict t n e =
-        let hs = p .header in
-        let ws = p .words in
-        let long = has-length hs ws qs candidate lent budget t n e in
-        let asks : ask (headerOf hs) ws qs candidate lent budget ≡ asked.Verdict t n = sym (ask-is hs long ws qs candidate lent budget) ∙ e in
-        let d = demand-three (headerOf hs) ws qs candidate lent budget (fillsAmong ss) lent′ budget′ longer larger t n asks in
-        let sound = verdict-asked (headerOf hs) ws qs candidate lent budget t n asks .0 .is-sound in
-        let left = instance-after hs long ss ws quiet in
-        let b =
-        ap (λ (x : Instance). askAnswer (x .header) (x .words) qs (modelAfter p candidate ss .candidate) lent′ budget′) left ∙
-        ask-is hs long (filledWords (headerOf hs) (fillsAmong ss) ws) qs (modelAfter p candidate ss .candidate) lent′ budget′ ∙ d .answers
-        in
-        record {
-          answered = fills-seen hs long ss ws ws (start p candidate) (record { is-sound = sound; holds = refl; long = refl; others = refl }) quiet;
-          header = ap (λ (x : Instance). x .header) left;
-          words = ap (λ (x : Instance). x .words) left ∙ d .ran .words;
-          number = ap askedNumber b;
-          kept =
-              λ some. ap (λ (x : Asked). verdictOf x truth′) b ∙
-              rank-kept (d .kept) (λ z. some (ap (λ (x : Asked). verdictOf x truth) e ∙ z)) ∙
-              sym (ap (λ (x : Asked). verdictOf x truth) e);
-          no-more = omega (arith, ap (λ (x : Asked). costOf x cost′) b, ap (λ (x : Asked). costOf x cost) e, d .no-more);
-          two-valued = λ q. ap (λ (x : Asked). verdictOf x truth′) b ∙ ap rank (d .two-valued q);
-        }
-
-    go :
-        (a : Asked) → askAnswer (p .header) (p .words) qs candidate lent budget ≡ a →
-        ExportedRerun p qs candidate ss (askAnswer (p .header) (p .words) qs candidate lent budget)
-        (askAnswer (instanceAfter ss p .header) (instanceAfter ss p .words) qs (modelAfter p candidate ss .candidate) lent′ budget′) truth cost truth′ cost′
-    go (asked.Verdict t n) e = verdict t n e
-    go (asked.Refused r) e =
-        let none : r ≡ 0 = sym (ap askedNumber e) ∙ zero in
-        absurd (not-zero (p .header) (p .words) qs candidate lent budget (e ∙ ap asked.Refused none))
+exported-demand-three p qs candidate lent budget ss lent′ budget′ truth cost truth′ cost′ quiet longer larger zero =
+    let hs = p .header in
+    let ws = p .words in
+    let s = stored hs ws qs candidate lent budget zero in
+    let e = s .answers in
+    let d =
+    demand-three (headerOf hs) ws qs candidate lent budget (fillsAmong ss) lent′ budget′ longer larger (s .verdict) (s .cost)
+    (s .asks)
+    in
+    let sound = verdict-asked (headerOf hs) ws qs candidate lent budget (s .verdict) (s .cost) (s .asks) .0 .is-sound in
+    let left = instance-after hs (s .long) ss ws quiet in
+    let b =
+    ap (λ (x : Instance). askAnswer (x .header) (x .words) qs (modelAfter p candidate ss .candidate) lent′ budget′) left ∙
+    ask-is hs (filledWords (headerOf hs) (fillsAmong ss) ws) qs (modelAfter p candidate ss .candidate) lent′ budget′ (s .long) ∙ d .answers
+    in
+    record {
+      answered = fills-seen hs (s .long) ss ws ws (start p candidate) (record { is-sound = sound; holds = refl; long = refl; others = refl }) quiet;
+      header = ap (λ (x : Instance). x .header) left;
+      words = ap (λ (x : Instance). x .words) left ∙ d .ran .words;
+      number = ap askedNumber b;
+      kept =
+          λ some. ap (λ (x : Asked). verdictOf x truth′) b ∙
+          rank-kept (d .kept) (λ z. some (ap (λ (x : Asked). verdictOf x truth) e ∙ z)) ∙
+          sym (ap (λ (x : Asked). verdictOf x truth) e);
+      no-more = omega (arith, ap (λ (x : Asked). costOf x cost′) b, ap (λ (x : Asked). costOf x cost) e, d .no-more);
+      two-valued = λ q. ap (λ (x : Asked). verdictOf x truth′) b ∙ ap rank (d .two-valued q);
+    }

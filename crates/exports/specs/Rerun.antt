@@ -8,7 +8,7 @@ use lib.ListN.{drop}
 use Rattle.calculus.specs.declared.truth.Truth.the-variants.{Unknown}
 use Rattle.calculus.specs.Kleene.{rank}
 use Rattle.calculus.specs.Order.{ofBool}
-use Rattle.calculus.specs.Model.{Model, run, plain, saysYes}
+use Rattle.calculus.specs.Model.{Model, run, complete, saysYes}
 use Rattle.instance.specs.Rows.{wordsOf}
 use Rattle.instance.specs.Run.{modelOf}
 use Rattle.query.specs.Named.{queryOf}
@@ -42,7 +42,7 @@ pub record ExportedRerun (p : Instance) (qs candidate : List ℕ) (ss : List Ste
   pub no-more : costOf b cost′ ≤ costOf a cost
   -- "If B's plot and candidate hold no mark, B's verdict is true exactly when ordinary two-valued logic .. says yes, and false exactly when it says no."
   pub two-valued :
-      plain (modelAfter p candidate ss) ≡ true → verdictOf b truth′
+      complete (modelAfter p candidate ss) ≡ true → verdictOf b truth′
       ≡ rank (ofBool (saysYes (modelAfter p candidate ss) (queryOf (headerOf (p .header) .arities) qs)))
 
 -- Every header, plot, question, candidate, allowance, working list or none, and list of steps; B's allowance and list may be larger. Run A got a verdict if it

@@ -1,0 +1,7 @@
+pub mod Positive
+pub mod Naive
+pub mod Homomorphism
+pub mod Fresh
+pub mod Complete
+pub mod PlainWords
+pub mod Missed
