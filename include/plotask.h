@@ -424,12 +424,13 @@ uint32_t plotask_encode(const uint32_t *header, size_t header_words, const uint3
  * true. "Some" is the highest and "every" the lowest over the range in its order; over no value, "some" is false and
  * "every" true.
  *
- * What a verdict says. To ink the marks is to give each mark of plot and candidate an inked value, the same one wherever
- * it stands. A true question holds in every way to ink them, a false one in none. A question is plain if its nodes are
- * "row stands", "equal", "and", "or" and "some" alone. A plain question that holds in every way is true, so if it is
- * unknown, some way to ink the marks makes it false. That some way makes it true does not follow: "variable 0 is 1 and
- * variable 0 is 2" of the candidate (mark 1) is unknown, and holds in no way. A question that is not plain may be
- * unknown although it holds in every way, as "some x is in the sheet, and is 0 or not 0" of the one row (mark 1).
+ * What a verdict says. To ink the marks is to give each mark of plot and candidate an inked value, the same one
+ * wherever it stands. A question whose verdict is true holds in every way to ink them, one whose verdict is false in
+ * none. A question is plain if its nodes are "row stands", "equal", "and", "or" and "some" alone. If a plain question
+ * that holds in every way gets a verdict, that is true; so if it is unknown, some way to ink the marks makes it false.
+ * That some way makes it true does not follow: "variable 0 is 1 and variable 0 is 2" of the candidate (mark 1) is
+ * unknown, and holds in no way. A question that is not plain may be unknown although it holds in every way, as "some x
+ * is in the sheet, and is 0 or not 0" of the one row (mark 1).
  *
  * Looks. "Equal" costs 1. "Row stands" costs 1 plus the rows of that sheet, in the plot's order, up to and including
  * the first that is the very row, or all of them if none is. A row that is not the very row, but can be made equal to

@@ -264,7 +264,7 @@ static const char *remark_on(const struct asked *asked)
         return "it stays so however the marks are filled in";
     return is_plain(asked->words, asked->word_count)
                ? "some way to ink the marks makes it false"
-               : "the rules could not tell; it is not plain, so it may hold for every way to ink the marks";
+               : "the rules could not tell; as far as they go, it may hold for every way to ink the marks";
 }
 
 static void say_answer(FILE *out, const struct asked *asked)

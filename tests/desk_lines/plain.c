@@ -6,7 +6,7 @@
 #include <string.h>
 
 #define SOME_WAY  ": some way to ink the marks makes it false"
-#define NOT_TOLD  ": the rules could not tell; it is not plain, so it may hold for every way to ink the marks"
+#define NOT_TOLD  ": the rules could not tell; as far as they go, it may hold for every way to ink the marks"
 #define HOWEVER   ": it stays so however the marks are filled in"
 #define UNKNOWN_2 "unknown, 2 looks"
 

@@ -388,7 +388,7 @@ static const char *remark_on(const struct kept *kept)
         return "it stays so however the marks are filled in";
     return is_plain_query(&kept->query)
                ? "some way to ink the marks makes it false"
-               : "the rules could not tell; it is not plain, so it may hold for every way to ink the marks";
+               : "the rules could not tell; as far as they go, it may hold for every way to ink the marks";
 }
 
 /* A question is kept once, as the latest; of more than there is room for, the oldest goes. */

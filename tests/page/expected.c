@@ -28,7 +28,7 @@ static const char *ways_to_ink(const struct answer *answer, bool is_plain)
         return "it stays so however the marks are filled in";
     if (is_plain)
         return "some way to ink the marks makes it false";
-    return "the rules could not tell; it is not plain, so it may hold for every way to ink the marks";
+    return "the rules could not tell; as far as they go, it may hold for every way to ink the marks";
 }
 
 void expect_answer(struct expected *expected, const struct answer *answer, bool is_plain)

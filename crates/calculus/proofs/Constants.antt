@@ -30,7 +30,7 @@ constant-distinct (c ∷ cs) h =
     let b = and-parts (isConstant c) (allConstant cs) h in
     and-intro (b .0) (constant-without c (distinct cs) (constant-distinct cs (b .1)))
 
--- a map that leaves what passes a test as it is leaves a list of it as it is
+-- a map that changes no number that passes a test changes no list of such numbers
 pub fixes-all : (test : ℕ → Bool) (h : ℕ → ℕ) → Fixes test h → (cs : List ℕ) → all test cs ≡ true → map h cs ≡ cs
 unfolding all
 fixes-all test h fixes [] k = refl

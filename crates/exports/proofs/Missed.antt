@@ -22,7 +22,7 @@ module _ (hs ws qs candidate : List ℕ) (lent : Lent) (budget truth : ℕ)
   stores : verdictOf (askAnswer hs ws qs candidate lent budget) truth ≡ rank (s .verdict)
   stores = ap (λ (a : Asked). verdictOf a truth) (s .answers)
 
-  -- the number of a verdict is stored if it is the verdict
+  -- if the stored number is a verdict's, that is the verdict
   stored-is : (t : Truth) → verdictOf (askAnswer hs ws qs candidate lent budget) truth ≡ rank t → s .verdict ≡ t
   stored-is t e = rank-is (s .verdict) t (sym stores ∙ e)
 

@@ -18,9 +18,9 @@ use Rattle.answer.proofs.RerunLaws.{verdict-asked, demand-three}
 use Rattle.exports.specs.Words.{headerLength, headerOf}
 use Rattle.exports.specs.Calls.{substituteAnswer, substituteWords, logAnswer, logWords, askAnswer}
 use Rattle.exports.specs.Steps.{Instance, answerOn, wordsLeft, Making, plainly, withLog, fillOf, fillJob, Step, fills, calls, instanceAfter, WriteNoWord, fillsAmong, fillsSeen, modelSeen}
-use Rattle.exports.specs.Rerun.{start, modelAfter, ExportedRerun, ExportedDemandThree}
+use Rattle.exports.specs.Rerun.{start, modelAfter, ExportedDemandThree}
 use Rattle.exports.proofs.Headed.{headed-yes, kept-yes}
-use Rattle.exports.proofs.Stored.{ask-is, Stored, stored}
+use Rattle.exports.proofs.Stored.{ask-is, stored}
 
 module _ (hs : List ℕ) (long : length hs ≡ headerLength) where
   -- a fill by the exported call is a fill by the library's call

@@ -1,6 +1,6 @@
 -- If every completion satisfies a positive formula, the verdict is true. Each null is given a constant that is nowhere
 -- else; then the way back is a homomorphism from the completed plot into the plot. Assumes nothing.
-use Prim.Native.Nat.{ℕ, _+_, _<_}
+use Prim.Native.Nat.{ℕ, _<_}
 use mathlib.Core.Path.{_≡_, refl, sym, ap, _∙_, subst}
 use mathlib.Core.Bool.{Bool, true, false, _&&_}
 use mathlib.Core.Logic.{_↔_, ⊎-elim}

@@ -7,12 +7,12 @@ use mathlib.Core.List.{List, [], _∷_, map}
 use native.Mathlib.Omega.{arith}
 use lib.ListN.{length, length-map}
 use lib.Dec.{eqb, ltb, leb}
-use borrow.Author.Tests.{eqb-true, eqb-false, eq-eqb, ne-eqb, lt-ltb, ltb-true, leb-true, not-true}
+use borrow.Author.Tests.{eqb-true, eq-eqb, ne-eqb, lt-ltb, ltb-true, leb-true, not-true}
 use Rattle.calculus.specs.All.{all}
 use Rattle.calculus.specs.Cell.{constants, nulls, null, isConstant, isNull, isCell}
 use Rattle.calculus.specs.Domain.{without}
 use Rattle.calculus.specs.Unify.{Valuation, under}
-use Rattle.calculus.proofs.All.{all-parts, all-unmap}
+use Rattle.calculus.proofs.All.{all-unmap}
 use Rattle.calculus.proofs.Bools.{false-not-true, and-parts, and-intro}
 use Rattle.calculus.proofs.Distinct.{without-le}
 
@@ -33,7 +33,7 @@ without-less n (c ∷ cs) e = go (eqb c n) e (without-less n cs)
     go true e later = omega (arith, without-le n cs)
     go false e later = omega (arith, later e)
 
--- what a list lacks without n, it lacks, if it is not n
+-- if the list without n lacks m, and m is not n, the list lacks m
 without-lacks : (m n : ℕ) (cs : List ℕ) → (n ≡ m → ⊥) → lacks m (without n cs) ≡ true → lacks m cs ≡ true
 unfolding all without
 without-lacks m n [] ne e = refl
@@ -75,7 +75,7 @@ blocks = constants / nulls
 abbrev pub outside : ℕ → ℕ → Bool
 outside k c = not (eqb (blockOf c) k)
 
--- some block has none of fewer values than there are blocks
+-- if there are fewer values than blocks, some block has none of them
 pub free-block : (cs : List ℕ) → length cs < blocks → (k : ℕ) × (k < blocks) × (all (outside k) cs ≡ true)
 free-block cs few =
     let r = lacking blocks (map blockOf cs) (omega (arith, length-map cs blockOf)) in

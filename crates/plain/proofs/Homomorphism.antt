@@ -44,7 +44,7 @@ module _ (f : ℕ → Bool) where
   value-some (x ∷ cs) (List·Memᴰ·head same) e = let here : f x ≡ true = ap f (sym same) ∙ e in rw here
   value-some (x ∷ cs) (List·Memᴰ·tail m) e = rw (value-some cs m e) (or-true (f x))
 
--- of the rows rs with a range, into the rows ss with another
+-- a homomorphism from the rows rs with their range to the rows ss with theirs
 pub record Homomorphism (h : ℕ → ℕ) (range : List ℕ) (rs : List Row) (range′ : List ℕ) (ss : List Row) : Type 0 where
   pub zero : h 0 ≡ 0
   pub rows : (r : ℕ) (row : List ℕ) → List·Memᴰ row (tuples r rs) → List·Memᴰ (map h row) (tuples r ss)

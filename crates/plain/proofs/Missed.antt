@@ -1,28 +1,24 @@
 -- Nothing is missed of plain questions, and every true or false verdict is right. Assumes nothing.
-use Prim.Native.Nat.{ℕ, _+_, _<_}
-use mathlib.Core.Path.{_≡_, refl, sym, ap, _∙_}
-use mathlib.Core.Bool.{Bool, true, false}
-use mathlib.Core.List.{List, [], _∷_, _++_}
+use Prim.Native.Nat.{ℕ}
+use mathlib.Core.Path.{_≡_, refl, sym, _∙_}
+use mathlib.Core.Bool.{true}
+use mathlib.Core.List.{List, _++_}
 use native.Mathlib.Omega.{arith}
 use lib.ListN.{length, length-append}
-use Rattle.calculus.specs.declared.truth.Truth.{Truth}
-use Rattle.calculus.specs.All.{all}
-use Rattle.calculus.specs.Cell.{isCell}
-use Rattle.calculus.specs.Row.{Row, cellsOf}
+use Rattle.calculus.specs.Row.{cellsOf}
 use Rattle.calculus.specs.Order.{ofBool}
 use Rattle.calculus.specs.Model.{outcomeOf}
-use Rattle.calculus.proofs.All.{all-append}
 use Rattle.calculus.proofs.Certain.{certain}
 use Rattle.instance.specs.declared.header.Header.{Header}
-use Rattle.instance.specs.Rows.{rowsWellFormed}
 use Rattle.instance.specs.Sound.{rows}
 use Rattle.instance.specs.Run.{modelOf}
-use Rattle.instance.proofs.Rows.{row-parts}
+use Rattle.instance.proofs.Rows.{cells-well-formed}
 use Rattle.instance.proofs.Sound.{sound-gives}
 use Rattle.query.specs.Named.{namedIn, queryOf}
 use Rattle.query.proofs.Passed.{count-within, node-well-formed, are-cells, few-cells, passed-constants}
 use Rattle.evaluate.proofs.Budget.{was-verdict}
 use Rattle.answer.specs.Ask.{Lent}
+use Rattle.answer.specs.Admitted.{Admitted}
 use Rattle.answer.proofs.RerunLaws.{Asks, verdict-asked, asks-inked}
 use Rattle.answer.proofs.Need.{need-few}
 use Rattle.plain.specs.Plain.{plainWords}
@@ -30,16 +26,12 @@ use Rattle.plain.specs.Missed.{NothingMissed, FalseSomehow, VerdictsRigh
 use Rattle.plain.proofs.Complete.{Plain, exact, freshly, otherwise}
 use Rattle.plain.proofs.PlainWords.{plain-positive}
 
--- the cells of well-formed rows are cells
-rows-cells : (n : ℕ) (ars : List ℕ) (rs : List Row) → rowsWellFormed n ars rs ≡ true → all isCell (cellsOf rs) ≡ true
-unfolding all cellsOf
-rows-cells n ars [] e = refl
-rows-cells n ars (r ∷ rs) e =
-    let p = row-parts n ars r rs e in
-    all-append isCell (r .cells) (cellsOf rs) (p .2) (rows-cells n ars rs (p .3))
-
 module _ (h : Header) (ws qs candidate : List ℕ) (lent : Lent) (a : Asks h ws qs candidate lent)
     (plain : plainWords qs ≡ true) where
+  admitted : Admitted h ws qs candidate (length (rows h ws))
+  admitted =
+      record { is-sound = a .is-sound; right = a .right; scopes = a .scopes; passes = a .passes; counted = refl }
+
   -- 3,810 cells and inked terms, 6 cells of the candidate and the 0 are fewer than 5,000
   plainly : Plain (modelOf h ws candidate) (queryOf (h .arities) qs)
   plainly = record {
@@ -49,13 +41,13 @@ module _ (h : Header) (ws qs candidate : List ℕ) (lent : Lent) (a : Asks h ws 
         (node-well-formed (h .relations) (h .arities) qs candidate (a .right) (a .scopes) (a .passes)) plain
         (count-within qs (a .right) .0);
     names = passed-constants (h .relations) (h .arities) qs candidate (a .right) (a .scopes) (a .passes);
-    row-cells = rows-cells (h .relations) (h .arities) (rows h ws) (sound-gives h ws (a .is-sound) .rows-well-formed);
+    row-cells =
+        cells-well-formed (h .relations) (h .arities) (rows h ws) (sound-gives h ws (a .is-sound) .rows-well-formed);
     candidate-cells = are-cells (h .relations) (h .arities) qs candidate (a .right) (a .scopes) (a .passes);
     few =
         omega (
           arith,
-          need-few h ws qs candidate (length (rows h ws))
-              (record { is-sound = a .is-sound; right = a .right; scopes = a .scopes; passes = a .passes; counted = refl }),
+          need-few h ws qs candidate (length (rows h ws)) admitted,
           few-cells (h .relations) (h .arities) qs candidate (a .right) (a .scopes) (a .passes),
           length-append (cellsOf (rows h ws)) (namedIn (h .arities) qs),
           length-append (cellsOf (rows h ws)) (candidate ++ namedIn (h .arities) qs),

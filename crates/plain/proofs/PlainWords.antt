@@ -1,7 +1,7 @@
 -- A plain question stands for a positive formula. Assumes nothing.
-use Prim.Native.Nat.{ℕ, zero, suc, _<_}
+use Prim.Native.Nat.{ℕ, suc, _<_}
 use mathlib.Core.Path.{_≡_, refl}
-use mathlib.Core.Bool.{Bool, true, false, _&&_}
+use mathlib.Core.Bool.{Bool, true, false}
 use mathlib.Core.List.{List}
 use native.Mathlib.Omega.{arith}
 use Rattle.calculus.specs.All.{all}
@@ -13,8 +13,9 @@ use Rattle.calculus.proofs.Bools.{false-not-true, and-parts, and-intro}
 use Rattle.calculus.proofs.Listed.{listed-member}
 use Rattle.calculus.proofs.From.{each-from}
 use Rattle.query.specs.Words.{Kind, rowStands, equals, negates, noKind, joins, ranges, kindOf, wordAt, nodeCount}
-use Rattle.query.specs.Tree.{formulaBy, formulaAt, formulaOf}
+use Rattle.query.specs.Tree.{formulaBy, formulaOf}
 use Rattle.query.specs.Passed.{NodeBy, NodeWellFormed}
+use Rattle.query.proofs.Trees.{at-top}
 use Rattle.plain.specs.Plain.{plainKinds, plainFrom, plainWords}
 use Rattle.plain.proofs.Positive.{positive}
 
@@ -43,23 +44,18 @@ module _ (n : ℕ) (ars qs : List ℕ) (well-formed : (i : ℕ) → i < nodeCoun
       0 (nodeCount qs) i plain (omega arith) (omega arith))
 
   positive-by :
-      (f : ℕ → Formula) (i : ℕ) → ((d : ℕ) → d < nodeCount qs → positive (f d) ≡ true) → (k : Kind) →
+      (f : ℕ → Formula) (i : ℕ) → ((c : ℕ) → i < c → c < nodeCount qs → positive (f c) ≡ true) → (k : Kind) →
       positiveKind k ≡ true → NodeBy n ars qs i k → positive (formulaBy ars qs f i k) ≡ true
   unfolding positive
   positive-by f i h rowStands e p = refl
   positive-by f i h equals e p = refl
   positive-by f i h negates e p = false-not-true e
-  positive-by f i h (joins j) e p = and-intro (h _ (p .0 .1)) (h _ (p .1 .1))
+  positive-by f i h (joins j) e p = and-intro (h _ (p .0 .0) (p .0 .1)) (h _ (p .1 .0) (p .1 .1))
   positive-by f i h (ranges conj) e p = false-not-true e
-  positive-by f i h (ranges disj) e p = h _ (p .1 .1)
+  positive-by f i h (ranges disj) e p = h _ (p .1 .0) (p .1 .1)
   positive-by f i h noKind e p = absurd p
 
-  positive-at : (k i : ℕ) → i < nodeCount qs → positive (formulaAt ars qs k i) ≡ true
-  unfolding formulaAt positive
-  positive-at zero i l = refl
-  positive-at (suc k) i l =
-      positive-by (formulaAt ars qs k) i (λ d m. positive-at k d m) (kindOf (wordAt qs i 0)) (node-plain i l)
-      (well-formed i l)
-
   pub plain-positive : 0 < nodeCount qs → positive (formulaOf ars qs) ≡ true
-  plain-positive some = positive-at (nodeCount qs) 0 some
+  plain-positive some =
+      at-top ars qs (λ i f. positive f ≡ true)
+      (λ f i l h. positive-by f i h (kindOf (wordAt qs i 0)) (node-plain i l) (well-formed i l)) some

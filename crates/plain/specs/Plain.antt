@@ -9,7 +9,7 @@ use Rattle.query.specs.Words.{wordAt, nodeCount}
 abbrev pub plainKinds : List ℕ
 plainKinds = 1 ∷ 2 ∷ 4 ∷ 5 ∷ 6 ∷ []
 
--- k nodes from node i
+-- whether the k nodes from node i on have plain kinds
 unfoldable pub plainFrom : List ℕ → ℕ → ℕ → Bool
 plainFrom qs i zero = true
 plainFrom qs i (suc k) = listed (wordAt qs i 0) plainKinds && plainFrom qs (suc i) k

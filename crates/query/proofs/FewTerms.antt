@@ -1,14 +1,15 @@
 -- A question that passed has at most 300 inked terms: only a node without a child has terms, at most six, and of 100 nodes at most 50 have no child, since
 -- every node but the top is the child of one other. Assumes nothing.
-use Prim.Native.Nat.{ℕ, zero, suc, _+_, _-_, _*_, _≤_, _<_}
+use Prim.Native.Nat.{ℕ, zero, suc, _+_, _*_, _≤_, _<_}
 use mathlib.Core.Path.{_≡_, refl}
-use mathlib.Core.Bool.{Bool, true, false, _&&_}
+use mathlib.Core.Bool.{true, _&&_}
 use mathlib.Core.List.{List, [], _∷_}
 use native.Mathlib.Nat.{le-of-suc-le-suc}
 use native.Mathlib.Omega.{arith}
-use borrow.Author.Tests.{ltb-true, eqb-true, eqb-false}
+use borrow.Author.Tests.{ltb-true, eqb-true}
 use lib.ListN.{length, getD, set}
 use lib.Dec.{ltb, eqb}
+use Rattle.calculus.proofs.From.{first-or-later}
 use Rattle.calculus.proofs.Bools.{and-parts}
 use Rattle.calculus.specs.Formula.{variables}
 use Rattle.instance.specs.Header.{arityOf, maxColumns}
@@ -119,11 +120,8 @@ module _ (n : ℕ) (ars qs : List ℕ) (few : nodeCount qs ≤ maxNodes) where
       let p = node-passed n ars qs few s l i (b .first) in
       let r = nodes-passed n ars qs few (suc i) k (b .state) (p .1 .long) (b .second) in
       let here : getD (t .named) i 0 ≡ 1 = r .0 i (getD (s .masks) i 0) (p .1 .kept i (getD (s .masks) i 0) (record { named = p .0; scope = refl })) .named in
-      go (eqb j i) refl here (λ q o. all-named (suc i) k (b .state) t (p .1 .long) (b .second) j q o)
-    where
-      go : (x : Bool) → eqb j i ≡ x → getD (t .named) i 0 ≡ 1 → (suc i ≤ j → j < suc i + k → getD (t .named) j 0 ≡ 1) → getD (t .named) j 0 ≡ 1
-      go true q here ih = rw (eqb-true j i q) here
-      go false q here ih = let ne = eqb-false j i q in ih (omega arith) (omega arith)
+      first-or-later (λ j. getD (t .named) j 0 ≡ 1) i k j here
+      (λ q o. all-named (suc i) k (b .state) t (p .1 .long) (b .second) j q o) a m
 
 top-long : (k : ℕ) → Long (atTheTop k)
 top-long k = record { named = refl; masks = refl }

@@ -4,7 +4,7 @@ use Prim.Native.Nat.{ℕ}
 use mathlib.Core.Bool.{true, false}
 use mathlib.Core.List.{List, [], _∷_}
 use Rattle.calculus.specs.declared.truth.Truth.the-variants.{Unknown, True}
-use Rattle.readings.specs.Table.{Case, Reading, everyGiving, m1, x, case, case8}
+use Rattle.readings.specs.Table.{Case, Reading, everyGiving, decides, m1, x, case, case8}
 
 -- a question about the row (m1) and a candidate
 abbrev of-m1 : List (List ℕ) → List ℕ → Case
@@ -30,6 +30,14 @@ named7 = of-m1 ((6 ∷ 0 ∷ 1 ∷ []) ∷ (2 ∷ x ∷ 7 ∷ []) ∷ []) []
 abbrev pub everyValue : Case
 everyValue = of-m1 ((7 ∷ 0 ∷ 1 ∷ []) ∷ (1 ∷ 0 ∷ x ∷ []) ∷ []) []
 
+-- 5 is in the sheet
+abbrev pub stands5 : Case
+stands5 = of-m1 ((1 ∷ 0 ∷ x ∷ []) ∷ []) (5 ∷ [])
+
+-- the candidate (m1) is 1
+abbrev pub isOne : Case
+isOne = of-m1 ((2 ∷ x ∷ 1 ∷ []) ∷ []) (m1 ∷ [])
+
 abbrev pub missed : List Reading
 missed =
     -- a true is missed of case 8, and none of the plain question beside it
@@ -42,4 +50,7 @@ missed =
     ∷ everyGiving named7 true True 2 true
     -- every is not plain; a true verdict is right all the same
     ∷ everyGiving everyValue false True 2 true
+    -- what mark 1 is given decides, in the plot and in the candidate
+    ∷ decides stands5 Unknown 2 5 6
+    ∷ decides isOne Unknown 1 1 2
     ∷ []
