@@ -12,7 +12,7 @@
  */
 enum { MOST_LEAVES = 20000, BUDGET = 1000000 };
 
-static void print_words(const char *name, const uint32_t *words, size_t count)
+void print_words(const char *name, const uint32_t *words, size_t count)
 {
     printf("%s:", name);
     for (size_t i = 0; i < count; i++)
@@ -33,12 +33,17 @@ static void print_completions(const struct judged *judged, bool yes)
         }
 }
 
-void fail_judged(const char *what, const struct asked *asked, const struct judged *judged)
+void print_asked(const struct asked *asked)
 {
     print_words("header", asked->plot.header, HEADER_WORDS);
     print_words("plot", asked->plot.words, asked->plot.length);
     print_words("candidate", asked->candidate.cells, asked->candidate.length);
     print_words("query", asked->query.words, asked->query.length);
+}
+
+void fail_judged(const char *what, const struct asked *asked, const struct judged *judged)
+{
+    print_asked(asked);
     printf("truth %" PRIu32 ", cost %" PRIu32 "; %zu of %zu completions say yes\n", judged->truth, judged->cost,
            judged->yeses, judged->count);
     print_completions(judged, judged->truth != TRUTH_TRUE);
@@ -53,6 +58,13 @@ const char *broken_claim(const struct judged *judged)
         return "false, but a completion says yes";
     if (judged->plain && judged->truth != TRUTH_TRUE && judged->yeses == judged->count)
         return "plain and not true, but every completion says yes";
+    /*
+     * Asked for of plain queries alone, but it holds with "every" too: the completion that gives each null a constant
+     * of its own, out of sight, maps back onto all of the plot's values. So where "every" is not true for one of them,
+     * that completion says no for the value that maps back to it.
+     */
+    if (judged->without_not && judged->truth != TRUTH_TRUE && judged->yeses == judged->count)
+        return "without a not and not true, but every completion says yes";
     return NULL;
 }
 
@@ -67,6 +79,7 @@ bool judge(struct asked *asked, struct judged *judged)
     if (both_ask(&asked->plot, &asked->query, &asked->candidate, need, BUDGET, &judged->truth, &judged->cost) != 0)
         fail("a query is refused that keeps every rule");
     judged->plain = is_plain(&asked->query);
+    judged->without_not = !has_kind(&asked->query, NOT);
     ask_completions(asked, completions, COMPLETED, &judged->answers);
     judged->count = count_completions(completions, completions->given_count);
     judged->yeses = count_yeses(completions, &judged->answers, completions->given_count);

@@ -61,7 +61,10 @@ bool is_plain(const struct any_query *query)
     return !has_kind(query, NOT) && !has_kind(query, EVERY);
 }
 
-/* A variable that no quantifier binds and that is no cell of the candidate, so that no term is one. */
+/*
+ * A variable that no quantifier binds and that is no cell of the candidate, so that no term is one. A query of many
+ * nodes may leave none of these; then the variable returned hides another of its number.
+ */
 static uint32_t unused_variable(const struct any_query *query)
 {
     bool bound[VARIABLES] = {false};
@@ -69,13 +72,13 @@ static uint32_t unused_variable(const struct any_query *query)
     for (size_t at = 0; at < query->length; at += NODE_WORDS)
         if (query->words[at] == SOME || query->words[at] == EVERY)
             bound[query->words[at + 1]] = true;
-    while (bound[variable])
+    while (variable > 0 && bound[variable])
         variable--;
     return variable;
 }
 
-/* Puts "some" for "every", and for "not" a "some" that binds a variable in vain: the tree keeps its shape. */
-static void make_plain(struct any_query *query)
+/* For a "not" it puts a "some" that binds a variable in vain: the tree keeps its shape. */
+void make_plain(struct any_query *query)
 {
     uint32_t variable = unused_variable(query);
     for (size_t at = 0; at < query->length; at += NODE_WORDS) {
