@@ -176,7 +176,7 @@ static void check_certain(void)
     says("ask some(x, and(in(cues, x), equal(x, x)))", "true, 3 looks" HOWEVER);
 }
 
-/* A question that becomes unknown is told without what follows from it, and listed as plain or not as before. */
+/* If a verdict changes to unknown, only the new answer is said. The list says as before whether the question is plain. */
 static void check_changed(void)
 {
     START("sheet hangs lamp", "hangs m1", "question q: in(hangs, v0)", "ask q 5", "ask not(in(hangs, v0)) 5");

@@ -381,7 +381,7 @@ void account_forgotten(struct account *account)
     add(account, "%zu question%s not asked again\n", dropped, plural(dropped));
 }
 
-/* What is said after a verdict. An unknown is told apart by whether its question is plain. */
+/* What is said after a verdict. After unknown, that depends on whether the question is plain. */
 static const char *remark_on(const struct kept *kept)
 {
     if (kept->verdict.truth != TRUTH_UNKNOWN)
