@@ -4,7 +4,7 @@
 usage: respell_names.py [FOLDER]      the folder that holds crates/; the current one if it is left out
 
 respelled_names.txt, beside this file, has a line for each name: as it was, as it is. In .antt files every word that is such a name is
-respelled, but not one that the file takes from a library of the kit; in .rt files the same outside strings. A second run changes nothing.
+respelled, but not one that the file takes from a library of the kit; in .rt files the same outside strings. Run it once.
 """
 import os
 import re

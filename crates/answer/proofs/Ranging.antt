@@ -7,16 +7,16 @@ use native.Mathlib.Omega.{arith}
 use borrow.Author.Tests.{eqb-true, eqb-false}
 use lib.Dec.{eqb}
 use Rattle.calculus.specs.Kleene.{Junction}
-use Rattle.calculus.proofs.Bools.{false-not-true}
+use Rattle.calculus.proofs.Bools.{false_not_true}
 use Rattle.query.specs.Words.{ranges, kind_of, word_at}
-use Rattle.evaluate.proofs.Children.{ranges-by, none_above}
-use Rattle.answer.specs.Ranging.{isRange, rangesAmong}
+use Rattle.evaluate.proofs.Children.{ranges_by, none_above}
+use Rattle.answer.specs.Ranging.{is_range, ranges_among}
 
 -- the kinds 6 and 7 range over values, and no other
-pub range-kind : (w : ℕ) → 6 ≤ w → w ≤ 7 → isRange (kind_of w) ≡ true
-range-kind w low high = ap isRange (ranges-by w low (omega arith))
+pub range-kind : (w : ℕ) → 6 ≤ w → w ≤ 7 → is_range (kind_of w) ≡ true
+range-kind w low high = ap is_range (ranges_by w low (omega arith))
 
-pub low-kind : (w : ℕ) → w < 6 → isRange (kind_of w) ≡ false
+pub low-kind : (w : ℕ) → w < 6 → is_range (kind_of w) ≡ false
 unfolding kind_of
 low-kind zero l = refl
 low-kind (suc zero) l = refl
@@ -26,28 +26,28 @@ low-kind (suc (suc (suc (suc zero)))) l = refl
 low-kind (suc (suc (suc (suc (suc zero))))) l = refl
 low-kind (suc (suc (suc (suc (suc (suc w)))))) l = absurd (omega arith)
 
-pub high-kind : (w : ℕ) → 7 < w → isRange (kind_of w) ≡ false
-high-kind w l = ap isRange (none_above w (omega arith))
+pub high-kind : (w : ℕ) → 7 < w → is_range (kind_of w) ≡ false
+high-kind w l = ap is_range (none_above w (omega arith))
 
 module _ (qs : List ℕ) where
-  pub ranges_more : (k : ℕ) → isRange (kind_of (word_at qs k 0)) ≡ false → rangesAmong qs k ≡ false → rangesAmong qs (suc k) ≡ false
-  unfolding rangesAmong
+  pub ranges_more : (k : ℕ) → is_range (kind_of (word_at qs k 0)) ≡ false → ranges_among qs k ≡ false → ranges_among qs (suc k) ≡ false
+  unfolding ranges_among
   ranges_more k e rest = rw (e, rest) refl
 
   -- a node that does is among them
-  pub ranges-here : (i k : ℕ) → i < k → isRange (kind_of (word_at qs i 0)) ≡ true → rangesAmong qs k ≡ true
-  unfolding rangesAmong
+  pub ranges-here : (i k : ℕ) → i < k → is_range (kind_of (word_at qs i 0)) ≡ true → ranges_among qs k ≡ true
+  unfolding ranges_among
   ranges-here i zero l e = absurd (omega arith)
   ranges-here i (suc k) l e = go (eqb i k) refl (λ m. ranges-here i k m e)
     where
-      go : (b : Bool) → eqb i k ≡ b → (i < k → rangesAmong qs k ≡ true) → (isRange (kind_of (word_at qs k 0)) || rangesAmong qs k) ≡ true
-      go true is ih = rw (ap (λ (x : ℕ). isRange (kind_of (word_at qs x 0))) (sym (eqb-true i k is)) ∙ e) refl
-      go false is ih = let ne = eqb-false i k is in or-true (isRange (kind_of (word_at qs k 0))) (ih (omega (arith, l, ne)))
+      go : (b : Bool) → eqb i k ≡ b → (i < k → ranges_among qs k ≡ true) → (is_range (kind_of (word_at qs k 0)) || ranges_among qs k) ≡ true
+      go true is ih = rw (ap (λ (x : ℕ). is_range (kind_of (word_at qs x 0))) (sym (eqb-true i k is)) ∙ e) refl
+      go false is ih = let ne = eqb-false i k is in or_true (is_range (kind_of (word_at qs k 0))) (ih (omega (arith, l, ne)))
         where
-          or-true : (a : Bool) {b : Bool} → b ≡ true → (a || b) ≡ true
-          or-true true p = refl
-          or-true false p = p
+          or_true : (a : Bool) {b : Bool} → b ≡ true → (a || b) ≡ true
+          or_true true p = refl
+          or_true false p = p
 
   -- if none does, no node's kind ranges over values
-  pub none-ranges : (k : ℕ) → rangesAmong qs k ≡ false → (i : ℕ) (j : Junction) → i < k → kind_of (word_at qs i 0) ≡ ranges j → ⊥
-  none-ranges k none i j l e = false-not-true (sym none ∙ ranges-here i k l (ap isRange e))
+  pub none-ranges : (k : ℕ) → ranges_among qs k ≡ false → (i : ℕ) (j : Junction) → i < k → kind_of (word_at qs i 0) ≡ ranges j → ⊥
+  none-ranges k none i j l e = false_not_true (sym none ∙ ranges-here i k l (ap is_range e))

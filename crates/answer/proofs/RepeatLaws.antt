@@ -11,34 +11,34 @@ use Rattle.calculus.specs.declared.truth.Truth.{Truth}
 use Rattle.calculus.specs.Row.{cells_of}
 use Rattle.calculus.specs.Formula.{assignment}
 use Rattle.calculus.specs.Eval.{Outcome}
-use Rattle.calculus.specs.Model.{outcomeOf}
-use Rattle.calculus.proofs.Repeats.{Cheaper, repeat-kept, repeat-cells}
+use Rattle.calculus.specs.Model.{outcome_of}
+use Rattle.calculus.proofs.Repeats.{Cheaper, repeat-kept, repeat_cells}
 use Rattle.instance.specs.declared.header.Header.{Header}
 use Rattle.instance.specs.Sound.{rows}
-use Rattle.instance.specs.Run.{modelOf}
-use Rattle.query.specs.Named.{named_in, queryOf}
-use Rattle.query.specs.Tree.{formulaOf}
-use Rattle.query.specs.Check.{checkQuery, passed}
+use Rattle.instance.specs.Run.{model_of}
+use Rattle.query.specs.Named.{named_in, query_of}
+use Rattle.query.specs.Tree.{formula_of}
+use Rattle.query.specs.Check.{check_query, passed}
 use Rattle.answer.specs.declared.asked.Asked.TheVariants.{Verdict}
-use Rattle.answer.specs.Ask.{Lent, hasPlace, needed, ask, evaluatedAs}
+use Rattle.answer.specs.Ask.{Lent, has_place, needed, ask, evaluated_as}
 use Rattle.answer.specs.Repeats.{SameVerdict, SameOrSpent, same, spent, Repeat, RepeatMeansOne}
-use Rattle.evaluate.proofs.Budget.{was-verdict}
+use Rattle.evaluate.proofs.Budget.{was_verdict}
 use Rattle.evaluate.proofs.Budget as budgets
-use Rattle.answer.proofs.RerunLaws.{Asks, place_kept, same-lent, verdict-asked, asked-verdict}
+use Rattle.answer.proofs.RerunLaws.{Asks, place_kept, same_lent, verdict-asked, asked-verdict}
 use Rattle.answer.proofs.AskLaws.{evaluated-asked}
 
 module _ (h h' : Header) (ws ws' qs candidate : List ℕ) (lent : Lent) (budget : ℕ) (r : Repeat h h' ws ws') where
   abbrev twice : Outcome
-  twice = outcomeOf (modelOf h ws candidate) (queryOf h.arities qs)
+  twice = outcome_of (model_of h ws candidate) (query_of h.arities qs)
 
   abbrev once : Outcome
-  once = outcomeOf (modelOf h' ws' candidate) (queryOf h'.arities qs)
+  once = outcome_of (model_of h' ws' candidate) (query_of h'.arities qs)
 
   kept : Cheaper twice once
-  kept = rw (r.twice, r.once, r.arities) (repeat-kept r.before r.row r.between r.behind (named_in h.arities qs) (formulaOf h.arities qs) (assignment candidate))
+  kept = rw (r.twice, r.once, r.arities) (repeat-kept r.before r.row r.between r.behind (named_in h.arities qs) (formula_of h.arities qs) (assignment candidate))
 
   cells : length (cells_of (rows h' ws')) ≤ length (cells_of (rows h ws))
-  cells = rw (r.twice, r.once) (repeat-cells r.before r.row r.between r.behind)
+  cells = rw (r.twice, r.once) (repeat_cells r.before r.row r.between r.behind)
 
   fewer : length (needed h' ws' qs) ≤ length (needed h ws qs)
   fewer =
@@ -54,9 +54,9 @@ module _ (h h' : Header) (ws ws' qs candidate : List ℕ) (lent : Lent) (budget 
   second-asks : (t : Truth) (n : ℕ) → ask h ws qs candidate lent budget ≡ Verdict t n → SameVerdict (ask h' ws' qs candidate lent budget) t n
   second-asks t n e =
       let a = verdict-asked h ws qs candidate lent budget t n e in
-      let was = was-verdict budget twice t n a.1 in
-      let passes : checkQuery h'.relations h'.arities qs candidate ≡ passed a.0.scopes = rw (r.relations, r.arities) a.0.passes in
-      let asks : Asks h' ws' qs candidate lent = record { is-sound = r.second-sound; right = a.0.right; scopes = a.0.scopes; passes = passes; room = place_kept lent lent _ _ (same-lent lent) fewer a.0.room } in
+      let was = was_verdict budget twice t n a.1 in
+      let passes : check_query h'.relations h'.arities qs candidate ≡ passed a.0.scopes = rw (r.relations, r.arities) a.0.passes in
+      let asks : Asks h' ws' qs candidate lent = record { is_sound = r.second_sound; right = a.0.right; scopes = a.0.scopes; passes = passes; room = place_kept lent lent _ _ (same_lent lent) fewer a.0.room } in
       record {
         cost = once.cost;
         no_more = omega (arith, kept.cost, was.cost);
@@ -67,14 +67,14 @@ module _ (h h' : Header) (ws ws' qs candidate : List ℕ) (lent : Lent) (budget 
 
   -- the first instance gives the second one's verdict, if the buffer is long enough and the budget suffices
   to-first :
-      (t : Truth) (n : ℕ) → ask h' ws' qs candidate lent budget ≡ Verdict t n → hasPlace lent (length (needed h ws qs)) ≡ true →
+      (t : Truth) (n : ℕ) → ask h' ws' qs candidate lent budget ≡ Verdict t n → has_place lent (length (needed h ws qs)) ≡ true →
       SameOrSpent (ask h ws qs candidate lent budget) t n
   to-first t n e room =
       let a = verdict-asked h' ws' qs candidate lent budget t n e in
-      let was = was-verdict budget once t n a.1 in
-      let passes : checkQuery h.relations h.arities qs candidate ≡ passed a.0.scopes =
-      sym (ap₂ (λ (k : ℕ) (ars : List ℕ). checkQuery k ars qs candidate) r.relations r.arities) ∙ a.0.passes in
-      let asks : Asks h ws qs candidate lent = record { is-sound = r.first-sound; right = a.0.right; scopes = a.0.scopes; passes = passes; room = room } in
+      let was = was_verdict budget once t n a.1 in
+      let passes : check_query h.relations h.arities qs candidate ≡ passed a.0.scopes =
+      sym (ap₂ (λ (k : ℕ) (ars : List ℕ). check_query k ars qs candidate) r.relations r.arities) ∙ a.0.passes in
+      let asks : Asks h ws qs candidate lent = record { is_sound = r.first_sound; right = a.0.right; scopes = a.0.scopes; passes = passes; room = room } in
       go (leb twice.cost budget) refl asks was.truth was.cost
     where
       go :
@@ -84,10 +84,10 @@ module _ (h h' : Header) (ws ws' qs candidate : List ℕ) (lent : Lent) (budget 
           same twice.cost (omega (arith, kept.cost, cost))
           (asked-verdict h ws qs candidate lent budget asks (leb-true twice.cost budget fits) ∙ ap (λ (x : Truth). Verdict x twice.cost) (kept.same ∙ truth))
       go false dear asks truth cost =
-          spent (sym (evaluated-asked h ws qs candidate lent budget asks) ∙ ap evaluatedAs (budgets.spent budget twice (leb-false twice.cost budget dear)))
+          spent (sym (evaluated-asked h ws qs candidate lent budget asks) ∙ ap evaluated_as (budgets.spent budget twice (leb-false twice.cost budget dear)))
 
-pub repeat-means-one : RepeatMeansOne
-repeat-means-one h h' ws ws' qs candidate lent budget t n r = record {
-  to-second = second-asks h h' ws ws' qs candidate lent budget r t n;
+pub repeat_means_one : RepeatMeansOne
+repeat_means_one h h' ws ws' qs candidate lent budget t n r = record {
+  to_second = second-asks h h' ws ws' qs candidate lent budget r t n;
   to-first = to-first h h' ws ws' qs candidate lent budget r t n;
 }

@@ -6,43 +6,43 @@ use Rattle.calculus.specs.declared.truth.Truth.{Truth}
 use Rattle.calculus.specs.Answer.{after}
 use Rattle.calculus.specs.Kleene.{rank}
 use Rattle.calculus.specs.Eval.{Outcome}
-use Rattle.calculus.specs.Model.{outcomeOf}
+use Rattle.calculus.specs.Model.{outcome_of}
 use Rattle.instance.specs.declared.header.Header.{Header}
-use Rattle.instance.specs.Run.{modelOf}
-use Rattle.query.specs.Named.{queryOf}
+use Rattle.instance.specs.Run.{model_of}
+use Rattle.query.specs.Named.{query_of}
 use Rattle.answer.specs.declared.asked.Asked.{Asked}
 use Rattle.answer.specs.declared.asked.Asked.TheVariants.{Verdict, Refused}
 use Rattle.answer.specs.Ask.{Lent, ask}
-use Rattle.answer.specs.Numbers.{askedAs, askedNumber, verdictOf, costOf, TellsVerdict}
-use Rattle.evaluate.proofs.Budget.{was-verdict}
+use Rattle.answer.specs.Numbers.{asked_as, asked_number, verdict_of, cost_of, TellsVerdict}
+use Rattle.evaluate.proofs.Budget.{was_verdict}
 use Rattle.answer.proofs.RerunLaws.{verdict-asked}
 
 -- if the answer is a verdict, it is the outcome's
 abbrev pub Of : Outcome → Asked → Type 0
 Of o a = (t : Truth) (n : ℕ) → a ≡ Verdict t n → (o.truth ≡ t) × (o.cost ≡ n)
 
-pub tells-verdict : {r a : Asked} (o : Outcome) → r ≡ a → Of o a → TellsVerdict r a o
-tells-verdict {r} {a} o e of = record {
-  number = ap askedNumber e;
-  verdict = λ old. ap (λ (x : Asked). verdictOf x old) e ∙ verdict a of old;
-  cost = λ old. ap (λ (x : Asked). costOf x old) e ∙ cost a of old;
+pub tells_verdict : {r a : Asked} (o : Outcome) → r ≡ a → Of o a → TellsVerdict r a o
+tells_verdict {r} {a} o e of = record {
+  number = ap asked_number e;
+  verdict = λ old. ap (λ (x : Asked). verdict_of x old) e ∙ verdict a of old;
+  cost = λ old. ap (λ (x : Asked). cost_of x old) e ∙ cost a of old;
 }
   where
-    verdict : (x : Asked) → Of o x → (old : ℕ) → verdictOf x old ≡ after (askedAs x) (rank o.truth) old
+    verdict : (x : Asked) → Of o x → (old : ℕ) → verdict_of x old ≡ after (asked_as x) (rank o.truth) old
     verdict (Verdict t n) of old = ap rank (sym (of t n refl).0)
     verdict (Refused r) of old = refl
 
-    cost : (x : Asked) → Of o x → (old : ℕ) → costOf x old ≡ after (askedAs x) o.cost old
+    cost : (x : Asked) → Of o x → (old : ℕ) → cost_of x old ≡ after (asked_as x) o.cost old
     cost (Verdict t n) of old = sym (of t n refl).1
     cost (Refused r) of old = refl
 
 module _ (h : Header) (ws qs cs : List ℕ) (lent : Lent) (budget : ℕ) where
-  pub ask-outcome : Of (outcomeOf (modelOf h ws cs) (queryOf h.arities qs)) (ask h ws qs cs lent budget)
-  ask-outcome t n e =
-      let w = was-verdict budget (outcomeOf (modelOf h ws cs) (queryOf h.arities qs)) t n (verdict-asked h ws qs cs lent budget t n e).1 in
+  pub ask_outcome : Of (outcome_of (model_of h ws cs) (query_of h.arities qs)) (ask h ws qs cs lent budget)
+  ask_outcome t n e =
+      let w = was_verdict budget (outcome_of (model_of h ws cs) (query_of h.arities qs)) t n (verdict-asked h ws qs cs lent budget t n e).1 in
       (w.truth, w.cost)
 
   pub ask-told :
       {r : Asked} → r ≡ ask h ws qs cs lent budget →
-      TellsVerdict r (ask h ws qs cs lent budget) (outcomeOf (modelOf h ws cs) (queryOf h.arities qs))
-  ask-told p = tells-verdict (outcomeOf (modelOf h ws cs) (queryOf h.arities qs)) p ask-outcome
+      TellsVerdict r (ask h ws qs cs lent budget) (outcome_of (model_of h ws cs) (query_of h.arities qs))
+  ask-told p = tells_verdict (outcome_of (model_of h ws cs) (query_of h.arities qs)) p ask_outcome

@@ -1,28 +1,28 @@
 -- Two ways of asking, with a working list and without one. Document 02, request 4: "Show it equal to the listed way in verdict, looks and every refusal, for
 -- every input that the listed way does not refuse with 45. Turned away: 45 never occurs on this way."
 use Rattle.std.specs.Prelude.{ℕ, ◌≤◌, ◌≡◌, List, length}
-use Rattle.calculus.specs.Refusal.{buffer-too-short}
+use Rattle.calculus.specs.Refusal.{buffer_too_short}
 use Rattle.instance.specs.declared.header.Header.{Header}
 use Rattle.answer.specs.declared.asked.Asked.TheVariants.{Refused}
 use Rattle.answer.specs.declared.way.Way.{Way}
 use Rattle.answer.specs.declared.way.Way.TheVariants.{Listed, Unlisted}
-use Rattle.answer.specs.Ask.{Lent, list, none, mostNeeded, ask, askedBuffer}
+use Rattle.answer.specs.Ask.{Lent, list, none, most_needed, ask, asked_buffer}
 
 abbrev pub WaysAgree : Type 0
 WaysAgree =
     (h : Header) (ws qs candidate buffer : List ℕ) (budget : ℕ) →
-    (ask h ws qs candidate (list buffer) budget ≡ Refused buffer-too-short → ⊥) →
+    (ask h ws qs candidate (list buffer) budget ≡ Refused buffer_too_short → ⊥) →
     ask h ws qs candidate none budget ≡ ask h ws qs candidate (list buffer) budget
 
 -- what is always long enough: no list, and a list that no question exceeds
 abbrev pub Ample : Lent → Type 0
-Ample (list buffer) = mostNeeded ≤ length buffer
+Ample (list buffer) = most_needed ≤ length buffer
 Ample none = Unit
 
 abbrev pub NeverShort : Type 0
 NeverShort =
     (h : Header) (ws qs candidate : List ℕ) (lent : Lent) → Ample lent → (budget : ℕ) →
-    ask h ws qs candidate lent budget ≡ Refused buffer-too-short → ⊥
+    ask h ws qs candidate lent budget ≡ Refused buffer_too_short → ⊥
 
 -- the same way again, with no shorter list
 abbrev pub NoShorter : Lent → Lent → Type 0
@@ -36,6 +36,6 @@ abbrev pub lent_by : Way → List ℕ → Lent
 lent_by Listed buffer = list buffer
 lent_by Unlisted buffer = none
 
-abbrev pub leftBy : Way → Header → (ws qs candidate buffer : List ℕ) → List ℕ
-leftBy Listed h ws qs candidate buffer = askedBuffer h ws qs candidate buffer
-leftBy Unlisted h ws qs candidate buffer = buffer
+abbrev pub left_by : Way → Header → (ws qs candidate buffer : List ℕ) → List ℕ
+left_by Listed h ws qs candidate buffer = asked_buffer h ws qs candidate buffer
+left_by Unlisted h ws qs candidate buffer = buffer

@@ -1,12 +1,12 @@
 // Asking a question of an instance, with a list for what quantifiers range over.
 ghost use Rattle.std.specs.Prelude.{◌≡◌, ℕ};
-ghost use Rattle.calculus.specs.Domain.{rangeOver};
-ghost use Rattle.calculus.specs.Model.{outcomeOf};
-ghost use Rattle.instance.specs.Run.{modelOf};
+ghost use Rattle.calculus.specs.Domain.{range_over};
+ghost use Rattle.calculus.specs.Model.{outcome_of};
+ghost use Rattle.instance.specs.Run.{model_of};
 ghost use Rattle.instance.specs.Sound.{rows};
 ghost use Rattle.evaluate.specs.Within.{within};
-ghost use Rattle.query.specs.Named.{named_in, queryOf};
-ghost use Rattle.answer.specs.Ask.{ask as askOf, askedBuffer, evaluatedAs, list};
+ghost use Rattle.query.specs.Named.{named_in, query_of};
+ghost use Rattle.answer.specs.Ask.{ask as askOf, asked_buffer, evaluated_as, list};
 ghost use Rattle.answer.specs.Admitted.{Admitted};
 ghost use Rattle.answer.specs.Numbers.{TellsVerdict};
 
@@ -31,10 +31,10 @@ fn answer_listed(
     budget: u32,
 ) -> Asked
     requires by_index { (count : ℕ) × Admitted header instance.now query.now candidate.now count }
-    requires values_value { values.now ≡ rangeOver (named_in header.arities query.now) (rows header instance.now) }
-    ensures { result ≡ evaluatedAs (within budget
-        (outcomeOf (modelOf header instance.now candidate.now)
-        (queryOf header.arities query.now))) }
+    requires values_value { values.now ≡ range_over (named_in header.arities query.now) (rows header instance.now) }
+    ensures { result ≡ evaluated_as (within budget
+        (outcome_of (model_of header instance.now candidate.now)
+        (query_of header.arities query.now))) }
 {
     let used = header.used as usize;
     let arities = header.arities;
@@ -53,11 +53,11 @@ pub fn ask(
     budget: u32,
 ) -> Asked
     ensures answer { result ≡ askOf header instance.now query.now candidate.now (list buffer.old) budget }
-    ensures buffer { buffer.new ≡ askedBuffer header instance.now query.now candidate.now buffer.old }
+    ensures buffer { buffer.new ≡ asked_buffer header instance.now query.now candidate.now buffer.old }
     ensures told { TellsVerdict result (askOf header instance.now query.now
         candidate.now (list buffer.old) budget)
-        (outcomeOf (modelOf header instance.now candidate.now)
-        (queryOf header.arities query.now)) }
+        (outcome_of (model_of header instance.now candidate.now)
+        (query_of header.arities query.now)) }
 {
     match admit(header, instance, query, candidate) {
         Answer::Refused(why) => Asked::Refused(why),

@@ -2,12 +2,12 @@
 ghost use Rattle.std.specs.Prelude.{◌≡◌, ◌<◌, ◌≤◌, length};
 ghost use Rattle.calculus.specs.Eval.{eval};
 ghost use Rattle.calculus.specs.Formula.{assignment, variables};
-ghost use Rattle.known.specs.Known.{aritiesIn};
-ghost use Rattle.query.specs.Words.{nodeCount};
-ghost use Rattle.query.specs.Tree.{formulaOf};
+ghost use Rattle.known.specs.Known.{arities_in};
+ghost use Rattle.query.specs.Words.{node_count};
+ghost use Rattle.query.specs.Tree.{formula_of};
 ghost use Rattle.evaluate.specs.Within.{within};
 ghost use Rattle.evaluate.specs.Ready.{Ready, Ranged, world};
-ghost use Rattle.answer.specs.Ask.{evaluatedAs};
+ghost use Rattle.answer.specs.Ask.{evaluated_as};
 
 use super::asked::Asked;
 use calculus::refusal::BUDGET_SPENT;
@@ -37,11 +37,11 @@ pub fn answer_top(
     candidate: &[u32],
     budget: u32,
 ) -> Asked
-    requires ready { Ready (aritiesIn known.now) words.now query.now known.now × Ranged (aritiesIn known.now) words.now query.now known.now values.now }
-    requires query_nonzero { (0 < nodeCount query.now) × (length candidate.now ≤ variables) }
-    ensures { result ≡ evaluatedAs (within budget
-        (eval (world (aritiesIn known.now) words.now query.now)
-        (formulaOf (aritiesIn known.now) query.now) (assignment candidate.now))) }
+    requires ready { Ready (arities_in known.now) words.now query.now known.now × Ranged (arities_in known.now) words.now query.now known.now values.now }
+    requires query_nonzero { (0 < node_count query.now) × (length candidate.now ≤ variables) }
+    ensures { result ≡ evaluated_as (within budget
+        (eval (world (arities_in known.now) words.now query.now)
+        (formula_of (arities_in known.now) query.now) (assignment candidate.now))) }
 {
     let mut env = assigned(candidate);
     match evaluate(query, 0, &mut env, budget, values, words, known) {

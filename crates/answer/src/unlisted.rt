@@ -1,17 +1,17 @@
 // Asking a question of an instance with no list: the quantifiers walk the instance's own words, and then the
 // question's.
 ghost use Rattle.std.specs.Prelude.{◌≡◌, true, false, ◌++◌, ℕ, ◌*◌, ◌≤◌, length, take};
-ghost use Rattle.calculus.specs.Model.{outcomeOf};
+ghost use Rattle.calculus.specs.Model.{outcome_of};
 ghost use Rattle.instance.specs.InstanceWellFormed.{InstanceOf};
-ghost use Rattle.instance.specs.Run.{modelOf};
-ghost use Rattle.known.specs.Known.{knownWords, maxQueryWords, flagsFrom, aritiesIn, flagAt, unpassed};
-ghost use Rattle.query.specs.Words.{nodeCount, nodeWords};
-ghost use Rattle.query.specs.Named.{named_in, queryOf, HasTerms};
+ghost use Rattle.instance.specs.Run.{model_of};
+ghost use Rattle.known.specs.Known.{known_words, max_query_words, flags_from, arities_in, flag_at, unpassed};
+ghost use Rattle.query.specs.Words.{node_count, node_words};
+ghost use Rattle.query.specs.Named.{named_in, query_of, HasTerms};
 ghost use Rattle.instance.specs.Rows.{rows_from};
-ghost use Rattle.range.specs.Walked.{walkedRange};
+ghost use Rattle.range.specs.Walked.{walked_range};
 ghost use Rattle.answer.specs.Ask.{ask, none};
 ghost use Rattle.answer.specs.Numbers.{TellsVerdict};
-ghost use Rattle.answer.specs.Ranging.{rangesAmong};
+ghost use Rattle.answer.specs.Ranging.{ranges_among};
 
 use super::admit::admit;
 use super::asked::Asked;
@@ -29,8 +29,8 @@ const EVERY: u32 = 7;
 
 // Whether a node ranges over values.
 fn ranging(query: &[u32]) -> bool
-    requires { nodeCount query.now * nodeWords ≡ length query.now }
-    ensures { result ≡ rangesAmong query.now (nodeCount query.now) }
+    requires { node_count query.now * node_words ≡ length query.now }
+    ensures { result ≡ ranges_among query.now (node_count query.now) }
 {
     let mut i = 0;
     while i < query.len() / NODE_WORDS {
@@ -47,13 +47,13 @@ fn ranging(query: &[u32]) -> bool
 
 // Sets the flag of each place that a walk over the range passes over, if a node ranges over values.
 fn pass_for(words: &[u32], query: &[u32], arities: &[u32; 8], known: &mut [u32; 170])
-    requires instance_of { InstanceOf (aritiesIn known.old) words.now × HasTerms arities.now query.now
-        × (aritiesIn known.old ≡ arities.now) × (length query.now ≤ maxQueryWords) }
-    requires known_len { (length known.old ≡ knownWords) × ((p : ℕ) → flagAt known.old p ≡ false) }
-    ensures kept { (length known.new ≡ knownWords) × (take flagsFrom known.new ≡ take flagsFrom known.old) }
-    ensures walked { rangesAmong query.now (nodeCount query.now) ≡ true
+    requires instance_of { InstanceOf (arities_in known.old) words.now × HasTerms arities.now query.now
+        × (arities_in known.old ≡ arities.now) × (length query.now ≤ max_query_words) }
+    requires known_len { (length known.old ≡ known_words) × ((p : ℕ) → flag_at known.old p ≡ false) }
+    ensures kept { (length known.new ≡ known_words) × (take flags_from known.new ≡ take flags_from known.old) }
+    ensures walked { ranges_among query.now (node_count query.now) ≡ true
         → unpassed known.new 0 (words.now ++ query.now)
-        ≡ walkedRange (named_in arities.now query.now)
+        ≡ walked_range (named_in arities.now query.now)
         (rows_from arities.now 0 words.now) }
 {
     if ranging(query) {
@@ -71,8 +71,8 @@ pub fn ask_unlisted(
     ensures answer { result ≡ ask header instance.now query.now candidate.now none budget }
     ensures told { TellsVerdict result (ask header instance.now query.now
         candidate.now none budget)
-        (outcomeOf (modelOf header instance.now candidate.now)
-        (queryOf header.arities query.now)) }
+        (outcome_of (model_of header instance.now candidate.now)
+        (query_of header.arities query.now)) }
 {
     match admit(header, instance, query, candidate) {
         Answer::Refused(why) => Asked::Refused(why),

@@ -17,8 +17,8 @@ pub record Counting (n : ℕ) (whole more : ℕ → ℕ) (counts : List ℕ) : T
   pub each : (k : ℕ) → k < n → get_or counts k 0 + more k ≡ whole k
 
 module _ (n : ℕ) (whole : ℕ → ℕ) where
-  pub counting-starts : Counting n whole whole (replicate n 0)
-  counting-starts = record {
+  pub counting_starts : Counting n whole whole (replicate n 0)
+  counting_starts = record {
     size = length-replicate {A = ℕ} n 0;
     each = λ k l. omega (arith, get_or-replicate {A = ℕ} n k 0 0 l);
   }
@@ -42,11 +42,11 @@ module _ (n : ℕ) (whole : ℕ → ℕ) where
             rw (get_or-set_other counts k j _ 0 ne) (omega (arith, s.each j i, others j ne))
 
     -- none of any kind comes
-    pub counting-none : ((k : ℕ) → k < n → more k ≡ less k) → Counting n whole more counts → Counting n whole less counts
-    counting-none same s = record { size = s.size; each = λ k l. omega (arith, s.each k l, same k l) }
+    pub counting_none : ((k : ℕ) → k < n → more k ≡ less k) → Counting n whole more counts → Counting n whole less counts
+    counting_none same s = record { size = s.size; each = λ k l. omega (arith, s.each k l, same k l) }
 
   -- nothing is still to come: the counters are the totals
-  pub counting-ends : (more : ℕ → ℕ) (counts : List ℕ) → ((k : ℕ) → more k ≡ 0) → Counting n whole more counts → counts ≡ table whole n
-  counting-ends more counts none s =
+  pub counting_ends : (more : ℕ → ℕ) (counts : List ℕ) → ((k : ℕ) → more k ≡ 0) → Counting n whole more counts → counts ≡ table whole n
+  counting_ends more counts none s =
       ext_get_or 0 counts (table whole n) (s.size ∙ sym (table-size whole n))
       (λ k l. let i : k < n = omega (arith, s.size) in omega (arith, s.each k i, none k, table_at whole n k i))

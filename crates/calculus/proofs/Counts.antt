@@ -8,44 +8,44 @@ use borrow.Author.Tests.{eq-eqb, ne_eqb}
 use lib.ListN.{length, get_or, drop}
 use lib.Dec.{eqb}
 use Rattle.calculus.specs.Fill.{count_of}
-use Rattle.calculus.proofs.Lists.{drop-step}
+use Rattle.calculus.proofs.Lists.{drop_step}
 
 module _ (x : ℕ) where
   module _ (y : ℕ) (ys : List ℕ) where
-    pub countOf-here : y ≡ x → count_of x (y ∷ ys) ≡ suc (count_of x ys)
+    pub count_of-here : y ≡ x → count_of x (y ∷ ys) ≡ suc (count_of x ys)
     unfolding count_of
-    countOf-here e = simp (eq-eqb y x e)
+    count_of-here e = simp (eq-eqb y x e)
 
-    pub countOf-other : (y ≡ x → ⊥) → count_of x (y ∷ ys) ≡ count_of x ys
+    pub count_of-other : (y ≡ x → ⊥) → count_of x (y ∷ ys) ≡ count_of x ys
     unfolding count_of
-    countOf-other ne = simp (ne_eqb y x ne)
+    count_of-other ne = simp (ne_eqb y x ne)
 
     -- one more element
-    pub countOf-cons : count_of x (y ∷ ys) ≡ count_of x (y ∷ []) + count_of x ys
+    pub count_of_cons : count_of x (y ∷ ys) ≡ count_of x (y ∷ []) + count_of x ys
     unfolding count_of
-    countOf-cons = go (eqb y x)
+    count_of_cons = go (eqb y x)
       where
         go : (b : Bool) → cond b (suc (count_of x ys)) (count_of x ys) ≡ cond b 1 0 + count_of x ys
         go true = omega arith
         go false = omega arith
 
-  pub countOf-le : (xs : List ℕ) → count_of x xs ≤ length xs
+  pub count_of_le : (xs : List ℕ) → count_of x xs ≤ length xs
   unfolding count_of
-  countOf-le [] = omega arith
-  countOf-le (y ∷ ys) = go (eqb y x) (countOf-le ys)
+  count_of_le [] = omega arith
+  count_of_le (y ∷ ys) = go (eqb y x) (count_of_le ys)
     where
       go : (b : Bool) → count_of x ys ≤ length ys → cond b (suc (count_of x ys)) (count_of x ys) ≤ suc (length ys)
       go true l = omega arith
       go false l = omega arith
 
-  pub countOf-append : (xs ys : List ℕ) → count_of x (xs ++ ys) ≡ count_of x xs + count_of x ys
+  pub count_of-append : (xs ys : List ℕ) → count_of x (xs ++ ys) ≡ count_of x xs + count_of x ys
   unfolding count_of
-  countOf-append [] ys = omega arith
-  countOf-append (y ∷ xs) ys = omega (arith, countOf-cons y (xs ++ ys), countOf-cons y xs, countOf-append xs ys)
+  count_of-append [] ys = omega arith
+  count_of-append (y ∷ xs) ys = omega (arith, count_of_cons y (xs ++ ys), count_of_cons y xs, count_of-append xs ys)
 
   -- the count from index i, by the element there
   pub countOf-drop-step :
       (xs : List ℕ) (i : ℕ) → i < length xs →
       count_of x (drop i xs) ≡ cond (eqb (get_or xs i 0) x) (suc (count_of x (drop (i + 1) xs))) (count_of x (drop (i + 1) xs))
   unfolding count_of
-  countOf-drop-step xs i l = rw (drop-step xs i l)
+  countOf-drop-step xs i l = rw (drop_step xs i l)

@@ -3,6 +3,6 @@ use mathlib.Core.Path.{◌≡◌, refl}
 use mathlib.Core.Bool.{Bool, true, false}
 use Rattle.calculus.specs.Demand.{demand}
 
-pub demand-met : {A : Type 0} (b : Bool) {refusal a end : A} → demand b refusal a ≡ end → (refusal ≡ end → ⊥) → (b ≡ true) × (a ≡ end)
-demand-met true e other = (refl, e)
-demand-met false e other = absurd (other e)
+pub demand_met : {A : Type 0} (b : Bool) {refusal a end : A} → demand b refusal a ≡ end → (refusal ≡ end → ⊥) → (b ≡ true) × (a ≡ end)
+demand_met true e other = (refl, e)
+demand_met false e other = absurd (other e)

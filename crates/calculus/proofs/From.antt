@@ -7,8 +7,8 @@ use borrow.Author.Tests.{eqb-true, eqb-false}
 use lib.Dec.{eqb}
 
 -- one of k + 1 numbers from i on is i, or one of the k after it
-pub first-or-later : (P : ℕ → Type 0) (i k d : ℕ) → P i → (suc i ≤ d → d < suc i + k → P d) → i ≤ d → d < i + suc k → P d
-first-or-later P i k d here later a b = go (eqb d i) refl
+pub first_or_later : (P : ℕ → Type 0) (i k d : ℕ) → P i → (suc i ≤ d → d < suc i + k → P d) → i ≤ d → d < i + suc k → P d
+first_or_later P i k d here later a b = go (eqb d i) refl
   where
     go : (t : Bool) → eqb d i ≡ t → P d
     go true e = rw (eqb-true d i e) here
@@ -19,4 +19,4 @@ module _ (P : ℕ → Type 0) (Whole : ℕ → ℕ → Type 0) (parts : (i k : �
   each_from i zero d w a b = absurd (omega arith)
   each_from i (suc k) d w a b =
       let p = parts i k w in
-      first-or-later P i k d p.0 (λ l m. each_from (suc i) k d p.1 l m) a b
+      first_or_later P i k d p.0 (λ l m. each_from (suc i) k d p.1 l m) a b

@@ -6,7 +6,7 @@ use mathlib.Core.List.{List, [], ◌∷◌, ◌++◌, Memᴰ}
 use lib.Dec.{eqb}
 use borrow.Author.Tests.{eqb-true}
 use Rattle.calculus.specs.Listed.{listed}
-use Rattle.calculus.proofs.Bools.{false-not-true}
+use Rattle.calculus.proofs.Bools.{false_not_true}
 
 pub listed-append : (x : ℕ) (xs ys : List ℕ) → listed x (xs ++ ys) ≡ (listed x xs || listed x ys)
 unfolding listed
@@ -23,10 +23,10 @@ listed-left x xs ys e = listed-append x xs ys ∙ rw e
 pub listed-right : (x : ℕ) (xs ys : List ℕ) → listed x ys ≡ true → listed x (xs ++ ys) ≡ true
 listed-right x xs ys e = listed-append x xs ys ∙ rw e (or-true (listed x xs))
 
-pub listed-member : (x : ℕ) (ys : List ℕ) → listed x ys ≡ true → Memᴰ x ys
+pub listed_member : (x : ℕ) (ys : List ℕ) → listed x ys ≡ true → Memᴰ x ys
 unfolding listed
-listed-member x [] e = false-not-true e
-listed-member x (y ∷ ys) e = go (eqb y x) refl e (listed-member x ys)
+listed_member x [] e = false_not_true e
+listed_member x (y ∷ ys) e = go (eqb y x) refl e (listed_member x ys)
   where
     go :
         (b : Bool) → eqb y x ≡ b → (b || listed x ys) ≡ true → (listed x ys ≡ true → Memᴰ x ys) →

@@ -9,11 +9,11 @@ use lib.Dec.{eqb, eqb→eq, T}
 use Rattle.calculus.specs.declared.truth.Truth.{Truth}
 use Rattle.calculus.specs.declared.truth.Truth.TheVariants.{False, Unknown, True}
 use Rattle.calculus.specs.Kleene.{Junction, conj, disj, join}
-use Rattle.calculus.specs.Eval.{Outcome, settles, rightCost, joined, over}
+use Rattle.calculus.specs.Eval.{Outcome, settles, right_cost, joined, over}
 use Rattle.calculus.specs.Domain.{without, distinct}
 use Rattle.calculus.specs.Order.{◌⊑◌, unknown, alike, ◌⊑ₒ◌}
-use Rattle.calculus.proofs.Bools.{false-not-true}
-use Rattle.calculus.proofs.Kleene.{⊑_trans, join-mono, join-idem, join-swap}
+use Rattle.calculus.proofs.Bools.{false_not_true}
+use Rattle.calculus.proofs.Kleene.{⊑_trans, join_mono, join_idem, join_swap}
 
 pub ⊑ₒ-refl : (o : Outcome) → o ⊑ₒ o
 ⊑ₒ-refl o = record { truth = alike; cost = le_refl _ }
@@ -26,59 +26,59 @@ pub settled : (j : Junction) (a t : Truth) → settles j a ≡ true → join j a
 settled conj False False e = refl
 settled conj False Unknown e = refl
 settled conj False True e = refl
-settled conj Unknown t e = false-not-true e
-settled conj True t e = false-not-true e
+settled conj Unknown t e = false_not_true e
+settled conj True t e = false_not_true e
 settled disj True False e = refl
 settled disj True Unknown e = refl
 settled disj True True e = refl
-settled disj Unknown t e = false-not-true e
-settled disj False t e = false-not-true e
+settled disj Unknown t e = false_not_true e
+settled disj False t e = false_not_true e
 
-asked-le : (j : Junction) (t : Truth) (n : ℕ) → rightCost j t n ≤ n
-asked-le conj False n = omega arith
-asked-le conj Unknown n = le_refl n
-asked-le conj True n = le_refl n
-asked-le disj False n = le_refl n
-asked-le disj Unknown n = le_refl n
-asked-le disj True n = omega arith
+asked_le : (j : Junction) (t : Truth) (n : ℕ) → right_cost j t n ≤ n
+asked_le conj False n = omega arith
+asked_le conj Unknown n = le_refl n
+asked_le conj True n = le_refl n
+asked_le disj False n = le_refl n
+asked_le disj Unknown n = le_refl n
+asked_le disj True n = omega arith
 
-asked-unknown : (j : Junction) (n : ℕ) → n ≤ rightCost j Unknown n
+asked-unknown : (j : Junction) (n : ℕ) → n ≤ right_cost j Unknown n
 asked-unknown conj n = le_refl n
 asked-unknown disj n = le_refl n
 
 -- costs keep their order if the same test may leave both out
-when-mono : (b : Bool) {m n : ℕ} → m ≤ n → cond b 0 m ≤ cond b 0 n
-when-mono true h = le_refl 0
-when-mono false h = h
+when_mono : (b : Bool) {m n : ℕ} → m ≤ n → cond b 0 m ≤ cond b 0 n
+when_mono true h = le_refl 0
+when_mono false h = h
 
-asked-mono : (j : Junction) {t u : Truth} {m n : ℕ} → t ⊑ u → m ≤ n → rightCost j u m ≤ rightCost j t n
-asked-mono j {t} {u} {m} {n} unknown h = le_trans (asked-le j u m) (le_trans h (asked-unknown j n))
-asked-mono j {t} alike h = when-mono (settles j t) h
+asked_mono : (j : Junction) {t u : Truth} {m n : ℕ} → t ⊑ u → m ≤ n → right_cost j u m ≤ right_cost j t n
+asked_mono j {t} {u} {m} {n} unknown h = le_trans (asked_le j u m) (le_trans h (asked-unknown j n))
+asked_mono j {t} alike h = when_mono (settles j t) h
 
-pub joined-mono : (j : Junction) {o p o' p' : Outcome} → o ⊑ₒ o' → p ⊑ₒ p' → joined j o p ⊑ₒ joined j o' p'
-joined-mono j h k =
-    record { truth = join-mono j h.truth k.truth; cost = add-le-add h.cost (asked-mono j h.truth k.cost) }
+pub joined_mono : (j : Junction) {o p o' p' : Outcome} → o ⊑ₒ o' → p ⊑ₒ p' → joined j o p ⊑ₒ joined j o' p'
+joined_mono j h k =
+    record { truth = join_mono j h.truth k.truth; cost = add-le-add h.cost (asked_mono j h.truth k.cost) }
 
 pub over-mono :
     (j : Junction) {s t : Truth} → s ⊑ t → (f g : ℕ → Outcome) (h : ℕ → ℕ) →
     ((c : ℕ) → f c ⊑ₒ g (h c)) →
     (cs : List ℕ) → over s j f cs ⊑ₒ over t j g (map h cs)
 over-mono j k f g h each [] = record { truth = k; cost = le_refl 0 }
-over-mono j k f g h each (c ∷ cs) = joined-mono j (each c) (over-mono j k f g h each cs)
+over-mono j k f g h each (c ∷ cs) = joined_mono j (each c) (over-mono j k f g h each cs)
 
 -- A value that was asked before may be left out: it says nothing new, and leaving it out costs no more.
-when-again : (b : Bool) (m n : ℕ) → cond b 0 n ≤ cond b 0 (m + cond b 0 n)
-when-again true m n = le_refl 0
-when-again false m n = omega arith
+when_again : (b : Bool) (m n : ℕ) → cond b 0 n ≤ cond b 0 (m + cond b 0 n)
+when_again true m n = le_refl 0
+when_again false m n = omega arith
 
-when-under : (b d : Bool) (a m n : ℕ) → cond b 0 m ≤ cond b 0 n → cond b 0 (a + cond d 0 m) ≤ cond b 0 (a + cond d 0 n)
-when-under true d a m n h = le_refl 0
-when-under false d a m n h = add-le-add (le_refl a) (when-mono d h)
+when_under : (b d : Bool) (a m n : ℕ) → cond b 0 m ≤ cond b 0 n → cond b 0 (a + cond d 0 m) ≤ cond b 0 (a + cond d 0 n)
+when_under true d a m n h = le_refl 0
+when_under false d a m n h = add-le-add (le_refl a) (when_mono d h)
 
 module _ (s : Truth) (j : Junction) (f : ℕ → Outcome) where
   record Again (t : Truth) (p q : Outcome) : Type 0 where
     says : join j t q.truth ≡ join j t p.truth
-    pays : rightCost j t q.cost ≤ rightCost j t p.cost
+    pays : right_cost j t q.cost ≤ right_cost j t p.cost
 
   again-keep :
       (x c : ℕ) (b : Bool) → (T b → c ≡ x) → (cs rest : List ℕ) →
@@ -87,15 +87,15 @@ module _ (s : Truth) (j : Junction) (f : ℕ → Outcome) where
   again-keep x c true e cs rest r =
       subst (λ (y : ℕ). Again (f x).truth (joined j (f y) (over s j f cs)) (over s j f rest)) (sym (e tt))
       (record {
-        says = r.says ∙ sym (join-idem j (f x).truth (over s j f cs).truth);
-        pays = le_trans r.pays (when-again (settles j (f x).truth) (f x).cost (over s j f cs).cost);
+        says = r.says ∙ sym (join_idem j (f x).truth (over s j f cs).truth);
+        pays = le_trans r.pays (when_again (settles j (f x).truth) (f x).cost (over s j f cs).cost);
       })
   again-keep x c false e cs rest r = record {
     says =
-        join-swap j (f x).truth (f c).truth (over s j f rest).truth ∙
+        join_swap j (f x).truth (f c).truth (over s j f rest).truth ∙
         ap (join j (f c).truth) r.says ∙
-        join-swap j (f c).truth (f x).truth (over s j f cs).truth;
-    pays = when-under (settles j (f x).truth) (settles j (f c).truth) (f c).cost (over s j f rest).cost (over s j f cs).cost r.pays;
+        join_swap j (f c).truth (f x).truth (over s j f cs).truth;
+    pays = when_under (settles j (f x).truth) (settles j (f c).truth) (f c).cost (over s j f rest).cost (over s j f cs).cost r.pays;
   }
 
   again : (x : ℕ) (cs : List ℕ) → Again (f x).truth (over s j f cs) (over s j f (without x cs))
@@ -108,7 +108,7 @@ module _ (s : Truth) (j : Junction) (f : ℕ → Outcome) where
   over-distinct [] = ⊑ₒ-refl _
   over-distinct (c ∷ cs) =
       let r = again c (distinct cs) in
-      ⊑ₒ-trans (joined-mono j (⊑ₒ-refl (f c)) (over-distinct cs))
+      ⊑ₒ-trans (joined_mono j (⊑ₒ-refl (f c)) (over-distinct cs))
       (record {
         truth = subst (λ (t : Truth). join j (f c).truth (over s j f (distinct cs)).truth ⊑ t) (sym r.says) alike;
         cost = add-le-add (le_refl _) r.pays;

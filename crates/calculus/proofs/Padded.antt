@@ -10,12 +10,12 @@ use Rattle.calculus.specs.Padded.{padded}
 pub padded-length : (width : ℕ) (xs : List ℕ) → length xs ≤ width → length (padded width xs) ≡ width
 padded-length width xs few = simp (length-append, length-replicate) (omega arith)
 
-pub padded-front : (width n : ℕ) (xs : List ℕ) → length xs ≡ n → take n (padded width xs) ≡ xs
-padded-front width n xs e = take_at xs (replicate (width - length xs) 0) n e
+pub padded_front : (width n : ℕ) (xs : List ℕ) → length xs ≡ n → take n (padded width xs) ≡ xs
+padded_front width n xs e = take_at xs (replicate (width - length xs) 0) n e
 
 -- a number stored at the first index of the padding
-pub padded-more : (width : ℕ) (xs : List ℕ) (i x : ℕ) → length xs ≡ i → i < width → set (padded width xs) i x ≡ padded width (xs ++ x ∷ [])
-padded-more width xs i x long room =
+pub padded_more : (width : ℕ) (xs : List ℕ) (i x : ℕ) → length xs ≡ i → i < width → set (padded width xs) i x ≡ padded width (xs ++ x ∷ [])
+padded_more width xs i x long room =
     let left : width - length xs ≡ suc (width - length (xs ++ x ∷ [])) = omega (arith, length-append xs (x ∷ [])) in
     ap (λ (n : ℕ). set (xs ++ replicate n 0) i x) left ∙
     set_at xs 0 (replicate (width - length (xs ++ x ∷ [])) 0) x i long ∙

@@ -30,8 +30,8 @@ pub written_begin : (whole out₀ : List ℕ) → length whole ≤ length out₀
 written_begin whole out₀ l = record { front = refl; back = refl; same = refl; room = omega arith }
 
 module _ {whole out₀ out : List ℕ} {at : ℕ} where
-  pub written-store : {v : ℕ} {rest : List ℕ} (next : ℕ) → next ≡ at + 1 → Written whole (v ∷ rest) out₀ out at → Written whole rest out₀ (set out at v) next
-  written-store {v} {rest} next e w =
+  pub written_store : {v : ℕ} {rest : List ℕ} (next : ℕ) → next ≡ at + 1 → Written whole (v ∷ rest) out₀ out at → Written whole rest out₀ (set out at v) next
+  written_store {v} {rest} next e w =
       let l : at < length out = omega arith in
       rw (e, add-one) record {
         front = rw take-suc-set (append_snoc (take at out) v rest ∙ w.front);
@@ -41,9 +41,9 @@ module _ {whole out₀ out : List ℕ} {at : ℕ} where
       }
 
   -- a list, written into the part from `at` to the end
-  pub written-part : (xs : List ℕ) {rest : List ℕ} → Written whole (xs ++ rest) out₀ out at
+  pub written_part : (xs : List ℕ) {rest : List ℕ} → Written whole (xs ++ rest) out₀ out at
       → Written whole rest out₀ (take at out ++ overwrite xs (drop at out)) (at + length xs)
-  written-part xs {rest} w =
+  written_part xs {rest} w =
       let room = rw length-append at w.room in
       let so_far : length (take at out) ≡ at = length-take-le at out (omega (arith, w.same)) in
       let long : length (take at out ++ xs) ≡ at + length xs = rw (length-append, so_far) in
@@ -56,11 +56,11 @@ module _ {whole out₀ out : List ℕ} {at : ℕ} where
       }
 
   -- the same with the current content as the old one
-  pub written-anew : {rest : List ℕ} → Written whole rest out₀ out at → Written whole rest out out at
-  written-anew w = record { front = w.front; back = refl; same = refl; room = omega arith }
+  pub written_anew : {rest : List ℕ} → Written whole rest out₀ out at → Written whole rest out out at
+  written_anew w = record { front = w.front; back = refl; same = refl; room = omega arith }
 
-  pub written-finish : Written whole [] out₀ out at → out ≡ overwrite whole out₀
-  written-finish w =
+  pub written_finish : Written whole [] out₀ out at → out ≡ overwrite whole out₀
+  written_finish w =
       let front : take at out ≡ whole = sym (append-nil (take at out)) ∙ w.front in
       let long : length whole ≡ at = ap length (sym front) ∙ length-take-le at out (omega arith) in
       rw (long, ← w.back, ← front) (sym (take-append-drop at out))

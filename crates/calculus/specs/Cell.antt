@@ -10,15 +10,15 @@ constants = 1000000
 abbrev pub nulls : ℕ
 nulls = 200
 
-abbrev pub isConstant : ℕ → Bool
-isConstant c = ltb c constants
+abbrev pub is_constant : ℕ → Bool
+is_constant c = ltb c constants
 
 -- "1,000,000 + m is pencil mark m"
 abbrev pub null : ℕ → ℕ
 null m = constants + m
 
-abbrev pub isMark : ℕ → Bool
-isMark m = leb 1 m && leb m nulls
+abbrev pub is_mark : ℕ → Bool
+is_mark m = leb 1 m && leb m nulls
 
 -- the null's number; 0 for a constant
 abbrev pub mark_of : ℕ → ℕ
@@ -28,13 +28,13 @@ abbrev pub is_null : ℕ → Bool
 is_null c = ltb constants c && leb c (constants + nulls)
 
 -- "All else, 1,000,000 itself included, is no cell."
-unfoldable pub isCell : ℕ → Bool
-isCell c = isConstant c || is_null c
+unfoldable pub is_cell : ℕ → Bool
+is_cell c = is_constant c || is_null c
 
 -- a fill (substitution) of null m by c, in one cell
 unfoldable pub put : ℕ → ℕ → ℕ → ℕ
 put m c x = cond (eqb x (null m)) c x
 
 -- a list of cells that holds no null
-abbrev pub allConstant : List ℕ → Bool
-allConstant cs = all isConstant cs
+abbrev pub all_constant : List ℕ → Bool
+all_constant cs = all is_constant cs

@@ -2,11 +2,11 @@
 use Rattle.std.specs.Prelude.{ℕ, suc, ◌+◌, Bool, true, false, ◌&&◌, ◌||◌, cond, List, [], ◌∷◌, eqb}
 use Rattle.calculus.specs.declared.truth.Truth.{Truth}
 use Rattle.calculus.specs.declared.truth.Truth.TheVariants.{False, Unknown, True}
-use Rattle.calculus.specs.Cell.{isConstant}
+use Rattle.calculus.specs.Cell.{is_constant}
 use Rattle.calculus.specs.Row.{Row}
 use Rattle.calculus.specs.Kleene.{unit}
 use Rattle.calculus.specs.Unify.{unifies}
-use Rattle.calculus.specs.Domain.{rangeOver}
+use Rattle.calculus.specs.Domain.{range_over}
 use Rattle.calculus.specs.Eval.{Structure}
 
 -- the tuples of relation r, in the order of their rows
@@ -37,15 +37,15 @@ stands ts row = cond (some (identical row) ts) True (cond (some (unifies row) ts
 
 -- "Kind 2: true for the same cell, false for two different inked values, else unknown." In Libkin's paper Eval₃ᵥ(x = y, D, ν).
 unfoldable pub equality : ℕ → ℕ → Truth
-equality a b = cond (eqb a b) True (cond (isConstant a && isConstant b) False Unknown)
+equality a b = cond (eqb a b) True (cond (is_constant a && is_constant b) False Unknown)
 
 -- Document 02, request 2: "the rows of its sheet up to and including the first identical one, or all of them where none is identical"
 unfoldable pub examined : List (List ℕ) → List ℕ → ℕ
 examined ts row = up_to (identical row) ts
 
 -- "a kind 1 node costs 1 plus" the rows examined. The closed world of Libkin's paper: a row that unifies with none of them is false.
-abbrev pub closedOver : List ℕ → List Row → Structure
-closedOver range rs = record {
+abbrev pub closed_over : List ℕ → List Row → Structure
+closed_over range rs = record {
   holds = λ r row. record { truth = stands (tuples r rs) row; cost = 1 + examined (tuples r rs) row };
   equals = equality;
   start = unit;
@@ -54,4 +54,4 @@ closedOver range rs = record {
 
 -- "some" and "every" range over the rows' values and then the inked terms that a question names
 abbrev pub closed : List ℕ → List Row → Structure
-closed named rs = closedOver (rangeOver named rs) rs
+closed named rs = closed_over (range_over named rs) rs

@@ -25,5 +25,5 @@ domain rs = distinct (cells_of rs)
 
 -- Document 02, request 6: "range over the plot's values and then the question's own inked terms, by node and word, each
 -- value once". `proofs/Listing.antt`, `range-listing`: the plot's values, and then the terms that are not among them.
-abbrev pub rangeOver : List ℕ → List Row → List ℕ
-rangeOver named rs = distinct (cells_of rs ++ named)
+abbrev pub range_over : List ℕ → List Row → List ℕ
+range_over named rs = distinct (cells_of rs ++ named)

@@ -1,6 +1,6 @@
 -- The relational calculus (document 01: questions, as trees). A variable is bound by a quantifier or by the candidate row.
 use Rattle.std.specs.Prelude.{ℕ, Bool, true, ◌&&◌, List, map, get_or}
-use Rattle.calculus.specs.Cell.{isConstant, allConstant}
+use Rattle.calculus.specs.Cell.{is_constant, all_constant}
 use Rattle.calculus.specs.Padded.{padded}
 use Rattle.calculus.specs.Kleene.{Junction}
 use Rattle.calculus.specs.All.{all}
@@ -34,23 +34,23 @@ abbrev pub assignment : List ℕ → List ℕ
 assignment candidate = padded variables candidate
 
 -- every number in a `const` of a term, of terms and of a formula passes a test
-abbrev pub termPasses : (ℕ → Bool) → Term → Bool
-termPasses test (const c) = test c
-termPasses test (var v) = true
+abbrev pub term_passes : (ℕ → Bool) → Term → Bool
+term_passes test (const c) = test c
+term_passes test (var v) = true
 
-abbrev pub termsPass : (ℕ → Bool) → List Term → Bool
-termsPass test ts = all (termPasses test) ts
+abbrev pub terms_pass : (ℕ → Bool) → List Term → Bool
+terms_pass test ts = all (term_passes test) ts
 
-unfoldable pub constantsPass : (ℕ → Bool) → Formula → Bool
-constantsPass test (atom r ts) = termsPass test ts
-constantsPass test (equal s t) = termPasses test s && termPasses test t
-constantsPass test (negation f) = constantsPass test f
-constantsPass test (junction j f g) = constantsPass test f && constantsPass test g
-constantsPass test (quantified j v f) = constantsPass test f
+unfoldable pub constants_pass : (ℕ → Bool) → Formula → Bool
+constants_pass test (atom r ts) = terms_pass test ts
+constants_pass test (equal s t) = term_passes test s && term_passes test t
+constants_pass test (negation f) = constants_pass test f
+constants_pass test (junction j f g) = constants_pass test f && constants_pass test g
+constants_pass test (quantified j v f) = constants_pass test f
 
 -- every number in a `const` of a formula is a constant (an inked value)
 abbrev pub inked : Formula → Bool
-inked f = constantsPass isConstant f
+inked f = constants_pass is_constant f
 
 -- A question: its formula, and its inked terms "by node and word", repeats included. A node's right child may
 -- have a lower number than its left one, so the order of the words is not that of the formula.
@@ -59,5 +59,5 @@ pub record Query : Type 0 where
   pub named : List ℕ
 
 -- every constant of a question is an inked value
-abbrev pub inkedQuery : Query → Bool
-inkedQuery q = inked q.formula && allConstant q.named
+abbrev pub inked_query : Query → Bool
+inked_query q = inked q.formula && all_constant q.named

@@ -13,11 +13,11 @@ and_then (read a s) next = next a s
 and_then (refused r) next = refused r
 
 -- the number of a reading: 0 if something was read
-abbrev pub readingNumber : {S A : Type 0} → Reading S A → ℕ
-readingNumber (read a s) = 0
-readingNumber (refused r) = r
+abbrev pub reading_number : {S A : Type 0} → Reading S A → ℕ
+reading_number (read a s) = 0
+reading_number (refused r) = r
 
 -- if the reading is refused, its number is one of these
-abbrev pub refusedIn : {S A : Type 0} → List ℕ → Reading S A → Bool
-refusedIn ns (read a s) = true
-refusedIn ns (refused r) = listed r ns
+abbrev pub refused_in : {S A : Type 0} → List ℕ → Reading S A → Bool
+refused_in ns (read a s) = true
+refused_in ns (refused r) = listed r ns

@@ -3,72 +3,72 @@
 use Rattle.std.specs.Prelude.{ℕ}
 
 -- "the program's input is over 16,384 bytes"
-abbrev pub input-too-long : ℕ
-input-too-long = 10
+abbrev pub input_too_long : ℕ
+input_too_long = 10
 
 -- "card or program input ends too soon"
 abbrev pub cut_short : ℕ
 cut_short = 11
 
 -- "sheet count not 1 to 8"
-abbrev pub bad-relation-count : ℕ
-bad-relation-count = 12
+abbrev pub bad_relation_count : ℕ
+bad_relation_count = 12
 
 -- "column count not 1 to 6"
-abbrev pub bad-arity : ℕ
-bad-arity = 13
+abbrev pub bad_arity : ℕ
+bad_arity = 13
 
 -- "a row names a sheet that the head lacks"
-abbrev pub no-such-relation : ℕ
-no-such-relation = 14
+abbrev pub no_such_relation : ℕ
+no_such_relation = 14
 
 -- "a bit stands for a column the sheet lacks"
-abbrev pub bit-beyond-arity : ℕ
-bit-beyond-arity = 15
+abbrev pub bit_beyond_arity : ℕ
+bit_beyond_arity = 15
 
 -- "a field or given number is no cell"
-abbrev pub not-a-cell : ℕ
-not-a-cell = 16
+abbrev pub not_a_cell : ℕ
+not_a_cell = 16
 
 -- "a blank would need a mark above 200"
-abbrev pub nulls-exhausted : ℕ
-nulls-exhausted = 17
+abbrev pub nulls_exhausted : ℕ
+nulls_exhausted = 17
 
 -- "bytes follow the last row, or the program's last field"
-abbrev pub bytes-left-over : ℕ
-bytes-left-over = 18
+abbrev pub bytes_left_over : ℕ
+bytes_left_over = 18
 
 -- "question not 8 to 800 words, or no multiple of 8"
-abbrev pub bad-query-length : ℕ
-bad-query-length = 21
+abbrev pub bad_query_length : ℕ
+bad_query_length = 21
 
 -- "kind not 1 to 7, an unnamed word not 0, or a term neither value nor variable"
-abbrev pub bad-node : ℕ
-bad-node = 22
+abbrev pub bad_node : ℕ
+bad_node = 22
 
 -- "child number not above its parent's, not below the node count, or named already; or a node above 0 that no earlier node names"
-abbrev pub bad-child : ℕ
-bad-child = 23
+abbrev pub bad_child : ℕ
+bad_child = 23
 
 -- "quantifier variable above 15, or a variable bound by nothing"
-abbrev pub unbound-variable : ℕ
-unbound-variable = 24
+abbrev pub unbound_variable : ℕ
+unbound_variable = 24
 
 -- "kind 1 names a sheet that the head lacks"
-abbrev pub no-such-query-relation : ℕ
-no-such-query-relation = 25
+abbrev pub no_such_query_relation : ℕ
+no_such_query_relation = 25
 
 -- "candidate over 6 cells, or holds a number that is no cell"
-abbrev pub bad-candidate : ℕ
-bad-candidate = 26
+abbrev pub bad_candidate : ℕ
+bad_candidate = 26
 
 -- "entered row's length is not the sheet's column count"
-abbrev pub wrong-row-length : ℕ
-wrong-row-length = 27
+abbrev pub wrong_row_length : ℕ
+wrong_row_length = 27
 
 -- "mark to fill not 1 to 200"
-abbrev pub no-such-null : ℕ
-no-such-null = 29
+abbrev pub no_such_null : ℕ
+no_such_null = 29
 
 -- "the plot breaks a rule of its section above, or its slice is shorter than the words in use"
 abbrev pub unsound : ℕ
@@ -79,30 +79,30 @@ abbrev pub no_room : ℕ
 no_room = 42
 
 -- "the mark to fill stands in no cell"
-abbrev pub null-absent : ℕ
-null-absent = 43
+abbrev pub null_absent : ℕ
+null_absent = 43
 
 -- "output shorter than the card, or census output under 200 words"
-abbrev pub output-too-short : ℕ
-output-too-short = 44
+abbrev pub output_too_short : ℕ
+output_too_short = 44
 
 -- Document 02, request 6: "The working list needs a word for each cell of the plot and each inked term"; "45 for this
 -- need"
-abbrev pub buffer-too-short : ℕ
-buffer-too-short = 45
+abbrev pub buffer_too_short : ℕ
+buffer_too_short = 45
 
 -- "the question's looks exceed the allowance (32 bits)"
-abbrev pub budget-spent : ℕ
-budget-spent = 46
+abbrev pub budget_spent : ℕ
+budget_spent = 46
 
 -- "the log lacks two words plus one per cell to note"
-abbrev pub log-too-short : ℕ
-log-too-short = 47
+abbrev pub log_too_short : ℕ
+log_too_short = 47
 
 -- "no word is in use"
-abbrev pub log-empty : ℕ
-log-empty = 48
+abbrev pub log_empty : ℕ
+log_empty = 48
 
 -- "the words in use exceed the log or fall short of the latest note, or that note has no mark from 1 to 200 or a place that is no cell of the plot"
-abbrev pub bad-log : ℕ
-bad-log = 49
+abbrev pub bad_log : ℕ
+bad_log = 49

@@ -3,7 +3,7 @@
 use Rattle.std.specs.Prelude.{ℕ, ◌≡◌, ◌↔◌}
 use mathlib.Core.List.{List, ◌∷◌, ◌++◌, Memᴰ}
 use Rattle.calculus.specs.Row.{Row, cells_of}
-use Rattle.calculus.specs.Domain.{distinct, domain, rangeOver}
+use Rattle.calculus.specs.Domain.{distinct, domain, range_over}
 
 -- v stands in cs where no w stood yet
 pub record Before (cs : List ℕ) (v w : ℕ) : Type 0 where
@@ -23,7 +23,7 @@ DomainIsValues = (rs : List Row) → ValuesOf (cells_of rs) (domain rs)
 
 -- document 02, request 6: the plot's cells and then the question's inked terms
 abbrev pub RangeIsValues : Type 0
-RangeIsValues = (named : List ℕ) (rs : List Row) → ValuesOf (cells_of rs ++ named) (rangeOver named rs)
+RangeIsValues = (named : List ℕ) (rs : List Row) → ValuesOf (cells_of rs ++ named) (range_over named rs)
 
 -- no other list has that meaning
 abbrev pub ValuesSettled : Type 0

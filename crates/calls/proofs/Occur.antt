@@ -4,35 +4,35 @@ use Rattle.calculus.specs.All.{all}
 use Rattle.calculus.specs.Eval.{eval}
 use Rattle.calculus.specs.Domain.{without, distinct}
 use Rattle.calculus.specs.Closed.{tuples, some, up_to, identical, stands, examined, equality}
-use Rattle.calculus.specs.Unify.{unifiesWith}
+use Rattle.calculus.specs.Unify.{unifies_with}
 use Rattle.calculus.specs.Fill.{count_of}
 use Rattle.calculus.specs.Row.{cells_of}
-use Rattle.calculus.specs.Cell.{isCell, put}
+use Rattle.calculus.specs.Cell.{is_cell, put}
 use Rattle.calculus.specs.Listed.{listed}
 use Rattle.calculus.specs.Table.{table}
-use Rattle.instance.specs.Header.{aritiesWellFormed, headerWellFormed}
-use Rattle.instance.specs.Rows.{wordsWellFormed, rows_from, words_of}
+use Rattle.instance.specs.Header.{arities_well_formed, header_well_formed}
+use Rattle.instance.specs.Rows.{words_well_formed, rows_from, words_of}
 use Rattle.instance.specs.Sound.{sound, rows}
 use Rattle.instance.specs.Insert.{enterable, inserted}
 use Rattle.instance.specs.Substitute.{substituted}
 use Rattle.instance.specs.NullCounts.{counted}
-use Rattle.instance.specs.Blanks.{blanksIn, blanks, highestOf, written_of, highest, numbered, numberedRows}
-use Rattle.log.specs.Places.{isPlace}
-use Rattle.log.specs.Log.{entryWellFormed, undone}
-use Rattle.parse.specs.Parse.{readByte, readEach}
-use Rattle.parse.specs.Number.{readDigits}
-use Rattle.card.specs.Format.{read_head, readField, readFields, readRecord, readCard}
-use Rattle.card.specs.Decode.{accepted, decodedFrom, decoded}
-use Rattle.card.specs.Encode.{fieldsBytes, recordsBytes, cardBytes, encoded}
-use Rattle.query.specs.Words.{rightLength, kind_of}
-use Rattle.query.specs.Tree.{termOf, termsAt, formulaAt}
-use Rattle.query.specs.Named.{namedFrom, inkedAt}
-use Rattle.query.specs.Check.{zerosFrom, checkTerms, checkChild, checkNode, checkNodes, checkQuery}
+use Rattle.instance.specs.Blanks.{blanks_in, blanks, highest_of, written_of, highest, numbered, numbered_rows}
+use Rattle.log.specs.Places.{is_place}
+use Rattle.log.specs.Log.{entry_well_formed, undone}
+use Rattle.parse.specs.Parse.{read_byte, read_each}
+use Rattle.parse.specs.Number.{read_digits}
+use Rattle.card.specs.Format.{read_head, read_field, read_fields, read_record, read_card}
+use Rattle.card.specs.Decode.{accepted, decoded_from, decoded}
+use Rattle.card.specs.Encode.{fields_bytes, records_bytes, card_bytes, encoded}
+use Rattle.query.specs.Words.{right_length, kind_of}
+use Rattle.query.specs.Tree.{term_of, terms_at, formula_at}
+use Rattle.query.specs.Named.{named_from, inked_at}
+use Rattle.query.specs.Check.{zeros_from, check_terms, check_child, check_node, check_nodes, check_query}
 use Rattle.evaluate.specs.Within.{within}
 use Rattle.answer.specs.Ask.{admitted, askable, ask}
 use Rattle.rerun.specs.Rerun.{reran}
 use Rattle.calls.specs.Occur.{EveryNumberOccurs}
 
-pub every-number-occurs : EveryNumberOccurs
-unfolding all table eval without distinct tuples some identical stands up_to examined equality unifiesWith count_of cells_of isCell put listed aritiesWellFormed headerWellFormed wordsWellFormed rows_from words_of sound rows enterable inserted substituted counted blanksIn blanks highestOf written_of highest numbered numberedRows isPlace entryWellFormed undone readByte readEach readDigits read_head readField readFields readRecord readCard accepted decodedFrom decoded fieldsBytes recordsBytes cardBytes encoded rightLength kind_of termOf termsAt formulaAt zerosFrom checkTerms checkChild checkNode checkNodes checkQuery within admitted askable ask reran namedFrom inkedAt
-every-number-occurs = (refl, refl)
+pub every_number-occurs : EveryNumberOccurs
+unfolding all table eval without distinct tuples some identical stands up_to examined equality unifies_with count_of cells_of is_cell put listed arities_well_formed header_well_formed words_well_formed rows_from words_of sound rows enterable inserted substituted counted blanks_in blanks highest_of written_of highest numbered numbered_rows is_place entry_well_formed undone read_byte read_each read_digits read_head read_field read_fields read_record read_card accepted decoded_from decoded fields_bytes records_bytes card_bytes encoded right_length kind_of term_of terms_at formula_at zeros_from check_terms check_child check_node check_nodes check_query within admitted askable ask reran named_from inked_at
+every_number-occurs = (refl, refl)

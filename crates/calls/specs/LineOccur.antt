@@ -5,15 +5,15 @@ use Rattle.calculus.specs.Cell.{constants}
 use Rattle.calculus.specs.Padded.{padded}
 use Rattle.calculus.specs.Row.{Row}
 use Rattle.instance.specs.declared.header.Header.{Header}
-use Rattle.instance.specs.Header.{maxRelations, maxWords}
-use Rattle.instance.specs.Sound.{headerFor}
-use Rattle.card.specs.Encode.{fieldBytes, cardBytes}
-use Rattle.query.specs.Tree.{variableBase}
-use Rattle.answer.specs.Numbers.{askedNumber}
-use Rattle.line.specs.Fields.{maxInput}
+use Rattle.instance.specs.Header.{max_relations, max_words}
+use Rattle.instance.specs.Sound.{header_for}
+use Rattle.card.specs.Encode.{field_bytes, card_bytes}
+use Rattle.query.specs.Tree.{variable_base}
+use Rattle.answer.specs.Numbers.{asked_number}
+use Rattle.line.specs.Fields.{max_input}
 use Rattle.line.specs.Line.{answered}
-use Rattle.calls.specs.LineNumbers.{lineNumbers}
-use Rattle.calls.specs.Occur.{badCards}
+use Rattle.calls.specs.LineNumbers.{line_numbers}
+use Rattle.calls.specs.Occur.{bad_cards}
 
 -- high byte first
 abbrev two : ℕ → List ℕ
@@ -33,41 +33,41 @@ equal = node 2 5 5
 abbrev input : List ℕ → List ℕ → List ℕ → ℕ → List ℕ
 input card question candidate budget = two (length card) ++ card ++ question ++ candidate ++ four budget
 
-abbrev noCandidate : List ℕ
-noCandidate = 0 ∷ []
+abbrev no_candidate : List ℕ
+no_candidate = 0 ∷ []
 
 -- one relation of one column, with no rows; and with one row more than 4,096 words hold
 abbrev empty : List ℕ
 empty = 1 ∷ 1 ∷ 0 ∷ 0 ∷ []
 
-abbrev pub manyRows : List Row
-manyRows = replicate (maxWords / 2 + 1) (record { relation = 0; cells = 5 ∷ [] })
+abbrev pub many_rows : List Row
+many_rows = replicate (max_words / 2 + 1) (record { relation = 0; cells = 5 ∷ [] })
 
-abbrev pub oneSheet : Header
-oneSheet = headerFor 1 (padded maxRelations (1 ∷ [])) []
+abbrev pub one_sheet : Header
+one_sheet = header_for 1 (padded max_relations (1 ∷ [])) []
 
-abbrev pub tooLong : List ℕ
-tooLong = replicate (maxInput + 1) 0
+abbrev pub too_long_card : List ℕ
+too_long_card = replicate (max_input + 1) 0
 
-abbrev pub tooMany : List ℕ
-tooMany = input (cardBytes oneSheet manyRows) equal noCandidate 1
+abbrev pub too_many_cells : List ℕ
+too_many_cells = input (card_bytes one_sheet many_rows) equal no_candidate 1
 
 -- 10, 11, 18; then the card's, 42 last; then the question's
 abbrev pub line_inputs : List (List ℕ)
 line_inputs =
-    tooLong
+    too_long_card
     ∷ []
-    ∷ (input empty equal noCandidate 1 ++ 0 ∷ [])
-    ∷ (map (λ card. input card equal noCandidate 1) badCards
-    ++ (tooMany
-    ∷ input empty (two 0) noCandidate 1
-    ∷ input empty equal (1 ∷ fieldBytes constants) 1
-    ∷ input empty (node 3 0 0) noCandidate 1
-    ∷ input empty (node 8 0 0) noCandidate 1
-    ∷ input empty (node 1 1 0) noCandidate 1
-    ∷ input empty (node 2 variableBase 5) noCandidate 1
-    ∷ input empty equal noCandidate 0
+    ∷ (input empty equal no_candidate 1 ++ 0 ∷ [])
+    ∷ (map (λ card. input card equal no_candidate 1) bad_cards
+    ++ (too_many_cells
+    ∷ input empty (two 0) no_candidate 1
+    ∷ input empty equal (1 ∷ field_bytes constants) 1
+    ∷ input empty (node 3 0 0) no_candidate 1
+    ∷ input empty (node 8 0 0) no_candidate 1
+    ∷ input empty (node 1 1 0) no_candidate 1
+    ∷ input empty (node 2 variable_base 5) no_candidate 1
+    ∷ input empty equal no_candidate 0
     ∷ []))
 
 abbrev pub EveryLineNumberOccurs : Type 0
-EveryLineNumberOccurs = map (λ i. askedNumber (answered i)) line_inputs ≡ lineNumbers
+EveryLineNumberOccurs = map (λ i. asked_number (answered i)) line_inputs ≡ line_numbers

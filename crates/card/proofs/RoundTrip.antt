@@ -12,83 +12,83 @@ use Rattle.calculus.specs.declared.answer.Answer.TheVariants.{Done}
 use Rattle.calculus.specs.Cell.{nulls}
 use Rattle.calculus.specs.Overwrite.{overwrite}
 use Rattle.calculus.specs.Reading.{read}
-use Rattle.calculus.specs.Refusal.{unsound, output-too-short}
+use Rattle.calculus.specs.Refusal.{unsound, output_too_short}
 use Rattle.calculus.specs.Row.{Row}
-use Rattle.calculus.proofs.Answers.{demand-done}
+use Rattle.calculus.proofs.Answers.{demand_done}
 use Rattle.instance.specs.declared.header.Header.{Header}
-use Rattle.instance.specs.Header.{headerWellFormed, maxRelations, maxWords}
+use Rattle.instance.specs.Header.{header_well_formed, max_relations, max_words}
 use Rattle.instance.specs.Blanks.{highest}
-use Rattle.instance.specs.Rows.{rowsWellFormed, words_of}
-use Rattle.instance.specs.Sound.{sound, rows, headerFor}
-use Rattle.instance.proofs.Blanks.{fullRecord, no-blanks, numbered-rows, highest-full}
-use Rattle.instance.proofs.Rows.{rows-at-most}
-use Rattle.instance.proofs.Sound.{sound-gives}
-use Rattle.card.specs.Format.{Card, readCard}
-use Rattle.card.specs.Encode.{recordsBytes, cardBytes, encoded, encodedBytes}
-use Rattle.card.specs.Decode.{accepted, decodedFrom, decoded}
-use Rattle.card.proofs.Bytes.{read-records, read-head}
+use Rattle.instance.specs.Rows.{rows_well_formed, words_of}
+use Rattle.instance.specs.Sound.{sound, rows, header_for}
+use Rattle.instance.proofs.Blanks.{full_record, no_blanks, numbered_rows_lem, highest_full}
+use Rattle.instance.proofs.Rows.{rows_at_most}
+use Rattle.instance.proofs.Sound.{sound_gives}
+use Rattle.card.specs.Format.{Card, read_card}
+use Rattle.card.specs.Encode.{records_bytes, card_bytes, encoded, encoded_bytes}
+use Rattle.card.specs.Decode.{accepted, decoded_from, decoded}
+use Rattle.card.proofs.Bytes.{read_records_lem, read_head_lem}
 
 -- the card that has a full record for each row
-abbrev pub fullCard : Header → List Row → Card
-fullCard h rs = record {
+abbrev pub full_card : Header → List Row → Card
+full_card h rs = record {
   head = record { relations = h.relations; arities = h.arities; count = length rs };
-  records = map fullRecord rs;
+  records = map full_record rs;
 }
 
-module _ (h : Header) (rs : List Row) (well-formed : headerWellFormed h.relations h.arities ≡ true) (eight : length h.arities ≡ maxRelations)
-    (ss : rowsWellFormed h.relations h.arities rs ≡ true) (fits : length (words_of rs) ≤ maxWords) where
-  pub read-card : readCard (cardBytes h rs) ≡ read (fullCard h rs) []
-  unfolding readCard cardBytes
-  read-card =
-      let few : length rs < 256 ^ 2 = omega (arith, rows-at-most rs) in
-      let each = rw append-nil at (read-records h.relations h.arities rs [] ss) in
-      rw (read-head h (length rs) (recordsBytes rs) well-formed eight few, each)
+module _ (h : Header) (rs : List Row) (well_formed : header_well_formed h.relations h.arities ≡ true) (eight : length h.arities ≡ max_relations)
+    (ss : rows_well_formed h.relations h.arities rs ≡ true) (fits : length (words_of rs) ≤ max_words) where
+  pub read_card_lem : read_card (card_bytes h rs) ≡ read (full_card h rs) []
+  unfolding read_card card_bytes
+  read_card_lem =
+      let few : length rs < 256 ^ 2 = omega (arith, rows_at_most rs) in
+      let each = rw append-nil at (read_records_lem h.relations h.arities rs [] ss) in
+      rw (read_head_lem h (length rs) (records_bytes rs) well_formed eight few, each)
 
-  pub decode-rows : (slice : List ℕ) → length (words_of rs) ≤ length slice
-      → decoded (cardBytes h rs) slice ≡ record {
+  pub decode_rows : (slice : List ℕ) → length (words_of rs) ≤ length slice
+      → decoded (card_bytes h rs) slice ≡ record {
         answer = Done (length (words_of rs));
-        header = headerFor h.relations h.arities rs;
+        header = header_for h.relations h.arities rs;
         words = overwrite (words_of rs) slice;
       }
-  unfolding decoded decodedFrom accepted
-  decode-rows slice l =
-      let low : leb (highest (map fullRecord rs) + 0) nulls ≡ true = le-leb (highest (map fullRecord rs) + 0) nulls (omega (arith, highest-full h.relations h.arities rs ss)) in
-      let words : leb (length (words_of rs)) maxWords ≡ true = le-leb (length (words_of rs)) maxWords fits in
+  unfolding decoded decoded_from accepted
+  decode_rows slice l =
+      let low : leb (highest (map full_record rs) + 0) nulls ≡ true = le-leb (highest (map full_record rs) + 0) nulls (omega (arith, highest_full h.relations h.arities rs ss)) in
+      let words : leb (length (words_of rs)) max_words ≡ true = le-leb (length (words_of rs)) max_words fits in
       let room : leb (length (words_of rs)) (length slice) ≡ true = le-leb (length (words_of rs)) (length slice) l in
-      rw (read-card, no-blanks rs, low, numbered-rows (suc (highest (map fullRecord rs))) rs, words, room)
+      rw (read_card_lem, no_blanks rs, low, numbered_rows_lem (suc (highest (map full_record rs))) rs, words, room)
 
 -- "The writer writes every column, so its card reads back to the same head and words."
-pub decode-encode : (h : Header) (ws slice : List ℕ) → sound h ws ≡ true → length h.arities ≡ maxRelations → h.used ≤ length slice
-    → decoded (cardBytes h (rows h ws)) slice ≡ record {
+pub decode_encode : (h : Header) (ws slice : List ℕ) → sound h ws ≡ true → length h.arities ≡ max_relations → h.used ≤ length slice
+    → decoded (card_bytes h (rows h ws)) slice ≡ record {
       answer = Done h.used;
       header = h;
       words = take h.used ws ++ drop h.used slice;
     }
-decode-encode h ws slice e eight room =
-    let s = sound-gives h ws e in
+decode_encode h ws slice e eight room =
+    let s = sound_gives h ws e in
     let size : length (words_of (rows h ws)) ≡ h.used = ap length s.words ∙ s.in_use in
-    let few : h.used ≤ maxWords = s.few in
-    let whole = decode-rows h (rows h ws) s.well-formed.header eight s.rows-well-formed (omega arith) slice (omega arith) in
+    let few : h.used ≤ max_words = s.few in
+    let whole = decode_rows h (rows h ws) s.well_formed.header eight s.rows_well_formed_lem (omega arith) slice (omega arith) in
     rw (s.header, size, s.words) at whole
 
 -- if encode is accepted, the instance is sound and the card has n bytes
-encoded-told : (h : Header) (ws out : List ℕ) (n : ℕ) → encoded h ws out ≡ Done n → (sound h ws ≡ true) × (length (cardBytes h (rows h ws)) ≡ n)
+encoded-told : (h : Header) (ws out : List ℕ) (n : ℕ) → encoded h ws out ≡ Done n → (sound h ws ≡ true) × (length (card_bytes h (rows h ws)) ≡ n)
 unfolding encoded
 encoded-told h ws out n e =
-    let size = length (cardBytes h (rows h ws)) in
-    let p = demand-done (sound h ws) unsound _ n e in
-    let q = demand-done (leb size (length out)) output-too-short (Done size) n p.1 in
+    let size = length (card_bytes h (rows h ws)) in
+    let p = demand_done (sound h ws) unsound _ n e in
+    let q = demand_done (leb size (length out)) output_too_short (Done size) n p.1 in
     (p.0, cc q.1)
 
 -- the bytes that encode wrote read back
-pub read_back : (h : Header) (ws out slice : List ℕ) (n : ℕ) → length h.arities ≡ maxRelations → encoded h ws out ≡ Done n → h.used ≤ length slice
-    → decoded (take n (encodedBytes h ws out)) slice ≡ record {
+pub read_back : (h : Header) (ws out slice : List ℕ) (n : ℕ) → length h.arities ≡ max_relations → encoded h ws out ≡ Done n → h.used ≤ length slice
+    → decoded (take n (encoded_bytes h ws out)) slice ≡ record {
       answer = Done h.used;
       header = h;
       words = take h.used ws ++ drop h.used slice;
     }
-unfolding encodedBytes
+unfolding encoded_bytes
 read_back h ws out slice n eight e room =
-    let card = cardBytes h (rows h ws) in
+    let card = card_bytes h (rows h ws) in
     let p = encoded-told h ws out n e in
-    rw (e, ← p.1, take-append_seam card (drop (length card) out)) (decode-encode h ws slice p.0 eight room)
+    rw (e, ← p.1, take-append_seam card (drop (length card) out)) (decode_encode h ws slice p.0 eight room)

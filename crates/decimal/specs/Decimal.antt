@@ -6,14 +6,14 @@ abbrev pub digit : ℕ → ℕ
 digit d = 48 + d
 
 -- the digits of n, the last one after those of n / 10; each step divides by 10, so n steps suffice
-unfoldable pub digitsIn : ℕ → ℕ → List ℕ
-digitsIn zero n = digit n ∷ []
-digitsIn (suc steps) n = cond (ltb n 10) (digit n ∷ []) (digitsIn steps (n / 10) ++ digit (n % 10) ∷ [])
+unfoldable pub digits_in : ℕ → ℕ → List ℕ
+digits_in zero n = digit n ∷ []
+digits_in (suc steps) n = cond (ltb n 10) (digit n ∷ []) (digits_in steps (n / 10) ++ digit (n % 10) ∷ [])
 
 -- without leading zeros; the digits of 0 are "0"
 abbrev pub digits : ℕ → List ℕ
-digits n = digitsIn n n
+digits n = digits_in n n
 
 -- no number of 32 bits has more digits
-abbrev pub maxDigits : ℕ
-maxDigits = 10
+abbrev pub max_digits : ℕ
+max_digits = 10

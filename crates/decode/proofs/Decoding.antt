@@ -14,113 +14,113 @@ use Rattle.calculus.specs.declared.answer.Answer.TheVariants.{Done, Refused}
 use Rattle.calculus.specs.Cell.{nulls}
 use Rattle.calculus.specs.Overwrite.{overwrite}
 use Rattle.calculus.specs.Reading.{read, refused, and_then}
-use Rattle.calculus.specs.Refusal.{bytes-left-over, nulls-exhausted, no_room}
-use Rattle.calculus.proofs.Bools.{and_parts, zero-not-one}
+use Rattle.calculus.specs.Refusal.{bytes_left_over, nulls_exhausted, no_room}
+use Rattle.calculus.proofs.Bools.{and_parts, zero_not_one}
 use Rattle.instance.specs.declared.header.Header.{Header}
-use Rattle.instance.specs.Header.{aritiesWellFormed, maxColumns, maxWords, headerWith}
-use Rattle.instance.specs.Blanks.{Record, blanksIn, blanks, highest, highestIn, numbered, numberedRows}
-use Rattle.instance.specs.Room.{hasRoom}
-use Rattle.instance.specs.RowCounts.{rowCounts}
+use Rattle.instance.specs.Header.{arities_well_formed, max_columns, max_words, header_with}
+use Rattle.instance.specs.Blanks.{Record, blanks_in, blanks, highest, highest_in, numbered, numbered_rows}
+use Rattle.instance.specs.Room.{has_room}
+use Rattle.instance.specs.RowCounts.{row_counts}
 use Rattle.instance.specs.Rows.{words_of}
 use Rattle.instance.proofs.Blanks.{numbered-length}
-use Rattle.instance.proofs.Rows.{arity-low}
+use Rattle.instance.proofs.Rows.{arity_low}
 use Rattle.parse.specs.Parse.{Parsed}
 use Rattle.parse.proofs.Each.{each_read}
-use Rattle.card.specs.Format.{Head, readRecord, readRecords, read_head, readCard}
-use Rattle.card.specs.Decode.{Decoded, decoded, decodedFrom, accepted, no_header}
+use Rattle.card.specs.Format.{Head, read_record, read_records, read_head, read_card}
+use Rattle.card.specs.Decode.{Decoded, decoded, decoded_from, accepted, no_header}
 use Rattle.decode.specs.declared.measure.Total.{Total}
 use Rattle.decode.specs.declared.measure.Needed.TheVariants as needed
-use Rattle.decode.specs.Measure.{openedHead, measuredRecords, words_in, total}
-use Rattle.decode.specs.Write.{WriteRows, rowsRead, wordsRead}
-use Rattle.decode.proofs.Fields.{written-or-blank}
+use Rattle.decode.specs.Measure.{opened_head, measured_records, words_in, total}
+use Rattle.decode.specs.Write.{WriteRows, rows_read, words_read}
+use Rattle.decode.proofs.Fields.{written_or_blank}
 use Rattle.decode.proofs.Records.{record-read}
 use Rattle.decode.proofs.Opening.{Opened}
 
 -- the number of words of records does not depend on the nulls that blanks get
-words_count : (m : ℕ) (rs : List Record) → length (words_of (numberedRows m rs)) ≡ words_in rs
-unfolding words_of numberedRows words_in
+words_count : (m : ℕ) (rs : List Record) → length (words_of (numbered_rows m rs)) ≡ words_in rs
+unfolding words_of numbered_rows words_in
 words_count m [] = refl
 words_count m (r ∷ rs) =
     let row = numbered-length m r.fields in
-    let rest = words_count (m + blanksIn r.fields) rs in
-    let joined = length-append (numbered m r.fields) (words_of (numberedRows (m + blanksIn r.fields) rs)) in
+    let rest = words_count (m + blanks_in r.fields) rs in
+    let joined = length-append (numbered m r.fields) (words_of (numbered_rows (m + blanks_in r.fields) rs)) in
     omega arith
 
 -- what holds of records that were read
 pub record RecordsRead (n : ℕ) (bs : List ℕ) (rs : List Record) (rest : List ℕ) : Type 0 where
   pub shorter : length rest ≤ length bs
   pub low : highest rs ≤ nulls
-  pub few : blanks rs ≤ maxColumns * n
+  pub few : blanks rs ≤ max_columns * n
 
 records-none : (bs : List ℕ) → RecordsRead 0 bs [] bs
 unfolding highest blanks
 records-none bs = record { shorter = omega arith; low = omega arith; few = omega arith }
 
-module _ (n : ℕ) (ars : List ℕ) (arities-well-formed : aritiesWellFormed n ars ≡ true) where
-  one_more : (k : ℕ) (bs : List ℕ) (r : Record) (between : List ℕ) (rs : List Record) (rest : List ℕ) → readRecord n ars bs ≡ read r between
+module _ (n : ℕ) (ars : List ℕ) (arities_well_formed_lem : arities_well_formed n ars ≡ true) where
+  one_more : (k : ℕ) (bs : List ℕ) (r : Record) (between : List ℕ) (rs : List Record) (rest : List ℕ) → read_record n ars bs ≡ read r between
       → RecordsRead k between rs rest → RecordsRead (suc k) bs (r ∷ rs) rest
   unfolding highest blanks
   one_more k bs r between rs rest e s =
       let q = record-read n ars bs e in
       let shorter : length between ≡ length bs - (2 + 3 * ones (get_or bs 1 0)) = ap length q.after ∙ length-drop (2 + 3 * ones (get_or bs 1 0)) bs in
-      let narrow : blanksIn r.fields ≤ maxColumns = omega (arith, written-or-blank r.fields, q.columns, arity-low n ars (get_or bs 0 0) arities-well-formed) in
-      let low : highestIn r.fields ≤ nulls = q.low in
+      let narrow : blanks_in r.fields ≤ max_columns = omega (arith, written_or_blank r.fields, q.columns, arity_low n ars (get_or bs 0 0) arities_well_formed_lem) in
+      let low : highest_in r.fields ≤ nulls = q.low in
       record { shorter = omega (arith, s.shorter); low = omega (arith, s.low); few = omega (arith, s.few) }
 
-  records-read : (k : ℕ) (bs : List ℕ) {rs : List Record} {rest : List ℕ} → readRecords n ars k bs ≡ read rs rest → RecordsRead k bs rs rest
-  records-read = each_read (readRecord n ars) RecordsRead records-none one_more
+  records-read : (k : ℕ) (bs : List ℕ) {rs : List Record} {rest : List ℕ} → read_records n ars k bs ≡ read rs rest → RecordsRead k bs rs rest
+  records-read = each_read (read_record n ars) RecordsRead records-none one_more
 
 -- what a refused call returns, and the slice that it leaves
-abbrev pub turnedDown : ℕ → List ℕ → Decoded
-turnedDown why slice = record { answer = Refused why; header = no_header; words = slice }
+abbrev pub turned_down : ℕ → List ℕ → Decoded
+turned_down why slice = record { answer = Refused why; header = no_header; words = slice }
 
 module _ (card slice : List ℕ) where
   -- if a call is refused, its answer and header are those of the definition, and the slice keeps its content
-  pub down : {a : Answer} {header : Header} (why : ℕ) → a ≡ Refused why → header ≡ no_header → decoded card slice ≡ turnedDown why slice
+  pub down : {a : Answer} {header : Header} (why : ℕ) → a ≡ Refused why → header ≡ no_header → decoded card slice ≡ turned_down why slice
       → (a ≡ (decoded card slice).answer) × ((header ≡ (decoded card slice).header) × (slice ≡ (decoded card slice).words))
   down why p q e = rw (p, q, e) (refl, (refl, refl))
 
-  pub head-turned : (why : ℕ) → (openedHead (read_head card)).answer ≡ Refused why → decoded card slice ≡ turnedDown why slice
-  unfolding decoded decodedFrom readCard openedHead
-  head-turned why = go (read_head card)
+  pub head_turned : (why : ℕ) → (opened_head (read_head card)).answer ≡ Refused why → decoded card slice ≡ turned_down why slice
+  unfolding decoded decoded_from read_card opened_head
+  head_turned why = go (read_head card)
     where
-      go : (p : Parsed Head) → (openedHead p).answer ≡ Refused why
-          → decodedFrom
+      go : (p : Parsed Head) → (opened_head p).answer ≡ Refused why
+          → decoded_from
           (and_then p
-          (λ h bs. and_then (readRecords h.relations h.arities h.count bs) (λ rs bs. read (record { head = h; records = rs }) bs)))
+          (λ h bs. and_then (read_records h.relations h.arities h.count bs) (λ rs bs. read (record { head = h; records = rs }) bs)))
           slice
-          ≡ turnedDown why slice
-      go (read h rest) a = let z : ◌≡◌ {A = ℕ} 0 1 = cc in absurd (zero-not-one z)
+          ≡ turned_down why slice
+      go (read h rest) a = let z : ◌≡◌ {A = ℕ} 0 1 = cc in absurd (zero_not_one z)
       go (refused r) a = cc
 
   module _ (n : ℕ) (ars : List ℕ) (count : ℕ) (h : Opened card n ars count) where
-    pub records-turned : (why : ℕ) → measuredRecords (length card) (readRecords n ars count (drop (n + 3) card)) ≡ needed.Refused why
-        → decoded card slice ≡ turnedDown why slice
-    unfolding decoded decodedFrom readCard measuredRecords
-    records-turned why e = rw h.was_read (go (readRecords n ars count (drop (n + 3) card)) e)
+    pub records_turned : (why : ℕ) → measured_records (length card) (read_records n ars count (drop (n + 3) card)) ≡ needed.Refused why
+        → decoded card slice ≡ turned_down why slice
+    unfolding decoded decoded_from read_card measured_records
+    records_turned why e = rw h.was_read (go (read_records n ars count (drop (n + 3) card)) e)
       where
-        go : (p : Parsed (List Record)) → measuredRecords (length card) p ≡ needed.Refused why
-            → decodedFrom (and_then p (λ rs bs. read (record { head = record { relations = n; arities = ars; count = count }; records = rs }) bs)) slice
-            ≡ turnedDown why slice
-        go (read rs rest) a = let z : ◌≡◌ {A = ℕ} 0 1 = cc in absurd (zero-not-one z)
+        go : (p : Parsed (List Record)) → measured_records (length card) p ≡ needed.Refused why
+            → decoded_from (and_then p (λ rs bs. read (record { head = record { relations = n; arities = ars; count = count }; records = rs }) bs)) slice
+            ≡ turned_down why slice
+        go (read rs rest) a = let z : ◌≡◌ {A = ℕ} 0 1 = cc in absurd (zero_not_one z)
         go (refused r) a = cc
 
     -- a card all of whose records were read
     pub record CardRead (t : Total) : Type 0 where
       pub records : List Record
       pub rest : List ℕ
-      pub was_read : readRecords n ars count (drop (n + 3) card) ≡ read records rest
+      pub was_read : read_records n ars count (drop (n + 3) card) ≡ read records rest
       pub whole :
           decoded card slice
-          ≡ decodedFrom (read (record { head = record { relations = n; arities = ars; count = count }; records = records }) rest) slice
+          ≡ decoded_from (read (record { head = record { relations = n; arities = ars; count = count }; records = records }) rest) slice
       pub total-is : t ≡ total (length card) records rest
       pub known : RecordsRead count (drop (n + 3) card) records rest
 
-    pub card-read : (t : Total) → measuredRecords (length card) (readRecords n ars count (drop (n + 3) card)) ≡ needed.Records t → CardRead t
-    unfolding decoded decodedFrom readCard measuredRecords
-    card-read t e = go (readRecords n ars count (drop (n + 3) card)) refl e
+    pub card-read : (t : Total) → measured_records (length card) (read_records n ars count (drop (n + 3) card)) ≡ needed.Records t → CardRead t
+    unfolding decoded decoded_from read_card measured_records
+    card-read t e = go (read_records n ars count (drop (n + 3) card)) refl e
       where
-        go : (p : Parsed (List Record)) → readRecords n ars count (drop (n + 3) card) ≡ p → measuredRecords (length card) p ≡ needed.Records t
+        go : (p : Parsed (List Record)) → read_records n ars count (drop (n + 3) card) ≡ p → measured_records (length card) p ≡ needed.Records t
             → CardRead t
         go (read rs rest) e a = record {
           records = rs;
@@ -128,9 +128,9 @@ module _ (card slice : List ℕ) where
           was_read = e;
           whole = rw (h.was_read, e);
           total-is = cc;
-          known = records-read n ars h.arities-well-formed count (drop (n + 3) card) e;
+          known = records-read n ars h.arities_well_formed_lem count (drop (n + 3) card) e;
         }
-        go (refused r) e a = let z : ◌≡◌ {A = ℕ} 0 1 = cc in absurd (zero-not-one z)
+        go (refused r) e a = let z : ◌≡◌ {A = ℕ} 0 1 = cc in absurd (zero_not_one z)
 
     module _ (t : Total) (c : CardRead t) where
       end_is : t.end ≡ length card - length c.rest
@@ -142,11 +142,11 @@ module _ (card slice : List ℕ) where
       next-is : t.highest + 1 ≡ suc (highest c.records)
       next-is = rw c.total-is (add-one (highest c.records))
 
-      size : (m : ℕ) → length (words_of (numberedRows m c.records)) ≡ t.words
+      size : (m : ℕ) → length (words_of (numbered_rows m c.records)) ≡ t.words
       size m = rw c.total-is (words_count m c.records)
 
       -- the rows are those that the second pass writes
-      rows_are : rowsRead n ars count (t.highest + 1) (drop (n + 3) card) ≡ numberedRows (suc (highest c.records)) c.records
+      rows_are : rows_read n ars count (t.highest + 1) (drop (n + 3) card) ≡ numbered_rows (suc (highest c.records)) c.records
       rows_are = rw (c.was_read, next-is)
 
       inside : length c.rest ≤ length card
@@ -159,44 +159,44 @@ module _ (card slice : List ℕ) where
       enough : t.highest + t.blanks ≤ nulls → leb (highest c.records + blanks c.records) nulls ≡ true
       enough m = le-leb (highest c.records + blanks c.records) nulls (omega (arith, sum_is))
 
-      pub sum_fits : t.highest + t.blanks ≤ nulls + maxColumns * count
+      pub sum_fits : t.highest + t.blanks ≤ nulls + max_columns * count
       sum_fits = omega (arith, sum_is, c.known.low, c.known.few)
 
       -- the tests, in their order
 
-      pub left_over : t.end < length card → decoded card slice ≡ turnedDown bytes-left-over slice
-      unfolding decodedFrom accepted
+      pub left_over : t.end < length card → decoded card slice ≡ turned_down bytes_left_over slice
+      unfolding decoded_from accepted
       left_over l = c.whole ∙ rw (ne_eqb (length c.rest) 0 (λ e. omega (arith, end_is)))
 
-      pub exhausted : length card ≤ t.end → nulls < t.highest + t.blanks → decoded card slice ≡ turnedDown nulls-exhausted slice
-      unfolding decodedFrom accepted
+      pub exhausted : length card ≤ t.end → nulls < t.highest + t.blanks → decoded card slice ≡ turned_down nulls_exhausted slice
+      unfolding decoded_from accepted
       exhausted l m = c.whole ∙ rw (ends l, lt-leb (highest c.records + blanks c.records) nulls (omega (arith, sum_is)))
 
-      pub too_small : length card ≤ t.end → t.highest + t.blanks ≤ nulls → hasRoom t.words (length slice) ≡ false
-          → decoded card slice ≡ turnedDown no_room slice
-      unfolding decodedFrom accepted
+      pub too_small : length card ≤ t.end → t.highest + t.blanks ≤ nulls → has_room t.words (length slice) ≡ false
+          → decoded card slice ≡ turned_down no_room slice
+      unfolding decoded_from accepted
       too_small l m r = c.whole ∙ rw (ends l, enough m, size (suc (highest c.records)), r)
 
-      pub may_write : t.highest + t.blanks ≤ nulls → hasRoom t.words (length slice) ≡ true → WriteRows slice card n ars count (t.highest + 1)
+      pub may_write : t.highest + t.blanks ≤ nulls → has_room t.words (length slice) ≡ true → WriteRows slice card n ars count (t.highest + 1)
       may_write m r =
-          let p = and_parts (leb t.words maxWords) (leb t.words (length slice)) r in
+          let p = and_parts (leb t.words max_words) (leb t.words (length slice)) r in
           let fits : t.words ≤ length slice = leb-true t.words (length slice) p.1 in
-          let short : t.words ≤ maxWords = leb-true t.words maxWords p.0 in
+          let short : t.words ≤ max_words = leb-true t.words max_words p.0 in
           record {
             few = h.few;
-            narrow = λ x known. arity-low n ars x h.arities-well-formed;
+            narrow = λ x known. arity_low n ars x h.arities_well_formed_lem;
             reads = rw c.was_read;
             free = rw c.was_read (omega (arith, sum_is, next-is));
             short = rw c.was_read (omega (arith, size (t.highest + 1)));
             room = rw c.was_read (omega (arith, size (t.highest + 1)));
           }
 
-      pub all_hold : length card ≤ t.end → t.highest + t.blanks ≤ nulls → hasRoom t.words (length slice) ≡ true
+      pub all_hold : length card ≤ t.end → t.highest + t.blanks ≤ nulls → has_room t.words (length slice) ≡ true
           → decoded card slice
           ≡ record {
             answer = Done t.words;
-            header = headerWith n ars t.words (rowCounts (rowsRead n ars count (t.highest + 1) (drop (n + 3) card)));
-            words = overwrite (wordsRead n ars count (t.highest + 1) (drop (n + 3) card)) slice;
+            header = header_with n ars t.words (row_counts (rows_read n ars count (t.highest + 1) (drop (n + 3) card)));
+            words = overwrite (words_read n ars count (t.highest + 1) (drop (n + 3) card)) slice;
           }
-      unfolding decodedFrom accepted
+      unfolding decoded_from accepted
       all_hold l m r = c.whole ∙ rw (rows_are, ends l, enough m, size (suc (highest c.records)), r)

@@ -11,33 +11,33 @@ use borrow.Author.Tests.{leb-true}
 use Rattle.calculus.specs.declared.answer.Answer.TheVariants.{Done, Refused}
 use Rattle.calculus.specs.Padded.{padded}
 use Rattle.calculus.specs.Reading.{read, refused, and_then}
-use Rattle.calculus.specs.Refusal.{cut_short, bad-relation-count, bad-arity}
-use Rattle.calculus.proofs.Bools.{and_parts, zero-not-one}
-use Rattle.calculus.proofs.Padded.{padded-more}
-use Rattle.instance.specs.Header.{isArity, aritiesWellFormed, maxRelations}
-use Rattle.parse.specs.Parse.{Parsed, readEach}
-use Rattle.parse.specs.Number.{readNumber}
+use Rattle.calculus.specs.Refusal.{cut_short, bad_relation_count, bad_arity}
+use Rattle.calculus.proofs.Bools.{and_parts, zero_not_one}
+use Rattle.calculus.proofs.Padded.{padded_more}
+use Rattle.instance.specs.Header.{is_arity, arities_well_formed, max_relations}
+use Rattle.parse.specs.Parse.{Parsed, read_each}
+use Rattle.parse.specs.Number.{read_number}
 use Rattle.parse.proofs.Bytes.{byte_at, byte_cut}
-use Rattle.parse.proofs.Numbers.{takes-number, took}
-use Rattle.card.specs.Format.{Head, isCount, readArities, read_head}
+use Rattle.parse.proofs.Numbers.{takes_number, took}
+use Rattle.card.specs.Format.{Head, is_count, read_arities, read_head}
 use Rattle.card.proofs.Parts.{arities-read, head_read}
 use Rattle.decode.specs.declared.head.Arities as declared-arities
 use Rattle.decode.specs.declared.head.Head as declared-head
-use Rattle.decode.specs.Measure.{noArities, openedArities, noHead, openedHead}
+use Rattle.decode.specs.Measure.{no_arities, opened_arities, no_head, opened_head}
 
 -- a refusal counts no rows
 pub none-counted : (why n : ℕ) → Refused why ≡ Done n → n < 256 ^ 2
-none-counted why n e = let z : ◌≡◌ {A = ℕ} 0 1 = cc in absurd (zero-not-one z)
+none-counted why n e = let z : ◌≡◌ {A = ℕ} 0 1 = cc in absurd (zero_not_one z)
 
-pub refused-head : (card : List ℕ) {r : declared-head.Head} (why : ℕ) → r ≡ noHead why → openedHead (read_head card) ≡ noHead why
-    → (r ≡ openedHead (read_head card)) × ((n : ℕ) → r.answer ≡ Done n → n < 256 ^ 2)
+pub refused-head : (card : List ℕ) {r : declared-head.Head} (why : ℕ) → r ≡ no_head why → opened_head (read_head card) ≡ no_head why
+    → (r ≡ opened_head (read_head card)) × ((n : ℕ) → r.answer ≡ Done n → n < 256 ^ 2)
 refused-head card why p e = rw (p, e) (refl, none-counted why)
 
 -- ---- the loop over the arities, which start at byte 1
 
 -- what is returned for n arities
 abbrev opening : List ℕ → ℕ → declared-arities.Arities
-opening card n = openedArities [] (readArities n (drop 1 card))
+opening card n = opened_arities [] (read_arities n (drop 1 card))
 
 module _ (card : List ℕ) (n : ℕ) where
   -- the arities that were read are in the array, with zeros after them, and the others are still to be read
@@ -45,88 +45,88 @@ module _ (card : List ℕ) (n : ℕ) where
     pub before : List ℕ
     pub within : i ≤ n
     pub size : length before ≡ i
-    pub array : ars ≡ padded maxRelations before
-    pub whole : opening card n ≡ openedArities before (readArities (n - i) (drop (i + 1) card))
+    pub array : ars ≡ padded max_relations before
+    pub whole : opening card n ≡ opened_arities before (read_arities (n - i) (drop (i + 1) card))
 
-  pub arities-start : OpeningArities (replicate maxRelations 0) 0
+  pub arities-start : OpeningArities (replicate max_relations 0) 0
   arities-start =
       let e : n - 0 ≡ n = omega arith in
       record { before = []; within = omega arith; size = refl; array = refl; whole = rw e }
 
-  module _ (few : n ≤ maxRelations) (ars : List ℕ) (i : ℕ) (o : OpeningArities ars i) (some : i < n) where
+  module _ (few : n ≤ max_relations) (ars : List ℕ) (i : ℕ) (o : OpeningArities ars i) (some : i < n) where
     one : n - i ≡ suc (n - (i + 1))
     one = omega arith
 
-    pub opening-cut : length card - 1 ≤ i → opening card n ≡ noArities cut_short
-    unfolding readEach openedArities
-    opening-cut h = o.whole ∙ rw (one, byte_cut isArity bad-arity card (i + 1) (omega arith))
+    pub opening_cut : length card - 1 ≤ i → opening card n ≡ no_arities cut_short
+    unfolding read_each opened_arities
+    opening_cut h = o.whole ∙ rw (one, byte_cut is_arity bad_arity card (i + 1) (omega arith))
 
     module _ (room : i + 1 < length card) (a : ℕ) (is : a ≡ get_or card (i + 1) 0) where
-      pub opening-bad : isArity a ≡ false → opening card n ≡ noArities bad-arity
-      unfolding readEach openedArities
-      opening-bad e = o.whole ∙ rw (one, byte_at isArity bad-arity card (i + 1) room, ← is, e)
+      pub opening_bad : is_arity a ≡ false → opening card n ≡ no_arities bad_arity
+      unfolding read_each opened_arities
+      opening_bad e = o.whole ∙ rw (one, byte_at is_arity bad_arity card (i + 1) room, ← is, e)
 
-      pub opening-more : isArity a ≡ true → OpeningArities (set ars i a) (i + 1)
-      unfolding readEach openedArities
-      opening-more e = record {
+      pub opening_more : is_arity a ≡ true → OpeningArities (set ars i a) (i + 1)
+      unfolding read_each opened_arities
+      opening_more e = record {
         before = o.before ++ a ∷ [];
         within = omega arith;
         size = rw (length-append, o.size);
-        array = rw o.array (padded-more maxRelations o.before i a o.size (omega arith));
-        whole = o.whole ∙ rw (one, byte_at isArity bad-arity card (i + 1) room, ← is, e) (go (readArities (n - (i + 1)) (drop (i + 1 + 1) card)));
+        array = rw o.array (padded_more max_relations o.before i a o.size (omega arith));
+        whole = o.whole ∙ rw (one, byte_at is_arity bad_arity card (i + 1) room, ← is, e) (go (read_arities (n - (i + 1)) (drop (i + 1 + 1) card)));
       }
         where
-          go : (p : Parsed (List ℕ)) → openedArities o.before (and_then p (λ ars bs. read (a ∷ ars) bs)) ≡ openedArities (o.before ++ a ∷ []) p
+          go : (p : Parsed (List ℕ)) → opened_arities o.before (and_then p (λ ars bs. read (a ∷ ars) bs)) ≡ opened_arities (o.before ++ a ∷ []) p
           go (read ars bs) = rw (append_assoc o.before (a ∷ []) ars)
           go (refused r) = refl
 
-  pub opening-end : (ars : List ℕ) (i : ℕ) → OpeningArities ars i → n ≤ i → record { answer = Done 0; arities = ars } ≡ opening card n
-  unfolding openedArities readEach
-  opening-end ars i o h =
+  pub opening_end : (ars : List ℕ) (i : ℕ) → OpeningArities ars i → n ≤ i → record { answer = Done 0; arities = ars } ≡ opening card n
+  unfolding opened_arities read_each
+  opening_end ars i o h =
       let none : n - i ≡ 0 = omega arith in
       sym (o.whole ∙ rw (none, append-nil o.before, o.array))
 
 -- the arities of an accepted answer
-pub arities-opened : (card : List ℕ) (n k : ℕ) → (opening card n).answer ≡ Done k
-    → (ars : List ℕ) × (rest : List ℕ) × (readArities n (drop 1 card) ≡ read ars rest) × ((opening card n).arities ≡ padded maxRelations ars)
-unfolding openedArities
-arities-opened card n k = go (readArities n (drop 1 card)) refl
+pub arities_opened : (card : List ℕ) (n k : ℕ) → (opening card n).answer ≡ Done k
+    → (ars : List ℕ) × (rest : List ℕ) × (read_arities n (drop 1 card) ≡ read ars rest) × ((opening card n).arities ≡ padded max_relations ars)
+unfolding opened_arities
+arities_opened card n k = go (read_arities n (drop 1 card)) refl
   where
-    go : (p : Parsed (List ℕ)) → readArities n (drop 1 card) ≡ p → (openedArities [] p).answer ≡ Done k
-        → (ars : List ℕ) × (rest : List ℕ) × (readArities n (drop 1 card) ≡ read ars rest) × ((opening card n).arities ≡ padded maxRelations ars)
+    go : (p : Parsed (List ℕ)) → read_arities n (drop 1 card) ≡ p → (opened_arities [] p).answer ≡ Done k
+        → (ars : List ℕ) × (rest : List ℕ) × (read_arities n (drop 1 card) ≡ read ars rest) × ((opening card n).arities ≡ padded max_relations ars)
     go (read ars rest) e a = (ars, rest, e, rw e)
-    go (refused r) e a = let z : ◌≡◌ {A = ℕ} 0 1 = cc in absurd (zero-not-one z)
+    go (refused r) e a = let z : ◌≡◌ {A = ℕ} 0 1 = cc in absurd (zero_not_one z)
 
 -- ---- the head
 
-pub head-none : (card : List ℕ) → length card < 1 → openedHead (read_head card) ≡ noHead cut_short
-unfolding read_head openedHead
-head-none card h = rw (byte_cut isCount bad-relation-count card 0 (omega arith))
+pub head-none : (card : List ℕ) → length card < 1 → opened_head (read_head card) ≡ no_head cut_short
+unfolding read_head opened_head
+head-none card h = rw (byte_cut is_count bad_relation_count card 0 (omega arith))
 
 -- a card that has a first byte n
 module _ (card : List ℕ) (n : ℕ) (some : 1 ≤ length card) (is : n ≡ get_or card 0 0) where
-  pub head-bad : isCount n ≡ false → openedHead (read_head card) ≡ noHead bad-relation-count
-  unfolding read_head openedHead
-  head-bad e = rw (byte_at isCount bad-relation-count card 0 some, ← is, e)
+  pub head_bad : is_count n ≡ false → opened_head (read_head card) ≡ no_head bad_relation_count
+  unfolding read_head opened_head
+  head_bad e = rw (byte_at is_count bad_relation_count card 0 some, ← is, e)
 
   -- what is read after the first byte
   after : Parsed (List ℕ) → Parsed Head
-  after p = and_then p (λ ars bs. and_then (readNumber 2 bs) (λ count bs. read (record { relations = n; arities = padded maxRelations ars; count = count }) bs))
+  after p = and_then p (λ ars bs. and_then (read_number 2 bs) (λ count bs. read (record { relations = n; arities = padded max_relations ars; count = count }) bs))
 
-  module _ (good : isCount n ≡ true) where
-    first : read_head card ≡ after (readArities n (drop 1 card))
+  module _ (good : is_count n ≡ true) where
+    first : read_head card ≡ after (read_arities n (drop 1 card))
     unfolding read_head after
-    first = rw (byte_at isCount bad-relation-count card 0 some, ← is, good)
+    first = rw (byte_at is_count bad_relation_count card 0 some, ← is, good)
 
-    pub head-refused : (why : ℕ) → (opening card n).answer ≡ Refused why → openedHead (read_head card) ≡ noHead why
-    unfolding openedArities openedHead after
-    head-refused why e = rw first (go (readArities n (drop 1 card)) e)
+    pub head-refused : (why : ℕ) → (opening card n).answer ≡ Refused why → opened_head (read_head card) ≡ no_head why
+    unfolding opened_arities opened_head after
+    head-refused why e = rw first (go (read_arities n (drop 1 card)) e)
       where
-        go : (p : Parsed (List ℕ)) → (openedArities [] p).answer ≡ Refused why → openedHead (after p) ≡ noHead why
-        go (read ars rest) a = let z : ◌≡◌ {A = ℕ} 0 1 = cc in absurd (zero-not-one z)
+        go : (p : Parsed (List ℕ)) → (opened_arities [] p).answer ≡ Refused why → opened_head (after p) ≡ no_head why
+        go (read ars rest) a = let z : ◌≡◌ {A = ℕ} 0 1 = cc in absurd (zero_not_one z)
         go (refused r) a = cc
 
-    module _ (ars rest : List ℕ) (e : readArities n (drop 1 card) ≡ read ars rest) where
+    module _ (ars rest : List ℕ) (e : read_arities n (drop 1 card) ≡ read ars rest) where
       pub head-long : n + 1 ≤ length card
       head-long = omega (arith, (arities-read n (drop 1 card) e).long, length-drop 1 card)
 
@@ -135,32 +135,32 @@ module _ (card : List ℕ) (n : ℕ) (some : 1 ≤ length card) (is : n ≡ get_
           let same : 1 + n ≡ n + 1 = omega arith in
           (arities-read n (drop 1 card) e).after ∙ drop-drop n 1 card ∙ ap (λ (i : ℕ). drop i card) same
 
-      pub head-cut : length card - (n + 1) < 2 → openedHead (read_head card) ≡ noHead cut_short
-      unfolding openedHead after
-      head-cut h = rw (first, e, place, (takes-number 2).cut (drop (n + 1) card) (rw length-drop h))
+      pub head_cut : length card - (n + 1) < 2 → opened_head (read_head card) ≡ no_head cut_short
+      unfolding opened_head after
+      head_cut h = rw (first, e, place, (takes_number 2).cut (drop (n + 1) card) (rw length-drop h))
 
-      pub head-answer : {count : ℕ} {end : List ℕ} → readNumber 2 (drop (n + 1) card) ≡ read count end
-          → openedHead (read_head card) ≡ record { answer = Done count; relations = n; arities = padded maxRelations ars }
-      unfolding openedHead after
+      pub head-answer : {count : ℕ} {end : List ℕ} → read_number 2 (drop (n + 1) card) ≡ read count end
+          → opened_head (read_head card) ≡ record { answer = Done count; relations = n; arities = padded max_relations ars }
+      unfolding opened_head after
       head-answer counted = rw (first, e, place, counted)
 
 -- A head that was read: where its records start, and that its arities are well formed.
 pub record Opened (card : List ℕ) (n : ℕ) (ars : List ℕ) (count : ℕ) : Type 0 where
   pub was_read : read_head card ≡ read (record { relations = n; arities = ars; count = count }) (drop (n + 3) card)
-  pub few : n ≤ maxRelations
-  pub arities-well-formed : aritiesWellFormed n ars ≡ true
+  pub few : n ≤ max_relations
+  pub arities_well_formed_lem : arities_well_formed n ars ≡ true
   pub long : n + 3 ≤ length card
 
 -- the same for an answer that is known to be the head's
-pub head_opened : (card : List ℕ) (r : declared-head.Head) (k : ℕ) → r ≡ openedHead (read_head card) → r.answer ≡ Done k
+pub head_opened : (card : List ℕ) (r : declared-head.Head) (k : ℕ) → r ≡ opened_head (read_head card) → r.answer ≡ Done k
     → Opened card r.relations r.arities k
-unfolding openedHead
+unfolding opened_head
 head_opened card r k e a = rw e (go (read_head card) refl (rw e at a))
   where
-    go : (p : Parsed Head) → read_head card ≡ p → (openedHead p).answer ≡ Done k → Opened card (openedHead p).relations (openedHead p).arities k
+    go : (p : Parsed Head) → read_head card ≡ p → (opened_head p).answer ≡ Done k → Opened card (opened_head p).relations (opened_head p).arities k
     go (read h rest) e a =
         let c = head_read card e in
-        let t = took (takes-number 2) c.between c.count-read in
+        let t = took (takes_number 2) c.between c.count-read in
         let n = h.relations in
         let count : h.count ≡ k = cc in
         let three : 1 + (n + 2) ≡ n + 3 = omega arith in
@@ -171,8 +171,8 @@ head_opened card r k e a = rw e (go (read_head card) refl (rw e at a))
         let size : length c.between ≡ length c.body - n = ap length c.arities-read.after ∙ length-drop n c.body in
         record {
           was_read = e ∙ rw (last, count);
-          few = leb-true n maxRelations (and_parts (leb 1 n) (leb n maxRelations) c.counted).1;
-          arities-well-formed = rw c.arities-are (c.arities-read.arities-well-formed (maxRelations - length c.ars));
+          few = leb-true n max_relations (and_parts (leb 1 n) (leb n max_relations) c.counted).1;
+          arities_well_formed_lem = rw c.arities_are (c.arities-read.arities_well_formed_lem (max_relations - length c.ars));
           long = omega (arith, t.0, c.arities-read.long, ap length c.bytes);
         }
-    go (refused why) e a = let z : ◌≡◌ {A = ℕ} 0 1 = cc in absurd (zero-not-one z)
+    go (refused why) e a = let z : ◌≡◌ {A = ℕ} 0 1 = cc in absurd (zero_not_one z)

@@ -13,54 +13,54 @@ use Rattle.calculus.specs.declared.answer.Answer.{Answer}
 use Rattle.calculus.specs.declared.answer.Answer.TheVariants.{Done, Refused}
 use Rattle.calculus.specs.Cell.{nulls}
 use Rattle.calculus.specs.Reading.{read, refused, and_then}
-use Rattle.calculus.specs.Refusal.{cut_short, no-such-relation, bit-beyond-arity}
-use Rattle.calculus.proofs.Bools.{zero-not-one}
-use Rattle.instance.specs.Header.{arityOf}
-use Rattle.instance.specs.Blanks.{Field, Record, blanksIn, highestIn, blanks, highest, written_of}
-use Rattle.parse.specs.Parse.{Parsed, readEach}
+use Rattle.calculus.specs.Refusal.{cut_short, no_such_relation, bit_beyond_arity}
+use Rattle.calculus.proofs.Bools.{zero_not_one}
+use Rattle.instance.specs.Header.{arity_of}
+use Rattle.instance.specs.Blanks.{Field, Record, blanks_in, highest_in, blanks, highest, written_of}
+use Rattle.parse.specs.Parse.{Parsed, read_each}
 use Rattle.parse.proofs.Bytes.{byte_at, byte_cut}
-use Rattle.card.specs.Format.{readFields, readRecord, readRecords}
-use Rattle.card.proofs.Parts.{fields-well-formed, record-read as parts}
+use Rattle.card.specs.Format.{read_fields, read_record, read_records}
+use Rattle.card.proofs.Parts.{fields-well_formed, record-read as parts}
 use Rattle.decode.specs.declared.measure.Measured.{Measured}
 use Rattle.decode.specs.declared.measure.Measured.TheVariants as measured
 use Rattle.decode.specs.declared.measure.Needed.{Needed}
 use Rattle.decode.specs.declared.measure.Needed.TheVariants as needed
-use Rattle.decode.specs.Measure.{readWritten, measuredFields, measuredRecord, measuredRecords, words_in}
-use Rattle.decode.proofs.Fields.{WrittenRead, written_read, onlyWritten, fields-written, written-or-blank}
+use Rattle.decode.specs.Measure.{read_written, measured_fields, measured_record, measured_records, words_in}
+use Rattle.decode.proofs.Fields.{WrittenRead, written_read, only_written, fields-written, written_or_blank}
 
 -- the fields of a map that has no bit beyond the columns
 record FieldsRead (columns bits : ℕ) (bs : List ℕ) (fs : List Field) (rest : List ℕ) : Type 0 where
-  columns-are : length fs ≡ columns
+  columns_are : length fs ≡ columns
   were : WrittenRead (ones bits) bs (written_of fs) rest
 
-fields_read : (a bits : ℕ) (bs : List ℕ) {fs : List Field} {rest : List ℕ} → bits < 2 ^ a → readFields a bits bs ≡ read fs rest
+fields_read : (a bits : ℕ) (bs : List ℕ) {fs : List Field} {rest : List ℕ} → bits < 2 ^ a → read_fields a bits bs ≡ read fs rest
     → FieldsRead a bits bs fs rest
 fields_read a bits bs h e = record {
-  columns-are = (fields-well-formed a bits bs e).0;
-  were = written_read (ones bits) bs (sym (fields-written a bits bs h) ∙ ap onlyWritten e);
+  columns_are = (fields-well_formed a bits bs e).0;
+  were = written_read (ones bits) bs (sym (fields-written a bits bs h) ∙ ap only_written e);
 }
 
 -- a record that was read, by its first two bytes
 pub record RecordRead (n : ℕ) (ars bs : List ℕ) (r : Record) (rest : List ℕ) : Type 0 where
   pub known : get_or bs 0 0 < n
   pub relation-is : r.relation ≡ get_or bs 0 0
-  pub fields-are : readFields (arityOf ars (get_or bs 0 0)) (get_or bs 1 0) (drop 2 bs) ≡ read r.fields rest
-  pub columns : length r.fields ≡ arityOf ars (get_or bs 0 0)
+  pub fields_are : read_fields (arity_of ars (get_or bs 0 0)) (get_or bs 1 0) (drop 2 bs) ≡ read r.fields rest
+  pub columns : length r.fields ≡ arity_of ars (get_or bs 0 0)
   pub count : length (written_of r.fields) ≡ ones (get_or bs 1 0)
-  pub low : highestIn r.fields ≤ nulls
+  pub low : highest_in r.fields ≤ nulls
   pub long : 2 + 3 * ones (get_or bs 1 0) ≤ length bs
   pub after : rest ≡ drop (2 + 3 * ones (get_or bs 1 0)) bs
 
-pub record-read : (n : ℕ) (ars bs : List ℕ) {r : Record} {rest : List ℕ} → readRecord n ars bs ≡ read r rest → RecordRead n ars bs r rest
+pub record-read : (n : ℕ) (ars bs : List ℕ) {r : Record} {rest : List ℕ} → read_record n ars bs ≡ read r rest → RecordRead n ars bs r rest
 record-read n ars bs {r} {rest} e =
     let p = parts n ars bs e in
     let x = r.relation in
-    let f = fields_read (arityOf ars x) p.map p.body (ltb-true p.map _ p.within) p.fields-are in
+    let f = fields_read (arity_of ars x) p.map p.body (ltb-true p.map _ p.within) p.fields_are in
     let made : RecordRead n ars (x ∷ p.map ∷ p.body) r rest = record {
       known = ltb-true x n p.known;
       relation-is = refl;
-      fields-are = p.fields-are;
-      columns = f.columns-are;
+      fields_are = p.fields_are;
+      columns = f.columns_are;
       count = f.were.count;
       low = f.were.low;
       long = omega (arith, f.were.long);
@@ -70,46 +70,46 @@ record-read n ars bs {r} {rest} e =
     rw whole at made
 
 -- what the first pass returns for a record, from what it returns for the fields
-abbrev pub measuredAs : ℕ → ℕ → Answer → Measured
-measuredAs arity count (Done h) = measured.Record arity count h
-measuredAs arity count (Refused why) = measured.Refused why
+abbrev pub measured_as : ℕ → ℕ → Answer → Measured
+measured_as arity count (Done h) = measured.Record arity count h
+measured_as arity count (Refused why) = measured.Refused why
 
 -- What the first pass returns for one record, test by test.
 module _ (n : ℕ) (ars bs : List ℕ) where
-  pub record-none : length bs < 1 → measuredRecord (readRecord n ars bs) ≡ measured.Refused cut_short
-  unfolding readRecord measuredRecord
-  record-none h = rw (byte_cut (λ r. ltb r n) no-such-relation bs 0 (omega arith))
+  pub record-none : length bs < 1 → measured_record (read_record n ars bs) ≡ measured.Refused cut_short
+  unfolding read_record measured_record
+  record-none h = rw (byte_cut (λ r. ltb r n) no_such_relation bs 0 (omega arith))
 
   module _ (x : ℕ) (some : 0 < length bs) (is : x ≡ get_or bs 0 0) where
-    pub record-unknown : n ≤ x → measuredRecord (readRecord n ars bs) ≡ measured.Refused no-such-relation
-    unfolding readRecord measuredRecord
-    record-unknown h = rw (byte_at (λ r. ltb r n) no-such-relation bs 0 some, ← is, le-ltb x n h)
+    pub record-unknown : n ≤ x → measured_record (read_record n ars bs) ≡ measured.Refused no_such_relation
+    unfolding read_record measured_record
+    record-unknown h = rw (byte_at (λ r. ltb r n) no_such_relation bs 0 some, ← is, le-ltb x n h)
 
-    pub record-cut : x < n → length bs < 2 → measuredRecord (readRecord n ars bs) ≡ measured.Refused cut_short
-    unfolding readRecord measuredRecord
-    record-cut h l =
-        rw (byte_at (λ r. ltb r n) no-such-relation bs 0 some, ← is, lt-ltb x n h, byte_cut (λ bits. ltb bits (2 ^ arityOf ars x)) bit-beyond-arity bs 1 (omega arith))
+    pub record_cut : x < n → length bs < 2 → measured_record (read_record n ars bs) ≡ measured.Refused cut_short
+    unfolding read_record measured_record
+    record_cut h l =
+        rw (byte_at (λ r. ltb r n) no_such_relation bs 0 some, ← is, lt-ltb x n h, byte_cut (λ bits. ltb bits (2 ^ arity_of ars x)) bit_beyond_arity bs 1 (omega arith))
 
     module _ (bits : ℕ) (known : x < n) (room : 1 < length bs) (map_is : bits ≡ get_or bs 1 0) where
-      pub record-beyond : 2 ^ arityOf ars x ≤ bits → measuredRecord (readRecord n ars bs) ≡ measured.Refused bit-beyond-arity
-      unfolding readRecord measuredRecord
-      record-beyond h =
-          rw (byte_at (λ r. ltb r n) no-such-relation bs 0 some, ← is, lt-ltb x n known, byte_at (λ bits. ltb bits (2 ^ arityOf ars x)) bit-beyond-arity bs 1 room, ← map_is, le-ltb bits (2 ^ arityOf ars x) h)
+      pub record_beyond : 2 ^ arity_of ars x ≤ bits → measured_record (read_record n ars bs) ≡ measured.Refused bit_beyond_arity
+      unfolding read_record measured_record
+      record_beyond h =
+          rw (byte_at (λ r. ltb r n) no_such_relation bs 0 some, ← is, lt-ltb x n known, byte_at (λ bits. ltb bits (2 ^ arity_of ars x)) bit_beyond_arity bs 1 room, ← map_is, le-ltb bits (2 ^ arity_of ars x) h)
 
-      pub record-measured : bits < 2 ^ arityOf ars x
-          → measuredRecord (readRecord n ars bs) ≡ measuredAs (arityOf ars x) (ones bits) (measuredFields (readWritten (ones bits) (drop 2 bs)))
-      unfolding readRecord measuredRecord measuredFields
-      record-measured h =
-          rw (byte_at (λ r. ltb r n) no-such-relation bs 0 some, ← is, lt-ltb x n known, byte_at (λ bits. ltb bits (2 ^ arityOf ars x)) bit-beyond-arity bs 1 room, ← map_is, lt-ltb bits (2 ^ arityOf ars x) h)
-          (go (readFields (arityOf ars x) bits (drop 2 bs)) refl)
+      pub record_measured : bits < 2 ^ arity_of ars x
+          → measured_record (read_record n ars bs) ≡ measured_as (arity_of ars x) (ones bits) (measured_fields (read_written (ones bits) (drop 2 bs)))
+      unfolding read_record measured_record measured_fields
+      record_measured h =
+          rw (byte_at (λ r. ltb r n) no_such_relation bs 0 some, ← is, lt-ltb x n known, byte_at (λ bits. ltb bits (2 ^ arity_of ars x)) bit_beyond_arity bs 1 room, ← map_is, lt-ltb bits (2 ^ arity_of ars x) h)
+          (go (read_fields (arity_of ars x) bits (drop 2 bs)) refl)
         where
-          go : (p : Parsed (List Field)) → readFields (arityOf ars x) bits (drop 2 bs) ≡ p
-              → measuredRecord (and_then p (λ fs bs. read (record { relation = x; fields = fs }) bs))
-              ≡ measuredAs (arityOf ars x) (ones bits) (measuredFields (readWritten (ones bits) (drop 2 bs)))
+          go : (p : Parsed (List Field)) → read_fields (arity_of ars x) bits (drop 2 bs) ≡ p
+              → measured_record (and_then p (λ fs bs. read (record { relation = x; fields = fs }) bs))
+              ≡ measured_as (arity_of ars x) (ones bits) (measured_fields (read_written (ones bits) (drop 2 bs)))
           go (read fs rest) e =
-              let f = fields_read (arityOf ars x) bits (drop 2 bs) h e in
-              cc (fields-written (arityOf ars x) bits (drop 2 bs) h, ap onlyWritten e, f.columns-are, f.were.count)
-          go (refused r) e = cc (fields-written (arityOf ars x) bits (drop 2 bs) h, ap onlyWritten e)
+              let f = fields_read (arity_of ars x) bits (drop 2 bs) h e in
+              cc (fields-written (arity_of ars x) bits (drop 2 bs) h, ap only_written e, f.columns_are, f.were.count)
+          go (refused r) e = cc (fields-written (arity_of ars x) bits (drop 2 bs) h, ap only_written e)
 
 -- the first pass's answer for the remaining records, with the words, blanks and highest null of earlier records added
 abbrev pub added : ℕ → ℕ → ℕ → Needed → Needed
@@ -136,62 +136,62 @@ added_more w b h w' b' h' (needed.Refused why) = refl
 pub record Step (n : ℕ) (ars bs : List ℕ) (arity count h : ℕ) : Type 0 where
   pub one : Record
   pub rest : List ℕ
-  pub was_read : readRecord n ars bs ≡ read one rest
-  pub arity-is : length one.fields ≡ arity
-  pub blanks-are : blanksIn one.fields ≡ arity - count
+  pub was_read : read_record n ars bs ≡ read one rest
+  pub arity_is : length one.fields ≡ arity
+  pub blanks_are : blanks_in one.fields ≡ arity - count
   pub fewer : count ≤ arity
-  pub highest-is : highestIn one.fields ≡ h
+  pub highest-is : highest_in one.fields ≡ h
   pub long : 2 + 3 * count ≤ length bs
   pub after : rest ≡ drop (2 + 3 * count) bs
 
-pub step : (n : ℕ) (ars bs : List ℕ) (arity count h : ℕ) → measuredRecord (readRecord n ars bs) ≡ measured.Record arity count h → Step n ars bs arity count h
-unfolding measuredRecord
-step n ars bs arity count h = go (readRecord n ars bs) refl
+pub step : (n : ℕ) (ars bs : List ℕ) (arity count h : ℕ) → measured_record (read_record n ars bs) ≡ measured.Record arity count h → Step n ars bs arity count h
+unfolding measured_record
+step n ars bs arity count h = go (read_record n ars bs) refl
   where
-    go : (p : Parsed Record) → readRecord n ars bs ≡ p → measuredRecord p ≡ measured.Record arity count h → Step n ars bs arity count h
+    go : (p : Parsed Record) → read_record n ars bs ≡ p → measured_record p ≡ measured.Record arity count h → Step n ars bs arity count h
     go (read r rest) e m =
         let q = record-read n ars bs e in
-        let arity-is : length r.fields ≡ arity = cc in
+        let arity_is : length r.fields ≡ arity = cc in
         let count-is : length (written_of r.fields) ≡ count = cc in
         let same : ones (get_or bs 1 0) ≡ count = sym q.count ∙ count-is in
-        let parts = written-or-blank r.fields in
+        let parts = written_or_blank r.fields in
         record {
           one = r;
           rest = rest;
           was_read = e;
-          arity-is = arity-is;
-          blanks-are = omega arith;
+          arity_is = arity_is;
+          blanks_are = omega arith;
           fewer = omega arith;
           highest-is = cc;
           long = rw same at q.long;
           after = rw same at q.after;
         }
-    go (refused r) e m = let z : ◌≡◌ {A = ℕ} 0 1 = cc in absurd (zero-not-one z)
+    go (refused r) e m = let z : ◌≡◌ {A = ℕ} 0 1 = cc in absurd (zero_not_one z)
 
 -- the first pass over a record and the records after it
 records-joined : (size : ℕ) (r : Record) (p : Parsed (List Record))
-    → measuredRecords size (and_then p (λ rs bs. read (r ∷ rs) bs))
-    ≡ added (1 + length r.fields) (blanksIn r.fields) (highestIn r.fields) (measuredRecords size p)
-unfolding measuredRecords words_in blanks highest
+    → measured_records size (and_then p (λ rs bs. read (r ∷ rs) bs))
+    ≡ added (1 + length r.fields) (blanks_in r.fields) (highest_in r.fields) (measured_records size p)
+unfolding measured_records words_in blanks highest
 records-joined size r (read rs bs) = refl
 records-joined size r (refused why) = refl
 
-pub records-more : (size n : ℕ) (ars : List ℕ) (k : ℕ) (bs : List ℕ) (arity count h : ℕ)
-    → measuredRecord (readRecord n ars bs) ≡ measured.Record arity count h
-    → measuredRecords size (readRecords n ars (suc k) bs)
-    ≡ added (1 + arity) (arity - count) h (measuredRecords size (readRecords n ars k (drop (2 + 3 * count) bs)))
-unfolding readEach
-records-more size n ars k bs arity count h m =
+pub records_more : (size n : ℕ) (ars : List ℕ) (k : ℕ) (bs : List ℕ) (arity count h : ℕ)
+    → measured_record (read_record n ars bs) ≡ measured.Record arity count h
+    → measured_records size (read_records n ars (suc k) bs)
+    ≡ added (1 + arity) (arity - count) h (measured_records size (read_records n ars k (drop (2 + 3 * count) bs)))
+unfolding read_each
+records_more size n ars k bs arity count h m =
     let s = step n ars bs arity count h m in
     rw s.was_read
-    (records-joined size s.one (readRecords n ars k s.rest) ∙ rw (s.arity-is, s.blanks-are, s.highest-is, s.after))
+    (records-joined size s.one (read_records n ars k s.rest) ∙ rw (s.arity_is, s.blanks_are, s.highest-is, s.after))
 
 pub records-refused : (size n : ℕ) (ars : List ℕ) (k : ℕ) (bs : List ℕ) (why : ℕ)
-    → measuredRecord (readRecord n ars bs) ≡ measured.Refused why → measuredRecords size (readRecords n ars (suc k) bs) ≡ needed.Refused why
-unfolding measuredRecords readEach measuredRecord
-records-refused size n ars k bs why = go (readRecord n ars bs)
+    → measured_record (read_record n ars bs) ≡ measured.Refused why → measured_records size (read_records n ars (suc k) bs) ≡ needed.Refused why
+unfolding measured_records read_each measured_record
+records-refused size n ars k bs why = go (read_record n ars bs)
   where
-    go : (p : Parsed Record) → measuredRecord p ≡ measured.Refused why
-        → measuredRecords size (and_then p (λ r bs. and_then (readRecords n ars k bs) (λ rs bs. read (r ∷ rs) bs))) ≡ needed.Refused why
+    go : (p : Parsed Record) → measured_record p ≡ measured.Refused why
+        → measured_records size (and_then p (λ r bs. and_then (read_records n ars k bs) (λ rs bs. read (r ∷ rs) bs))) ≡ needed.Refused why
     go (read r rest) m = cc
     go (refused r) m = cc

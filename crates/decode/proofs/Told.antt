@@ -13,21 +13,21 @@ use Rattle.card.specs.Decode.{decoded}
 use Rattle.card.proofs.Sound.{decoded-sound}
 use Rattle.decode.specs.declared.measure.Measured.{Measured}
 use Rattle.decode.specs.declared.measure.Needed.{Needed}
-use Rattle.decode.specs.Measure.{measuredRecord, TellsRecord, measuredRecords, TellsRecords}
+use Rattle.decode.specs.Measure.{measured_record, TellsRecord, measured_records, TellsRecords}
 
-pub record-told : (p : Parsed Record) {m : Measured} → m ≡ measuredRecord p → (m ≡ measuredRecord p) × TellsRecord m p
-unfolding measuredRecord
+pub record-told : (p : Parsed Record) {m : Measured} → m ≡ measured_record p → (m ≡ measured_record p) × TellsRecord m p
+unfolding measured_record
 record-told p e = (e, rw e (go p))
   where
-    go : (q : Parsed Record) → TellsRecord (measuredRecord q) q
+    go : (q : Parsed Record) → TellsRecord (measured_record q) q
     go (read r bs) = record { number = refl; values = λ x bs' e. let s : r ≡ x = cc in rw s refl }
     go (refused why) = record { number = refl; values = λ x bs' e. cc }
 
-pub records-told : (size : ℕ) (p : Parsed (List Record)) {n : Needed} → n ≡ measuredRecords size p → (n ≡ measuredRecords size p) × TellsRecords n size p
-unfolding measuredRecords
+pub records-told : (size : ℕ) (p : Parsed (List Record)) {n : Needed} → n ≡ measured_records size p → (n ≡ measured_records size p) × TellsRecords n size p
+unfolding measured_records
 records-told size p e = (e, rw e (go p))
   where
-    go : (q : Parsed (List Record)) → TellsRecords (measuredRecords size q) size q
+    go : (q : Parsed (List Record)) → TellsRecords (measured_records size q) size q
     go (read rs bs) = record { number = refl; needs = λ xs bs' e. let s : rs ≡ xs = cc in let t : bs ≡ bs' = cc in rw (s, t) refl }
     go (refused why) = record { number = refl; needs = λ xs bs' e. cc }
 

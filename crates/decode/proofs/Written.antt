@@ -13,50 +13,50 @@ use borrow.Author.Tests.{eq-eqb, ne_eqb}
 use Rattle.calculus.specs.Cell.{null}
 use Rattle.calculus.specs.Overwrite.{overwrite}
 use Rattle.calculus.specs.Reading.{read, refused}
-use Rattle.calculus.proofs.Bools.{false-not-true}
-use Rattle.calculus.proofs.Reading.{then-read}
-use Rattle.calculus.proofs.Stores.{Written, written_begin, written-store, written-anew, written-finish}
+use Rattle.calculus.proofs.Bools.{false_not_true}
+use Rattle.calculus.proofs.Reading.{then_read}
+use Rattle.calculus.proofs.Stores.{Written, written_begin, written_store, written_anew, written_finish}
 use Rattle.instance.specs.Blanks.{Field, written, blank, numbered}
 use Rattle.instance.proofs.Blanks.{numbered-length}
-use Rattle.parse.specs.Parse.{Parsed, isRead, got}
-use Rattle.parse.specs.Number.{readNumber}
+use Rattle.parse.specs.Parse.{Parsed, is_read, got}
+use Rattle.parse.specs.Number.{read_number}
 use Rattle.parse.proofs.Each.{first_read}
-use Rattle.card.specs.Format.{readField, readColumn, readFields}
-use Rattle.card.proofs.Parts.{field-read, fields-well-formed}
+use Rattle.card.specs.Format.{read_field, read_column, read_fields}
+use Rattle.card.proofs.Parts.{field_read, fields-well_formed}
 
 -- the cells of n columns, if the next blank gets null m
-abbrev pub cellsRead : ℕ → ℕ → ℕ → List ℕ → List ℕ
-cellsRead m n bits bs = numbered m (got [] (readFields n bits bs))
+abbrev pub cells_read_in : ℕ → ℕ → ℕ → List ℕ → List ℕ
+cells_read_in m n bits bs = numbered m (got [] (read_fields n bits bs))
 
-abbrev pub allRead : ℕ → ℕ → List ℕ → Type 0
-allRead n bits bs = isRead (readFields n bits bs) ≡ true
+abbrev pub all_read : ℕ → ℕ → List ℕ → Type 0
+all_read n bits bs = is_read (read_fields n bits bs) ≡ true
 
-pub cells-long : (m n bits : ℕ) (bs : List ℕ) → allRead n bits bs → length (cellsRead m n bits bs) ≡ n
-cells-long m n bits bs = go (readFields n bits bs) refl
+pub cells-long : (m n bits : ℕ) (bs : List ℕ) → all_read n bits bs → length (cells_read_in m n bits bs) ≡ n
+cells-long m n bits bs = go (read_fields n bits bs) refl
   where
-    go : (p : Parsed (List Field)) → readFields n bits bs ≡ p → isRead p ≡ true → length (numbered m (got [] p)) ≡ n
-    go (read fs rest) e h = numbered-length m fs ∙ (fields-well-formed n bits bs e).0
-    go (refused r) e h = false-not-true h
+    go : (p : Parsed (List Field)) → read_fields n bits bs ≡ p → is_read p ≡ true → length (numbered m (got [] p)) ≡ n
+    go (read fs rest) e h = numbered-length m fs ∙ (fields-well_formed n bits bs e).0
+    go (refused r) e h = false_not_true h
 
-module _ (k bits m : ℕ) (bs : List ℕ) (h : allRead (suc k) bits bs) where
+module _ (k bits m : ℕ) (bs : List ℕ) (h : all_read (suc k) bits bs) where
   -- a column that is written: its cell, and the columns after it
   pub record WrittenColumn : Type 0 where
     pub cell : ℕ
-    pub number : readNumber 3 bs ≡ read cell (drop 3 bs)
+    pub number : read_number 3 bs ≡ read cell (drop 3 bs)
     pub long : 3 ≤ length bs
-    pub reads : allRead k (bits / 2) (drop 3 bs)
-    pub cells : cellsRead m (suc k) bits bs ≡ cell ∷ cellsRead m k (bits / 2) (drop 3 bs)
+    pub reads : all_read k (bits / 2) (drop 3 bs)
+    pub cells : cells_read_in m (suc k) bits bs ≡ cell ∷ cells_read_in m k (bits / 2) (drop 3 bs)
 
   pub written-column : bits % 2 ≡ 1 → WrittenColumn
-  unfolding readFields numbered
+  unfolding read_fields numbered
   written-column odd =
-      let f = first_read (readColumn (eqb (bits % 2) 1) bs) (readFields k (bits / 2)) h in
-      let bit : readColumn (eqb (bits % 2) 1) bs ≡ readColumn true bs = rw (eq-eqb (bits % 2) 1 odd) in
-      let c = then-read (readField bs) _ (sym bit ∙ f.was_read) in
-      let r = field-read bs c.first in
+      let f = first_read (read_column (eqb (bits % 2) 1) bs) (read_fields k (bits / 2)) h in
+      let bit : read_column (eqb (bits % 2) 1) bs ≡ read_column true bs = rw (eq-eqb (bits % 2) 1 odd) in
+      let c = then_read (read_field bs) _ (sym bit ∙ f.was_read) in
+      let r = field_read bs c.first in
       let one : f.one ≡ written c.value = cc c.second in
       let after : f.between ≡ drop 3 bs = cc (c.second, r.after) in
-      let fields : got [] (readFields (suc k) bits bs) ≡ written c.value ∷ got [] (readFields k (bits / 2) (drop 3 bs)) = cc f.all in
+      let fields : got [] (read_fields (suc k) bits bs) ≡ written c.value ∷ got [] (read_fields k (bits / 2) (drop 3 bs)) = cc f.all in
       record {
         cell = c.value;
         number = rw r.after at r.number;
@@ -66,14 +66,14 @@ module _ (k bits m : ℕ) (bs : List ℕ) (h : allRead (suc k) bits bs) where
       }
 
   pub record BlankColumn : Type 0 where
-    pub reads : allRead k (bits / 2) bs
-    pub cells : cellsRead m (suc k) bits bs ≡ null m ∷ cellsRead (suc m) k (bits / 2) bs
+    pub reads : all_read k (bits / 2) bs
+    pub cells : cells_read_in m (suc k) bits bs ≡ null m ∷ cells_read_in (suc m) k (bits / 2) bs
 
   pub blank-column : (bits % 2 ≡ 1 → ⊥) → BlankColumn
-  unfolding readFields numbered
+  unfolding read_fields numbered
   blank-column even =
-      let f = first_read (readColumn (eqb (bits % 2) 1) bs) (readFields k (bits / 2)) h in
-      let bit : readColumn (eqb (bits % 2) 1) bs ≡ read blank bs = rw (ne_eqb (bits % 2) 1 even) in
+      let f = first_read (read_column (eqb (bits % 2) 1) bs) (read_fields k (bits / 2)) h in
+      let bit : read_column (eqb (bits % 2) 1) bs ≡ read blank bs = rw (ne_eqb (bits % 2) 1 even) in
       let e : read blank bs ≡ read f.one f.between = sym bit ∙ f.was_read in
       let one : f.one ≡ blank = cc in
       let after : f.between ≡ bs = cc in
@@ -83,14 +83,14 @@ module _ (k bits m : ℕ) (bs : List ℕ) (h : allRead (suc k) bits bs) where
 
 module _ (start : List ℕ) (relation arity map : ℕ) (fields : List ℕ) (next : ℕ) where
   abbrev row : List ℕ
-  row = relation ∷ cellsRead next arity map fields
+  row = relation ∷ cells_read_in next arity map fields
 
   -- the first `column` columns of the row are in the part, and the cells of the others are still to be read
   pub record WritingRow (part : List ℕ) (bits free at column : ℕ) : Type 0 where
     pub within : column ≤ arity
     pub small : free ≤ next + column
-    pub reads : allRead (arity - column) bits (drop at fields)
-    pub stored : Written row (cellsRead free (arity - column) bits (drop at fields)) start part (column + 1)
+    pub reads : all_read (arity - column) bits (drop at fields)
+    pub stored : Written row (cells_read_in free (arity - column) bits (drop at fields)) start part (column + 1)
 
   module _ (part : List ℕ) (bits free at column : ℕ) (w : WritingRow part bits free at column) where
     module _ (more : column < arity) where
@@ -107,7 +107,7 @@ module _ (start : List ℕ) (relation arity map : ℕ) (fields : List ℕ) (next
       pub field_room : bits % 2 ≡ 1 → at + 3 ≤ length fields
       field_room odd = omega (arith, (here odd).long, length-drop at fields)
 
-      pub written_step : bits % 2 ≡ 1 → {c : ℕ} {rest : List ℕ} → readNumber 3 (drop at fields) ≡ read c rest
+      pub written_step : bits % 2 ≡ 1 → {c : ℕ} {rest : List ℕ} → read_number 3 (drop at fields) ≡ read c rest
           → WritingRow (set part (column + 1) c) (bits / 2) free (at + 3) (column + 1)
       written_step odd {c} number =
           let col = here odd in
@@ -117,7 +117,7 @@ module _ (start : List ℕ) (relation arity map : ℕ) (fields : List ℕ) (next
             within = omega arith;
             small = omega (arith, w.small);
             reads = rw drop-drop at col.reads;
-            stored = written-store (column + 1 + 1) refl stored;
+            stored = written_store (column + 1 + 1) refl stored;
           }
 
       -- the next column is blank
@@ -129,18 +129,18 @@ module _ (start : List ℕ) (relation arity map : ℕ) (fields : List ℕ) (next
             within = omega arith;
             small = omega (arith, w.small);
             reads = col.reads;
-            stored = written-store (column + 1 + 1) refl stored;
+            stored = written_store (column + 1 + 1) refl stored;
           }
 
     pub row_ends : arity ≤ column → part ≡ overwrite row start
-    unfolding readFields numbered
+    unfolding read_fields numbered
     row_ends done =
         let none : arity - column ≡ 0 = omega arith in
-        written-finish (rw none at w.stored)
+        written_finish (rw none at w.stored)
 
 -- the relation is stored first
 pub row-starts :
-    (part : List ℕ) (relation arity map : ℕ) (fields : List ℕ) (next : ℕ) → 1 + arity ≤ length part → allRead arity map fields →
+    (part : List ℕ) (relation arity map : ℕ) (fields : List ℕ) (next : ℕ) → 1 + arity ≤ length part → all_read arity map fields →
     WritingRow (set part 0 relation) relation arity map fields next (set part 0 relation) map next 0 0
 row-starts part relation arity map fields next room reads =
     let long = cells-long next arity map fields reads in
@@ -148,7 +148,7 @@ row-starts part relation arity map fields next room reads =
       within = omega arith;
       small = omega arith;
       reads = rw sub-zero reads;
-      stored = rw sub-zero (written-anew (written-store 1 refl (written_begin (relation ∷ cellsRead next arity map fields) part (omega arith))));
+      stored = rw sub-zero (written_anew (written_store 1 refl (written_begin (relation ∷ cells_read_in next arity map fields) part (omega arith))));
     }
 
 pub row-whole : (part : List ℕ) (relation : ℕ) (cells : List ℕ) → overwrite (relation ∷ cells) (set part 0 relation) ≡ overwrite (relation ∷ cells) part

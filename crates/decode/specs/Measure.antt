@@ -3,9 +3,9 @@ use Rattle.std.specs.Prelude.{ℕ, ◌+◌, ◌-◌, ◌≡◌, List, [], ◌∷
 use Rattle.calculus.specs.declared.answer.Answer.{Answer}
 use Rattle.calculus.specs.declared.answer.Answer.TheVariants.{Done, Refused}
 use Rattle.calculus.specs.Padded.{padded}
-use Rattle.calculus.specs.Reading.{read, refused, readingNumber}
-use Rattle.instance.specs.Blanks.{Record, blanks, highest, highestOf, highestIn, written_of}
-use Rattle.instance.specs.Header.{maxRelations}
+use Rattle.calculus.specs.Reading.{read, refused, reading_number}
+use Rattle.instance.specs.Blanks.{Record, blanks, highest, highest_of, highest_in, written_of}
+use Rattle.instance.specs.Header.{max_relations}
 use Rattle.decode.specs.declared.head.Arities as declared-arities
 use Rattle.decode.specs.declared.head.Head as declared-head
 use Rattle.decode.specs.declared.measure.Measured.{Measured}
@@ -13,50 +13,50 @@ use Rattle.decode.specs.declared.measure.Measured.TheVariants as measured
 use Rattle.decode.specs.declared.measure.Total.{Total}
 use Rattle.decode.specs.declared.measure.Needed.{Needed}
 use Rattle.decode.specs.declared.measure.Needed.TheVariants as needed
-use Rattle.parse.specs.Parse.{Parsed, readEach}
-use Rattle.card.specs.Format.{Head, readField, readRecords}
+use Rattle.parse.specs.Parse.{Parsed, read_each}
+use Rattle.card.specs.Format.{Head, read_field, read_records}
 
 -- what is returned with a refusal
-abbrev pub noArities : ℕ → declared-arities.Arities
-noArities why = record { answer = Refused why; arities = replicate maxRelations 0 }
+abbrev pub no_arities : ℕ → declared-arities.Arities
+no_arities why = record { answer = Refused why; arities = replicate max_relations 0 }
 
-abbrev pub noHead : ℕ → declared-head.Head
-noHead why = record { answer = Refused why; relations = 0; arities = replicate maxRelations 0 }
+abbrev pub no_head : ℕ → declared-head.Head
+no_head why = record { answer = Refused why; relations = 0; arities = replicate max_relations 0 }
 
 -- an arity for each of the 8 relations; `before` has the arities that were read already
-unfoldable pub openedArities : List ℕ → Parsed (List ℕ) → declared-arities.Arities
-openedArities before (read ars bs) = record { answer = Done 0; arities = padded maxRelations (before ++ ars) }
-openedArities before (refused r) = noArities r
+unfoldable pub opened_arities : List ℕ → Parsed (List ℕ) → declared-arities.Arities
+opened_arities before (read ars bs) = record { answer = Done 0; arities = padded max_relations (before ++ ars) }
+opened_arities before (refused r) = no_arities r
 
 -- the number of rows, the number of relations and their arities
-unfoldable pub openedHead : Parsed Head → declared-head.Head
-openedHead (read h bs) = record { answer = Done h.count; relations = h.relations; arities = h.arities }
-openedHead (refused r) = noHead r
+unfoldable pub opened_head : Parsed Head → declared-head.Head
+opened_head (read h bs) = record { answer = Done h.count; relations = h.relations; arities = h.arities }
+opened_head (refused r) = no_head r
 
 -- n fields, all of them written
-abbrev pub readWritten : ℕ → List ℕ → Parsed (List ℕ)
-readWritten n bs = readEach readField n bs
+abbrev pub read_written : ℕ → List ℕ → Parsed (List ℕ)
+read_written n bs = read_each read_field n bs
 
-unfoldable pub measuredFields : Parsed (List ℕ) → Answer
-measuredFields (read cs bs) = Done (highestOf cs)
-measuredFields (refused r) = Refused r
+unfoldable pub measured_fields : Parsed (List ℕ) → Answer
+measured_fields (read cs bs) = Done (highest_of cs)
+measured_fields (refused r) = Refused r
 
-unfoldable pub measuredRecord : Parsed Record → Measured
-measuredRecord (read r bs) = measured.Record (length r.fields) (length (written_of r.fields)) (highestIn r.fields)
-measuredRecord (refused why) = measured.Refused why
+unfoldable pub measured_record : Parsed Record → Measured
+measured_record (read r bs) = measured.Record (length r.fields) (length (written_of r.fields)) (highest_in r.fields)
+measured_record (refused why) = measured.Refused why
 
 -- the answer for a record, as the paper's number and values: its arity, how many columns are written, and the highest null
-abbrev pub measuredNumber : Measured → ℕ
-measuredNumber (measured.Record arity count top) = 0
-measuredNumber (measured.Refused why) = why
+abbrev pub measured_number : Measured → ℕ
+measured_number (measured.Record arity count top) = 0
+measured_number (measured.Refused why) = why
 
-abbrev pub measuredValues : Measured → List ℕ
-measuredValues (measured.Record arity count top) = arity ∷ count ∷ top ∷ []
-measuredValues (measured.Refused why) = []
+abbrev pub measured_values : Measured → List ℕ
+measured_values (measured.Record arity count top) = arity ∷ count ∷ top ∷ []
+measured_values (measured.Refused why) = []
 
 pub record TellsRecord (m : Measured) (p : Parsed Record) : Type 0 where
-  pub number : measuredNumber m ≡ readingNumber p
-  pub values : (r : Record) (bs : List ℕ) → p ≡ read r bs → measuredValues m ≡ length r.fields ∷ length (written_of r.fields) ∷ highestIn r.fields ∷ []
+  pub number : measured_number m ≡ reading_number p
+  pub values : (r : Record) (bs : List ℕ) → p ≡ read r bs → measured_values m ≡ length r.fields ∷ length (written_of r.fields) ∷ highest_in r.fields ∷ []
 
 -- how many words records need
 unfoldable pub words_in : List Record → ℕ
@@ -67,23 +67,23 @@ words_in (r ∷ rs) = 1 + length r.fields + words_in rs
 abbrev pub total : ℕ → List Record → List ℕ → Total
 total size rs bs = record { words = words_in rs; blanks = blanks rs; highest = highest rs; end = size - length bs }
 
-unfoldable pub measuredRecords : ℕ → Parsed (List Record) → Needed
-measuredRecords size (read rs bs) = needed.Records (total size rs bs)
-measuredRecords size (refused why) = needed.Refused why
+unfoldable pub measured_records : ℕ → Parsed (List Record) → Needed
+measured_records size (read rs bs) = needed.Records (total size rs bs)
+measured_records size (refused why) = needed.Refused why
 
 -- the answer for all records, as the paper's number and what the records need
-abbrev pub neededNumber : Needed → ℕ
-neededNumber (needed.Records t) = 0
-neededNumber (needed.Refused why) = why
+abbrev pub needed_number : Needed → ℕ
+needed_number (needed.Records t) = 0
+needed_number (needed.Refused why) = why
 
-abbrev pub neededTotal : Needed → List Total
-neededTotal (needed.Records t) = t ∷ []
-neededTotal (needed.Refused why) = []
+abbrev pub needed_total : Needed → List Total
+needed_total (needed.Records t) = t ∷ []
+needed_total (needed.Refused why) = []
 
 pub record TellsRecords (n : Needed) (size : ℕ) (p : Parsed (List Record)) : Type 0 where
-  pub number : neededNumber n ≡ readingNumber p
-  pub needs : (rs : List Record) (bs : List ℕ) → p ≡ read rs bs → neededTotal n ≡ total size rs bs ∷ []
+  pub number : needed_number n ≡ reading_number p
+  pub needs : (rs : List Record) (bs : List ℕ) → p ≡ read rs bs → needed_total n ≡ total size rs bs ∷ []
 
 -- the first pass over count records, from index `start` of the card
-abbrev pub measuredFrom : List ℕ → ℕ → ℕ → List ℕ → ℕ → Needed
-measuredFrom card start n ars count = measuredRecords (length card) (readRecords n ars count (drop start card))
+abbrev pub measured_from : List ℕ → ℕ → ℕ → List ℕ → ℕ → Needed
+measured_from card start n ars count = measured_records (length card) (read_records n ars count (drop start card))

@@ -1,22 +1,22 @@
 // What comes before a card's records: the number of relations, their arities and the number of rows.
 ghost use Rattle.std.specs.Prelude.{◌≡◌, [], ℕ, ◌^◌, ◌≤◌, ◌<◌, length, drop};
 ghost use Rattle.calculus.specs.declared.answer.Answer.TheVariants.{Done};
-ghost use Rattle.instance.specs.Header.{maxRelations};
-ghost use Rattle.card.specs.Format.{readArities, read_head};
-ghost use Rattle.decode.specs.Measure.{noArities, openedArities, noHead, openedHead};
+ghost use Rattle.instance.specs.Header.{max_relations};
+ghost use Rattle.card.specs.Format.{read_arities, read_head};
+ghost use Rattle.decode.specs.Measure.{no_arities, opened_arities, no_head, opened_head};
 
 use calculus::answer::Answer;
 use calculus::refusal::{BAD_ARITY, BAD_RELATION_COUNT, CUT_SHORT};
 use instance::header::{COLUMNS, RELATIONS};
 use parse::number::{byte, number};
 
-#[derive(Drop)]
+#[derive(Clone, Copy)]
 pub struct Arities {
     pub answer: Answer,
     pub arities: [u32; 8],
 }
 
-#[derive(Drop)]
+#[derive(Clone, Copy)]
 pub struct Head {
     // the number of rows, or the refusal
     pub answer: Answer,
@@ -25,7 +25,7 @@ pub struct Head {
 }
 
 fn no_arities(why: u32) -> Arities
-    ensures { result ≡ noArities why }
+    ensures { result ≡ no_arities why }
 {
     Arities {
         answer: Answer::Refused(why),
@@ -34,7 +34,7 @@ fn no_arities(why: u32) -> Arities
 }
 
 fn no_head(why: u32) -> Head
-    ensures { result ≡ noHead why }
+    ensures { result ≡ no_head why }
 {
     Head {
         answer: Answer::Refused(why),
@@ -44,9 +44,9 @@ fn no_head(why: u32) -> Head
 }
 
 fn read_arities(card: &[u8], relations: usize) -> Arities
-    requires few { relations ≤ maxRelations }
+    requires few { relations ≤ max_relations }
     requires opened { 1 ≤ length card.now }
-    ensures { result ≡ openedArities [] (readArities relations (drop 1 card.now)) }
+    ensures { result ≡ opened_arities [] (read_arities relations (drop 1 card.now)) }
 {
     let mut arities = [0u32; 8];
     let mut i = 0;
@@ -71,7 +71,7 @@ fn read_arities(card: &[u8], relations: usize) -> Arities
 }
 
 pub fn read_head(card: &[u8]) -> Head
-    ensures head { result ≡ openedHead (read_head card.now) }
+    ensures head { result ≡ opened_head (read_head card.now) }
     ensures counted { (n : ℕ) → result.answer ≡ Done n → n < 256 ^ 2 }
 {
     if card.len() < 1 {

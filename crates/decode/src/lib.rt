@@ -1,7 +1,7 @@
 // Reading a card into an instance.
 ghost use Rattle.std.specs.Prelude.{◌≡◌};
 ghost use Rattle.calculus.specs.declared.answer.Answer.TheVariants.{Done, Refused};
-ghost use Rattle.instance.specs.Header.{headerWith};
+ghost use Rattle.instance.specs.Header.{header_with};
 ghost use Rattle.calculus.specs.Answer.{Tells};
 ghost use Rattle.card.specs.Decode.{decoded, no_header};
 ghost use Rattle.log.specs.Log.{fresh};
@@ -35,7 +35,7 @@ fn refused(why: u32) -> Restarted
 
 fn stored(relations: u32, arities: [u32; 8], used: u32, counts: [u32; 8]) -> Restarted
     ensures answer { result.answer ≡ Done used }
-    ensures header { result.header ≡ headerWith relations arities used counts }
+    ensures header { result.header ≡ header_with relations arities used counts }
     ensures log { result.log ≡ fresh }
 {
     let header = header_with(relations, arities, used, counts);

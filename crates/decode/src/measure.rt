@@ -1,15 +1,15 @@
 // The first pass over a card's records: every byte is checked, and what the rows need is added up.
 ghost use Rattle.std.specs.Prelude.{◌≡◌, true, ◌^◌, ◌≤◌, ◌<◌, length, drop};
-ghost use Rattle.instance.specs.Header.{aritiesWellFormed, maxRelations};
-ghost use Rattle.card.specs.Format.{readRecord, readRecords};
-ghost use Rattle.decode.specs.Measure.{readWritten, measuredFields, measuredRecord, TellsRecord, measuredFrom, TellsRecords};
+ghost use Rattle.instance.specs.Header.{arities_well_formed, max_relations};
+ghost use Rattle.card.specs.Format.{read_record, read_records};
+ghost use Rattle.decode.specs.Measure.{read_written, measured_fields, measured_record, TellsRecord, measured_from, TellsRecords};
 
 use calculus::answer::Answer;
 use calculus::cell::{CONSTANTS, is_cell};
 use calculus::refusal::{BIT_BEYOND_ARITY, CUT_SHORT, NO_SUCH_RELATION, NOT_A_CELL};
 use parse::number::{byte, number};
 
-#[derive(Drop)]
+#[derive(Clone, Copy)]
 pub enum Measured {
     Record {
         arity: u32,
@@ -20,7 +20,7 @@ pub enum Measured {
 }
 
 // What all records need, and where the last one ends.
-#[derive(Drop)]
+#[derive(Clone, Copy)]
 pub struct Total {
     pub words: u32,
     pub blanks: u32,
@@ -28,7 +28,7 @@ pub struct Total {
     pub end: usize,
 }
 
-#[derive(Drop)]
+#[derive(Clone, Copy)]
 pub enum Needed {
     Records(Total),
     Refused(u32),
@@ -36,7 +36,7 @@ pub enum Needed {
 
 // The highest null in the given number of written fields, 0 if there is none.
 fn measure_fields(bytes: &[u8], written: u32) -> Answer
-    ensures { result ≡ measuredFields (readWritten written bytes.now) }
+    ensures { result ≡ measured_fields (read_written written bytes.now) }
 {
     let mut highest: u32 = 0;
     let mut left = written;
@@ -60,10 +60,10 @@ fn measure_fields(bytes: &[u8], written: u32) -> Answer
 
 // Measures one record, at the start of the bytes.
 fn measure_record(bytes: &[u8], relations: u32, arities: &[u32; 8]) -> Measured
-    requires few { relations ≤ maxRelations }
-    requires formed { aritiesWellFormed relations arities.now ≡ true }
-    ensures answer { result ≡ measuredRecord (readRecord relations arities.now bytes.now) }
-    ensures told { TellsRecord result (readRecord relations arities.now bytes.now) }
+    requires few { relations ≤ max_relations }
+    requires formed { arities_well_formed relations arities.now ≡ true }
+    ensures answer { result ≡ measured_record (read_record relations arities.now bytes.now) }
+    ensures told { TellsRecord result (read_record relations arities.now bytes.now) }
 {
     if bytes.len() < 1 {
         return Measured::Refused(CUT_SHORT);
@@ -94,11 +94,11 @@ fn measure_record(bytes: &[u8], relations: u32, arities: &[u32; 8]) -> Measured
 // Measures `count` records, from index `start` of the card.
 pub fn measure(card: &[u8], start: usize, relations: u32, arities: &[u32; 8], count: u32) -> Needed
     requires within { start ≤ length card.now }
-    requires few { relations ≤ maxRelations }
-    requires formed { aritiesWellFormed relations arities.now ≡ true }
+    requires few { relations ≤ max_relations }
+    requires formed { arities_well_formed relations arities.now ≡ true }
     requires counted { count < 256 ^ 2 }
-    ensures answer { result ≡ measuredFrom card.now start relations arities.now count }
-    ensures told { TellsRecords result (length card.now) (readRecords relations arities.now count (drop start card.now)) }
+    ensures answer { result ≡ measured_from card.now start relations arities.now count }
+    ensures told { TellsRecords result (length card.now) (read_records relations arities.now count (drop start card.now)) }
 {
     let mut words: u32 = 0;
     let mut blanks: u32 = 0;

@@ -3,11 +3,11 @@ ghost use Rattle.std.specs.Prelude.{◌≡◌, true, [], ◌∷◌, ◌+◌, ◌
 ghost use Rattle.calculus.specs.Cell.{nulls};
 ghost use Rattle.calculus.specs.Overwrite.{overwrite};
 ghost use Rattle.instance.specs.Blanks.{numbered};
-ghost use Rattle.instance.specs.Header.{maxColumns};
-ghost use Rattle.instance.specs.RowCounts.{rowCounts};
-ghost use Rattle.parse.specs.Parse.{isRead, got};
-ghost use Rattle.card.specs.Format.{readFields};
-ghost use Rattle.decode.specs.Write.{WriteRows, rowsRead, wordsRead};
+ghost use Rattle.instance.specs.Header.{max_columns};
+ghost use Rattle.instance.specs.RowCounts.{row_counts};
+ghost use Rattle.parse.specs.Parse.{is_read, got};
+ghost use Rattle.card.specs.Format.{read_fields};
+ghost use Rattle.decode.specs.Write.{WriteRows, rows_read, words_read};
 
 use calculus::cell::CONSTANTS;
 use parse::number::{byte, number};
@@ -15,10 +15,10 @@ use parse::number::{byte, number};
 // Writes one row at the start of a part of `instance`; the row's first blank gets null `next`.
 fn write_row(part: &mut [u32], relation: u32, arity: usize, map: u32, fields: &[u8], next: u32)
     requires arity_in_bounds { 1 + arity ≤ length part.old }
-    requires arity_le_max_columns { arity ≤ maxColumns }
+    requires arity_le_max_columns { arity ≤ max_columns }
     requires next_bound { next ≤ nulls + 1 }
-    requires fields_value { isRead (readFields arity map fields.now) ≡ true }
-    ensures { part.new ≡ overwrite (relation ∷ numbered next (got [] (readFields arity map fields.now))) part.old }
+    requires fields_value { is_read (read_fields arity map fields.now) ≡ true }
+    ensures { part.new ≡ overwrite (relation ∷ numbered next (got [] (read_fields arity map fields.now))) part.old }
 {
     part[0] = relation;
     let mut bits = map;
@@ -49,9 +49,9 @@ pub fn write_rows(
     next: u32,
 ) -> [u32; 8]
     requires { WriteRows instance.old card.now relations arities.now count next }
-    ensures counts { result ≡ rowCounts (rowsRead relations arities.now count next
+    ensures counts { result ≡ row_counts (rows_read relations arities.now count next
         (drop (relations + 3) card.now)) }
-    ensures words { instance.new ≡ overwrite (wordsRead relations arities.now count next
+    ensures words { instance.new ≡ overwrite (words_read relations arities.now count next
         (drop (relations + 3) card.now)) instance.old }
 {
     let mut counts = [0u32; 8];

@@ -8,20 +8,20 @@ use lib.Seq.{length-take-le}
 use Rattle.calculus.specs.Domain.{distinct}
 use Rattle.calculus.specs.Overwrite.{overwrite}
 use Rattle.calculus.proofs.Listing.{listing-distinct}
-use Rattle.query.specs.Named.{constantsAmong}
-use Rattle.query.proofs.KindTerms.{among-append}
-use Rattle.domain.specs.Chains.{wordValue, values_of, Chained, Added}
+use Rattle.query.specs.Named.{constants_among}
+use Rattle.query.proofs.KindTerms.{among_append}
+use Rattle.domain.specs.Chains.{word_value, values_of, Chained, Added}
 use Rattle.domain.proofs.Chains.{added_then, added_none}
 
 -- ---- the constants among words, and the inked terms of nodes
 
 -- the constants among the words `all`, of which those before index i are added
 module _ (ws : List ℕ) (i : ℕ) where
-  among-split : constantsAmong ws ≡ constantsAmong (take i ws) ++ constantsAmong (drop i ws)
-  among-split = ap constantsAmong (sym (take-append-drop i ws)) ∙ among-append (take i ws) (drop i ws)
+  among_split : constants_among ws ≡ constants_among (take i ws) ++ constants_among (drop i ws)
+  among_split = ap constants_among (sym (take-append-drop i ws)) ∙ among_append (take i ws) (drop i ws)
 
-  pub among-room : length (constantsAmong (take i ws)) + length (constantsAmong (drop i ws)) ≡ length (constantsAmong ws)
-  among-room = sym (length-append (constantsAmong (take i ws)) (constantsAmong (drop i ws))) ∙ ap length (sym among-split)
+  pub among_room : length (constants_among (take i ws)) + length (constants_among (drop i ws)) ≡ length (constants_among ws)
+  among_room = sym (length-append (constants_among (take i ws)) (constants_among (drop i ws))) ∙ ap length (sym among_split)
 
 -- what holds of equal lists
 pub same-added :
@@ -56,14 +56,14 @@ naming-all s = rw (sym (append-nil s.seen) ∙ s.terms) at s.added
 -- ---- everything is added: the values come first, and the rest of the buffer is as it was
 
 module _ {all before buffer : List ℕ} {n : ℕ} (a : Added before 0 all buffer n) (room : length all ≤ length before) where
-  pub added-fits : n ≤ length buffer
-  added-fits = omega (arith, a.most, a.long)
+  pub added_fits : n ≤ length buffer
+  added_fits = omega (arith, a.most, a.long)
 
   values-all : values_of n buffer ≡ distinct all
   values-all = a.values ∙ listing-distinct all
 
-  pub added-number : n ≡ length (distinct all)
-  added-number = sym (length-take-le n buffer added-fits) ∙ sym (length-map (take n buffer) wordValue) ∙ ap length values-all
+  pub added_number : n ≡ length (distinct all)
+  added_number = sym (length-take-le n buffer added_fits) ∙ sym (length-map (take n buffer) word_value) ∙ ap length values-all
 
-  pub added-ends : values_of n buffer ++ drop n buffer ≡ overwrite (distinct all) before
-  added-ends = rw (values-all, a.kept, added-number) refl
+  pub added_ends : values_of n buffer ++ drop n buffer ≡ overwrite (distinct all) before
+  added_ends = rw (values-all, a.kept, added_number) refl

@@ -3,24 +3,24 @@
 use Rattle.std.specs.Prelude.{ℕ, ◌+◌, ◌-◌, ◌/◌, ◌%◌, ◌≤◌, ◌<◌, ◌≡◌, List, map, length, get_or, take, drop}
 use Rattle.calculus.specs.Listed.{listed}
 use Rattle.calculus.specs.Domain.{listing}
-use Rattle.domain.specs.Bucket.{buckets, bucketOf}
+use Rattle.domain.specs.Bucket.{buckets, bucket_of}
 
-abbrev pub linkUnit : ℕ
-linkUnit = 1048576
+abbrev pub link_unit : ℕ
+link_unit = 1048576
 
-abbrev pub wordValue : ℕ → ℕ
-wordValue w = w % linkUnit
+abbrev pub word_value : ℕ → ℕ
+word_value w = w % link_unit
 
-abbrev pub wordLink : ℕ → ℕ
-wordLink w = w / linkUnit
+abbrev pub word_link : ℕ → ℕ
+word_link w = w / link_unit
 
 -- the values that the first n words hold
 abbrev pub values_of : ℕ → List ℕ → List ℕ
-values_of n ws = map wordValue (take n ws)
+values_of n ws = map word_value (take n ws)
 
 -- the value at index p, counted from 1, is in the bucket of c, unless p is 0
 abbrev pub InBucket : List ℕ → ℕ → ℕ → Type 0
-InBucket ws c p = 0 < p → bucketOf (wordValue (get_or ws (p - 1) 0)) ≡ bucketOf c
+InBucket ws c p = 0 < p → bucket_of (word_value (get_or ws (p - 1) 0)) ≡ bucket_of c
 
 -- the chain of c's bucket through the first n values goes on at index p, counted from 1: if c is among the n, it is among the first p
 pub record Chain (ws : List ℕ) (c n p : ℕ) : Type 0 where
@@ -30,13 +30,13 @@ pub record Chain (ws : List ℕ) (c n p : ℕ) : Type 0 where
 
 -- from each of the first n words, the chain of its bucket goes on at its link
 abbrev pub Linked : List ℕ → ℕ → Type 0
-Linked ws n = (i c : ℕ) → i < n → bucketOf (wordValue (get_or ws i 0)) ≡ bucketOf c → Chain ws c i (wordLink (get_or ws i 0))
+Linked ws n = (i c : ℕ) → i < n → bucket_of (word_value (get_or ws i 0)) ≡ bucket_of c → Chain ws c i (word_link (get_or ws i 0))
 
 -- the words are linked, and the chain of each bucket starts at its head
 pub record Chained (heads ws : List ℕ) (n : ℕ) : Type 0 where
   pub size : length heads ≡ buckets
   pub links : Linked ws n
-  pub starts : (c : ℕ) → Chain ws c n (get_or heads (bucketOf c) 0)
+  pub starts : (c : ℕ) → Chain ws c n (get_or heads (bucket_of c) 0)
 
 -- the first n values become the first m: the cells are added after them, each if it is not listed yet, and the other words stay
 pub record Added (before : List ℕ) (n : ℕ) (cells after : List ℕ) (m : ℕ) : Type 0 where

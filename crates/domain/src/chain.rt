@@ -1,10 +1,10 @@
 // A list of values while it is being built: a hash table whose chains run through the list. At most 980 cells share a bucket, so no chain is longer.
 ghost use Rattle.std.specs.Prelude.{◌≡◌, ◌≤◌, ◌<◌, ◌+◌, map, [], ◌∷◌, length, true};
-ghost use Rattle.instance.specs.Header.{maxWords};
+ghost use Rattle.instance.specs.Header.{max_words};
 ghost use Rattle.calculus.specs.Listed.{listed};
-ghost use Rattle.domain.specs.Chains.{linkUnit, wordValue, values_of, InBucket, Linked, Chained, Added};
-ghost use Rattle.instance.specs.Rows.{areCells};
-ghost use Rattle.query.specs.Named.{constantsAmong, named_in, HasTerms};
+ghost use Rattle.domain.specs.Chains.{link_unit, word_value, values_of, InBucket, Linked, Chained, Added};
+ghost use Rattle.instance.specs.Rows.{are_cells};
+ghost use Rattle.query.specs.Named.{constants_among, named_in, HasTerms};
 
 use super::bucket::bucket_of;
 use calculus::cell::CONSTANTS;
@@ -32,7 +32,7 @@ fn find(list: &[u32], head: usize, cell: u32) -> bool
 
 // Adds a cell after the first n values of a list if it is not among them, and returns the new number of values.
 pub fn add_value(list: &mut [u32], heads: &mut [u16; 1024], n: usize, cell: u32) -> usize
-    requires { (n < length list.old) × (n < maxWords) × (cell < linkUnit) × Chained heads.old list.old n }
+    requires { (n < length list.old) × (n < max_words) × (cell < link_unit) × Chained heads.old list.old n }
     ensures chained { Chained heads.new list.new result }
     ensures added { Added list.old n (cell ∷ []) list.new result }
 {
@@ -48,7 +48,7 @@ pub fn add_value(list: &mut [u32], heads: &mut [u16; 1024], n: usize, cell: u32)
 
 // Adds cells after the first n values of a list, each if it is not listed yet, and returns the new number of values.
 pub fn add_cells(list: &mut [u32], heads: &mut [u16; 1024], n: usize, cells: &[u32]) -> usize
-    requires { (n + length cells.now ≤ length list.old) × (n + length cells.now ≤ maxWords) × (areCells cells.now ≡ true) × Chained heads.old list.old n }
+    requires { (n + length cells.now ≤ length list.old) × (n + length cells.now ≤ max_words) × (are_cells cells.now ≡ true) × Chained heads.old list.old n }
     ensures chained { Chained heads.new list.new result }
     ensures added { Added list.old n cells.now list.new result }
 {
@@ -64,10 +64,10 @@ pub fn add_cells(list: &mut [u32], heads: &mut [u16; 1024], n: usize, cells: &[u
 // Adds the constants among words after the first n values of a list, each if it is not listed yet, and returns the new
 // number of values.
 fn add_constants(list: &mut [u32], heads: &mut [u16; 1024], n: usize, words: &[u32]) -> usize
-    requires { (n + length (constantsAmong words.now) ≤ length list.old)
-        × (n + length (constantsAmong words.now) ≤ maxWords) × Chained heads.old list.old n }
+    requires { (n + length (constants_among words.now) ≤ length list.old)
+        × (n + length (constants_among words.now) ≤ max_words) × Chained heads.old list.old n }
     ensures chained { Chained heads.new list.new result }
-    ensures added { Added list.old n (constantsAmong words.now) list.new result }
+    ensures added { Added list.old n (constants_among words.now) list.new result }
 {
     let mut count = n;
     let mut i = 0;
@@ -91,7 +91,7 @@ pub fn add_named(
 ) -> usize
     requires has_terms { HasTerms arities.now query.now × Chained heads.old list.old n }
     requires query_in_bounds { (n + length (named_in arities.now query.now) ≤ length list.old)
-        × (n + length (named_in arities.now query.now) ≤ maxWords) }
+        × (n + length (named_in arities.now query.now) ≤ max_words) }
     ensures chained { Chained heads.new list.new result }
     ensures added { Added list.old n (named_in arities.now query.now)
         list.new result }
@@ -107,7 +107,7 @@ pub fn add_named(
 
 // Removes the links from a list.
 pub fn unlink(list: &mut [u32])
-    ensures { list.new ≡ map wordValue list.old }
+    ensures { list.new ≡ map word_value list.old }
 {
     let mut i = 0;
     while i < list.len() {

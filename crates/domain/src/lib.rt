@@ -2,11 +2,11 @@
 // first occurrence.
 ghost use Rattle.std.specs.Prelude.{◌≡◌, ◌++◌, ◌≤◌, length};
 ghost use Rattle.calculus.specs.Row.{cells_of};
-ghost use Rattle.calculus.specs.Domain.{rangeOver};
+ghost use Rattle.calculus.specs.Domain.{range_over};
 ghost use Rattle.instance.specs.Rows.{rows_from};
 ghost use Rattle.instance.specs.InstanceWellFormed.{InstanceOf};
 ghost use Rattle.calculus.specs.Overwrite.{overwrite};
-ghost use Rattle.instance.specs.Header.{maxWords};
+ghost use Rattle.instance.specs.Header.{max_words};
 ghost use Rattle.query.specs.Named.{named_in, HasTerms};
 ghost use Rattle.domain.specs.Chains.{Chained, Added};
 
@@ -46,11 +46,11 @@ pub fn list_range(words: &[u32], query: &[u32], arities: &[u32; 8], buffer: &mut
     requires query_in_bounds { length (cells_of (rows_from arities.now 0 words.now) ++ named_in arities.now query.now)
         ≤ length buffer.old }
     requires query_len_bound { length (cells_of (rows_from arities.now 0 words.now) ++ named_in arities.now query.now)
-        ≤ maxWords }
-    ensures number { result ≡ length (rangeOver (named_in arities.now query.now)
+        ≤ max_words }
+    ensures number { result ≡ length (range_over (named_in arities.now query.now)
         (rows_from arities.now 0 words.now)) }
     ensures values { buffer.new ≡ overwrite
-        (rangeOver (named_in arities.now query.now)
+        (range_over (named_in arities.now query.now)
         (rows_from arities.now 0 words.now)) buffer.old }
 {
     let mut heads = [0u16; 1024];

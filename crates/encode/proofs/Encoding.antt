@@ -12,16 +12,16 @@ use borrow.Author.Tests.{le-leb, lt-leb}
 use Rattle.calculus.specs.declared.answer.Answer.TheVariants.{Done, Refused}
 use Rattle.calculus.specs.declared.answer.Answer.{Answer}
 use Rattle.calculus.specs.Answer.{Tells}
-use Rattle.calculus.specs.Refusal.{unsound, output-too-short}
-use Rattle.calculus.proofs.Answers.{two-demands, tells}
+use Rattle.calculus.specs.Refusal.{unsound, output_too_short}
+use Rattle.calculus.proofs.Answers.{two_demands, tells}
 use Rattle.instance.specs.declared.header.Header.{Header}
-use Rattle.instance.specs.Header.{maxRelations}
+use Rattle.instance.specs.Header.{max_relations}
 use Rattle.instance.specs.Sound.{sound, rows}
 use Rattle.instance.proofs.Rows.{headed}
-use Rattle.card.specs.Encode.{headBytes, recordsBytes, cardBytes, encoded, encodedBytes}
-use Rattle.instance.proofs.Parts.{part_to_end, put-to-end}
+use Rattle.card.specs.Encode.{head_bytes, records_bytes, card_bytes, encoded, encoded_bytes}
+use Rattle.instance.proofs.Parts.{part_to_end, put_to_end}
 use Rattle.encode.proofs.RecordSteps.{records-size}
-use Rattle.instance.proofs.Sound.{sound-gives}
+use Rattle.instance.proofs.Sound.{sound_gives}
 use Rattle.calculus.specs.Overwrite.{overwrite}
 
 -- a head and then, in the part after it, records are written to the front of a list
@@ -32,60 +32,60 @@ joined head records out start lent back e l p q =
     let behind : drop start lent ≡ drop start out = rw p (drop_at head (drop start out) start e) in
     let front : take start lent ≡ head = rw p (take_at head (drop start out) start e) in
     let long : start ≤ length lent = rw (p, length-append) (omega arith) in
-    put-to-end lent start back long
+    put_to_end lent start back long
     ∙ rw (front, q, part_to_end lent start, behind, drop-drop (length records) start out, length-append head records, e)
     (sym (append_assoc head records (drop (start + length records) out)))
 
-module _ (h : Header) (ws : List ℕ) (s : sound h ws ≡ true) (eight : length h.arities ≡ maxRelations) where
-  pub head-size : length (headBytes h (length (rows h ws))) ≡ h.relations + 3
+module _ (h : Header) (ws : List ℕ) (s : sound h ws ≡ true) (eight : length h.arities ≡ max_relations) where
+  pub head-size : length (head_bytes h (length (rows h ws))) ≡ h.relations + 3
   head-size =
-      let few = (sound-gives h ws s).headed.few in
+      let few = (sound_gives h ws s).headed.few in
       simp (length-append, length-take) (omega arith)
 
   -- three bytes for each word in use, but one fewer for each row
-  pub record-size : length (recordsBytes (rows h ws)) + length (rows h ws) ≡ 3 * h.used
-  record-size = let g = sound-gives h ws s in omega (arith, records-size (rows h ws), ap length g.words, g.in_use)
+  pub record-size : length (records_bytes (rows h ws)) + length (rows h ws) ≡ 3 * h.used
+  record-size = let g = sound_gives h ws s in omega (arith, records-size (rows h ws), ap length g.words, g.in_use)
 
-  pub card-size : length (cardBytes h (rows h ws)) ≡ h.relations + 3 + (3 * h.used - length (rows h ws))
-  unfolding cardBytes
+  pub card-size : length (card_bytes h (rows h ws)) ≡ h.relations + 3 + (3 * h.used - length (rows h ws))
+  unfolding card_bytes
   card-size = rw length-append (omega (arith, head-size, record-size))
 
   -- the head and then, in the part after it, the records are the card
-  pub all-written : (out lent back : List ℕ) (count : ℕ) → length (rows h ws) ≡ count → length (cardBytes h (rows h ws)) ≤ length out
+  pub all-written : (out lent back : List ℕ) (count : ℕ) → length (rows h ws) ≡ count → length (card_bytes h (rows h ws)) ≤ length out
       → lent ≡ h.relations ∷ take h.relations h.arities ++ count / 256 % 256 ∷ count % 256 ∷ drop (h.relations + 3) out
-      → back ≡ overwrite (recordsBytes (rows h ws)) (take (length lent - (h.relations + 3)) (drop (h.relations + 3) lent))
+      → back ≡ overwrite (records_bytes (rows h ws)) (take (length lent - (h.relations + 3)) (drop (h.relations + 3) lent))
       → put_mid (h.relations + 3) (length lent - (h.relations + 3)) lent back
-      ≡ overwrite (cardBytes h (rows h ws)) out
-  unfolding cardBytes
+      ≡ overwrite (card_bytes h (rows h ws)) out
+  unfolding card_bytes
   all-written out lent back count e room p q =
       let start = h.relations + 3 in
-      let head = headBytes h (length (rows h ws)) in
-      let size = length-append head (recordsBytes (rows h ws)) in
+      let head = head_bytes h (length (rows h ws)) in
+      let size = length-append head (records_bytes (rows h ws)) in
       let assoc = append_assoc (take h.relations h.arities) (count / 256 % 256 ∷ count % 256 ∷ []) (drop start out) in
       let heads : lent ≡ head ++ drop start out = p ∙ rw (e, assoc) in
-      joined head (recordsBytes (rows h ws)) out start lent back head-size (omega (arith, head-size, size, room)) heads q
+      joined head (records_bytes (rows h ws)) out start lent back head-size (omega (arith, head-size, size, room)) heads q
 
 -- the answer, once it is known whether the instance is sound and whether the card fits
 module _ (h : Header) (ws out : List ℕ) where
-  pub refused-unsound : sound h ws ≡ false → (Refused unsound ≡ encoded h ws out) × (out ≡ encodedBytes h ws out)
-  unfolding encoded encodedBytes
+  pub refused-unsound : sound h ws ≡ false → (Refused unsound ≡ encoded h ws out) × (out ≡ encoded_bytes h ws out)
+  unfolding encoded encoded_bytes
   refused-unsound e = (simp e, simp e)
 
-  pub refused-short : sound h ws ≡ true → length out < length (cardBytes h (rows h ws))
-      → (Refused output-too-short ≡ encoded h ws out) × (out ≡ encodedBytes h ws out)
-  unfolding encoded encodedBytes
-  refused-short e l = let t = lt-leb (length (cardBytes h (rows h ws))) (length out) l in (simp (e, t), simp (e, t))
+  pub refused-short : sound h ws ≡ true → length out < length (card_bytes h (rows h ws))
+      → (Refused output_too_short ≡ encoded h ws out) × (out ≡ encoded_bytes h ws out)
+  unfolding encoded encoded_bytes
+  refused-short e l = let t = lt-leb (length (card_bytes h (rows h ws))) (length out) l in (simp (e, t), simp (e, t))
 
-  pub done : sound h ws ≡ true → length (cardBytes h (rows h ws)) ≤ length out
-      → (Done (length (cardBytes h (rows h ws))) ≡ encoded h ws out)
-      × (overwrite (cardBytes h (rows h ws)) out ≡ encodedBytes h ws out)
-  unfolding encoded encodedBytes
-  done e l = let t = le-leb (length (cardBytes h (rows h ws))) (length out) l in (simp (e, t), simp (e, t))
+  pub done : sound h ws ≡ true → length (card_bytes h (rows h ws)) ≤ length out
+      → (Done (length (card_bytes h (rows h ws))) ≡ encoded h ws out)
+      × (overwrite (card_bytes h (rows h ws)) out ≡ encoded_bytes h ws out)
+  unfolding encoded encoded_bytes
+  done e l = let t = le-leb (length (card_bytes h (rows h ws))) (length out) l in (simp (e, t), simp (e, t))
 
   -- the answer in the paper's numbers: the number of the card's bytes
   pub encode-told :
-      {r : Answer} {P : Type 0} → (r ≡ encoded h ws out) × P → (r ≡ encoded h ws out) × (P × Tells r (encoded h ws out) (length (cardBytes h (rows h ws))))
+      {r : Answer} {P : Type 0} → (r ≡ encoded h ws out) × P → (r ≡ encoded h ws out) × (P × Tells r (encoded h ws out) (length (card_bytes h (rows h ws))))
   unfolding encoded
   encode-told p =
-      let size = length (cardBytes h (rows h ws)) in
-      (p.0, (p.1, tells size p.0 (two-demands (sound h ws) (leb size (length out)) unsound output-too-short size)))
+      let size = length (card_bytes h (rows h ws)) in
+      (p.0, (p.1, tells size p.0 (two_demands (sound h ws) (leb size (length out)) unsound output_too_short size)))

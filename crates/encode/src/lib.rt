@@ -1,10 +1,10 @@
 // Writing an instance as a card, every column written.
 ghost use Rattle.std.specs.Prelude.{◌≡◌, true, ◌∷◌, ◌++◌, ℕ, ◌+◌, ◌/◌, ◌%◌, ◌≤◌, ◌<◌, ◌*◌, length, take, drop};
-ghost use Rattle.instance.specs.Header.{headerWellFormed, arityOf, maxRelations, maxColumns};
-ghost use Rattle.instance.specs.Rows.{wordsWellFormed, rows_from};
+ghost use Rattle.instance.specs.Header.{header_well_formed, arity_of, max_relations, max_columns};
+ghost use Rattle.instance.specs.Rows.{words_well_formed, rows_from};
 ghost use Rattle.calculus.specs.Answer.{Tells};
 ghost use Rattle.instance.specs.Sound.{rows};
-ghost use Rattle.card.specs.Encode.{cardBytes, encoded, encodedBytes, recordsBytes, fullMap, fieldsBytes};
+ghost use Rattle.card.specs.Encode.{card_bytes, encoded, encoded_bytes, records_bytes, full_map, fields_bytes};
 ghost use Rattle.calculus.specs.Overwrite.{overwrite};
 
 use calculus::answer::Answer;
@@ -17,7 +17,7 @@ const FULL_MAPS: [u8; 7] = [0, 1, 3, 7, 15, 31, 63];
 
 // Writes the bytes before the records.
 fn write_head(out: &mut [u8], relations: u32, arities: &[u32; 8], count: u32)
-    requires { (headerWellFormed relations arities.now ≡ true) × (length arities.now ≡ maxRelations) × (relations + 3 ≤ length out.old) }
+    requires { (header_well_formed relations arities.now ≡ true) × (length arities.now ≡ max_relations) × (relations + 3 ≤ length out.old) }
     ensures { out.new ≡ relations ∷ take relations arities.now ++ count / 256 % 256 ∷ count % 256 ∷ drop (relations + 3) out.old }
 {
     out[0] = relations as u8;
@@ -33,8 +33,8 @@ fn write_head(out: &mut [u8], relations: u32, arities: &[u32; 8], count: u32)
 
 // Writes the record of one row.
 fn write_record(out: &mut [u8], relation: u32, cells: &[u32])
-    requires { (relation < maxRelations) × (length cells.now ≤ maxColumns) × (2 + 3 * length cells.now ≤ length out.old) }
-    ensures { out.new ≡ overwrite (relation ∷ fullMap (length cells.now) ∷ fieldsBytes cells.now) out.old }
+    requires { (relation < max_relations) × (length cells.now ≤ max_columns) × (2 + 3 * length cells.now ≤ length out.old) }
+    ensures { out.new ≡ overwrite (relation ∷ full_map (length cells.now) ∷ fields_bytes cells.now) out.old }
 {
     out[0] = relation as u8;
     out[1] = FULL_MAPS[cells.len()];
@@ -52,10 +52,10 @@ fn write_record(out: &mut [u8], relation: u32, cells: &[u32])
 
 // Writes the records of the rows in the words, row by row.
 fn write_records(out: &mut [u8], arities: &[u32; 8], words: &[u32])
-    requires by_index { (r : ℕ) → arityOf arities.now r ≤ maxColumns }
-    requires words_value { wordsWellFormed maxRelations arities.now 0 words.now ≡ true }
-    requires words_in_bounds { length (recordsBytes (rows_from arities.now 0 words.now)) ≤ length out.old }
-    ensures { out.new ≡ overwrite (recordsBytes (rows_from arities.now 0 words.now)) out.old }
+    requires by_index { (r : ℕ) → arity_of arities.now r ≤ max_columns }
+    requires words_value { words_well_formed max_relations arities.now 0 words.now ≡ true }
+    requires words_in_bounds { length (records_bytes (rows_from arities.now 0 words.now)) ≤ length out.old }
+    ensures { out.new ≡ overwrite (records_bytes (rows_from arities.now 0 words.now)) out.old }
 {
     let mut at = 0;
     let mut i = 0;
@@ -72,8 +72,8 @@ fn write_records(out: &mut [u8], arities: &[u32; 8], words: &[u32])
 // Writes the card of an instance from the first byte, and returns the number of its bytes.
 pub fn encode(header: Header, instance: &[u32], out: &mut [u8]) -> Answer
     ensures answer { result ≡ encoded header instance.now out.old }
-    ensures bytes { out.new ≡ encodedBytes header instance.now out.old }
-    ensures told { Tells result (encoded header instance.now out.old) (length (cardBytes header (rows header instance.now))) }
+    ensures bytes { out.new ≡ encoded_bytes header instance.now out.old }
+    ensures told { Tells result (encoded header instance.now out.old) (length (card_bytes header (rows header instance.now))) }
 {
     let Scanned::Rows(count) = scan(header, instance) else {
         return Answer::Refused(UNSOUND);

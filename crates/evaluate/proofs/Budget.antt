@@ -18,9 +18,9 @@ pub verdict : (b : ℕ) (o : Outcome) → o.cost ≤ b → within b o ≡ Verdic
 unfolding within
 verdict b o h = rw (le-leb o.cost b h)
 
-pub was-spent : (b : ℕ) (o : Outcome) → within b o ≡ Spent → b < o.cost
+pub was_spent : (b : ℕ) (o : Outcome) → within b o ≡ Spent → b < o.cost
 unfolding within
-was-spent b o = go (leb o.cost b) refl
+was_spent b o = go (leb o.cost b) refl
   where
     go : (t : Bool) → leb o.cost b ≡ t → cond t (Verdict o.truth o.cost) Spent ≡ Spent → b < o.cost
     go true e h = let z : ◌≡◌ {A = ℕ} 0 1 = cc in omega arith
@@ -31,9 +31,9 @@ pub record Within (b : ℕ) (o : Outcome) (t : Truth) (n : ℕ) : Type 0 where
   pub cost : o.cost ≡ n
   pub fits : n ≤ b
 
-pub was-verdict : (b : ℕ) (o : Outcome) (t : Truth) (n : ℕ) → within b o ≡ Verdict t n → Within b o t n
+pub was_verdict : (b : ℕ) (o : Outcome) (t : Truth) (n : ℕ) → within b o ≡ Verdict t n → Within b o t n
 unfolding within
-was-verdict b o t n = go (leb o.cost b) refl
+was_verdict b o t n = go (leb o.cost b) refl
   where
     go : (d : Bool) → leb o.cost b ≡ d → cond d (Verdict o.truth o.cost) Spent ≡ Verdict t n → Within b o t n
     go true e h =

@@ -6,13 +6,13 @@ use Rattle.calculus.specs.Kleene.{Junction, conj, disj}
 use Rattle.calculus.specs.Formula.{variables}
 use Rattle.calculus.specs.Eval.{Outcome, Structure, eval}
 use Rattle.calculus.specs.Closed.{closed, tuples}
-use Rattle.instance.specs.Header.{maxRelations, maxColumns, maxWords}
+use Rattle.instance.specs.Header.{max_relations, max_columns, max_words}
 use Rattle.instance.specs.Rows.{rows_from}
-use Rattle.known.specs.Known.{knownWords, countIn, placesIn, unpassed}
-use Rattle.query.specs.Words.{nodeCount, nodeWords, maxNodes, word_at, kind_of, ranges}
+use Rattle.known.specs.Known.{known_words, count_in, places_in, unpassed}
+use Rattle.query.specs.Words.{node_count, node_words, max_nodes, word_at, kind_of, ranges}
 use Rattle.query.specs.Named.{named_in}
-use Rattle.query.specs.Tree.{formulaAt}
-use Rattle.query.specs.Check.{isTerm}
+use Rattle.query.specs.Tree.{formula_at}
+use Rattle.query.specs.Check.{is_term}
 use Rattle.query.specs.Passed.{NodeWellFormed}
 use Rattle.evaluate.specs.declared.evaluated.Evaluated.{Evaluated}
 use Rattle.evaluate.specs.Within.{within}
@@ -23,50 +23,50 @@ abbrev pub world : List ℕ → List ℕ → List ℕ → Structure
 world ars ws qs = closed (named_in ars qs) (rows_from ars 0 ws)
 
 -- the words that a quantifier walks
-abbrev pub walkedWords : List ℕ → List ℕ → List ℕ → List ℕ
-walkedWords table values qs = take (placesIn table) (values ++ qs)
+abbrev pub walked_words : List ℕ → List ℕ → List ℕ → List ℕ
+walked_words table values qs = take (places_in table) (values ++ qs)
 
 pub record Ready (ars ws qs table : List ℕ) : Type 0 where
   pub given : InstanceOf ars ws
-  pub eight : length ars ≡ maxRelations
-  pub whole : nodeCount qs * nodeWords ≡ length qs
-  pub nodes-few : nodeCount qs ≤ maxNodes
-  pub nodes : (i : ℕ) → i < nodeCount qs → NodeWellFormed given.relations ars qs i
-  pub counted : (r : ℕ) → r < given.relations → countIn table r ≡ length (tuples r (rows_from ars 0 ws))
-  pub size : length table ≡ knownWords
+  pub eight : length ars ≡ max_relations
+  pub whole : node_count qs * node_words ≡ length qs
+  pub nodes_few : node_count qs ≤ max_nodes
+  pub nodes : (i : ℕ) → i < node_count qs → NodeWellFormed given.relations ars qs i
+  pub counted : (r : ℕ) → r < given.relations → count_in table r ≡ length (tuples r (rows_from ars 0 ws))
+  pub size : length table ≡ known_words
 
 -- what a walk does not pass over is the range; this is required only if a node ranges over values
 pub record Ranged (ars ws qs table values : List ℕ) : Type 0 where
-  pub short : length values ≤ maxWords
-  pub places : placesIn table ≤ length values + length qs
-  pub walked : (i : ℕ) (j : Junction) → i < nodeCount qs → kind_of (word_at qs i 0) ≡ ranges j
-      → unpassed table 0 (walkedWords table values qs) ≡ (world ars ws qs).range
+  pub short : length values ≤ max_words
+  pub places : places_in table ≤ length values + length qs
+  pub walked : (i : ℕ) (j : Junction) → i < node_count qs → kind_of (word_at qs i 0) ≡ ranges j
+      → unpassed table 0 (walked_words table values qs) ≡ (world ars ws qs).range
 
 -- the outcome of node i in a structure, with k nodes left, under an assignment
-abbrev pub outcomeAt : Structure → List ℕ → List ℕ → ℕ → ℕ → List ℕ → Outcome
-outcomeAt S ars qs k i e = eval S (formulaAt ars qs k i) e
+abbrev pub outcome_at : Structure → List ℕ → List ℕ → ℕ → ℕ → List ℕ → Outcome
+outcome_at S ars qs k i e = eval S (formula_at ars qs k i) e
 
 pub record Evaluable (ars ws qs table values : List ℕ) (i : ℕ) (e : List ℕ) : Type 0 where
   pub ready : Ready ars ws qs table
   pub ranged : Ranged ars ws qs table values
-  pub known : i < nodeCount qs
+  pub known : i < node_count qs
   pub sixteen : length e ≡ variables
 
 -- answer r is right for node i: for every k that suffices for the nodes from i, it is the outcome within the budget
 abbrev pub RightIn : Structure → List ℕ → List ℕ → ℕ → List ℕ → ℕ → Evaluated → Type 0
-RightIn S ars qs i e budget r = (k : ℕ) → nodeCount qs ≤ i + k → r ≡ within budget (outcomeAt S ars qs k i e)
+RightIn S ars qs i e budget r = (k : ℕ) → node_count qs ≤ i + k → r ≡ within budget (outcome_at S ars qs k i e)
 
 abbrev pub Right : List ℕ → List ℕ → List ℕ → ℕ → List ℕ → ℕ → Evaluated → Type 0
 Right ars ws qs i e budget r = RightIn (world ars ws qs) ars qs i e budget r
 
 -- `and` for every, `or` for some
-abbrev pub junctionOf : Bool → Junction
-junctionOf true = conj
-junctionOf false = disj
+abbrev pub junction_of : Bool → Junction
+junction_of true = conj
+junction_of false = disj
 
 -- the `arity` words of node i from word 2 are terms
 pub record TermsWellFormed (qs : List ℕ) (i arity : ℕ) (e : List ℕ) : Type 0 where
-  pub known : i < nodeCount qs
-  pub narrow : arity ≤ maxColumns
-  pub terms : (j : ℕ) → j < arity → isTerm (word_at qs i (2 + j)) ≡ true
+  pub known : i < node_count qs
+  pub narrow : arity ≤ max_columns
+  pub terms : (j : ℕ) → j < arity → is_term (word_at qs i (2 + j)) ≡ true
   pub sixteen : length e ≡ variables

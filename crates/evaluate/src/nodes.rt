@@ -2,13 +2,13 @@
 ghost use Rattle.std.specs.Prelude.{◌≡◌, ◌<◌, ◌+◌, ℕ, length, get_or, set, List, ◌++◌, true};
 ghost use Rattle.calculus.specs.Eval.{settles as settlesOf, Structure};
 ghost use Rattle.calculus.specs.Kleene.{join as join_of, unit as unit_of};
-ghost use Rattle.instance.specs.Header.{maxRelations};
+ghost use Rattle.instance.specs.Header.{max_relations};
 ghost use Rattle.calculus.specs.Formula.{variables};
-ghost use Rattle.known.specs.Known.{knownWords, aritiesIn, countIn};
-ghost use Rattle.query.specs.Words.{nodeCount, nodeWords, word_at, kind_of, rowStands, equals, negates, joins, ranges};
-ghost use Rattle.evaluate.specs.Ready.{Evaluable, Right, junctionOf, Ready, RightIn};
+ghost use Rattle.known.specs.Known.{known_words, arities_in, count_in};
+ghost use Rattle.query.specs.Words.{node_count, node_words, word_at, kind_of, row_stands, equals, negates, joins, ranges};
+ghost use Rattle.evaluate.specs.Ready.{Evaluable, Right, junction_of, Ready, RightIn};
 ghost use Rattle.calculus.specs.Closed.{equality as equalityOf};
-ghost use Rattle.query.specs.Check.{isTerm};
+ghost use Rattle.query.specs.Check.{is_term};
 
 use super::evaluated::Evaluated;
 use super::terms::{asked_row, same, term};
@@ -21,7 +21,7 @@ use query::words::NODE_WORDS;
 
 // Word j of a node.
 fn word(query: &[u32], node: usize, j: usize) -> usize
-    requires { (node < nodeCount query.now) × (j < nodeWords) }
+    requires { (node < node_count query.now) × (j < node_words) }
     ensures { result ≡ word_at query.now node j }
 {
     query[node * NODE_WORDS + j] as usize
@@ -29,15 +29,15 @@ fn word(query: &[u32], node: usize, j: usize) -> usize
 
 // The number of rows of a relation.
 fn rows_of(known: &[u32; 170], relation: usize) -> u32
-    requires { (length known.now ≡ knownWords) × (relation < maxRelations) }
-    ensures { result ≡ countIn known.now relation }
+    requires { (length known.now ≡ known_words) × (relation < max_relations) }
+    ensures { result ≡ count_in known.now relation }
 {
     known[relation]
 }
 
 // Gives the variable of a quantifier the value `cell`.
 fn assign(query: &[u32], node: usize, env: &mut [u32; 16], cell: u32)
-    requires { (node < nodeCount query.now) × (word_at query.now node 1 < variables)
+    requires { (node < node_count query.now) × (word_at query.now node 1 < variables)
         × (length env.old ≡ variables) }
     ensures { env.new ≡ set env.old (word_at query.now node 1) cell }
 {
@@ -47,7 +47,7 @@ fn assign(query: &[u32], node: usize, env: &mut [u32; 16], cell: u32)
 
 // The value of the variable of a quantifier.
 fn assigned(query: &[u32], node: usize, env: &[u32; 16]) -> u32
-    requires { (node < nodeCount query.now) × (word_at query.now node 1 < variables)
+    requires { (node < node_count query.now) × (word_at query.now node 1 < variables)
         × (length env.now ≡ variables) }
     ensures { result ≡ get_or env.now (word_at query.now node 1) 0 }
 {
@@ -64,9 +64,9 @@ fn atom(
     words: &[u32],
     known: &[u32; 170],
 ) -> Evaluated
-    requires ready { Ready (aritiesIn known.now) words.now query.now known.now × (node < nodeCount query.now) × (length env.now ≡ variables) }
-    requires node_value { kind_of (word_at query.now node 0) ≡ rowStands }
-    ensures right { Right (aritiesIn known.now) words.now query.now node env.now budget result }
+    requires ready { Ready (arities_in known.now) words.now query.now known.now × (node < node_count query.now) × (length env.now ≡ variables) }
+    requires node_value { kind_of (word_at query.now node 0) ≡ row_stands }
+    ensures right { Right (arities_in known.now) words.now query.now node env.now budget result }
 {
     if budget == 0 {
         return Evaluated::Spent;
@@ -94,8 +94,8 @@ fn atom(
 
 // Evaluates an equality.
 fn equality(query: &[u32], node: usize, env: &[u32; 16], budget: u32) -> Evaluated
-    requires node_bound { (node < nodeCount query.now) × (length env.now ≡ variables) }
-    requires node_value { (isTerm (word_at query.now node 1) ≡ true) × (isTerm (word_at query.now node 2) ≡ true) }
+    requires node_bound { (node < node_count query.now) × (length env.now ≡ variables) }
+    requires node_value { (is_term (word_at query.now node 1) ≡ true) × (is_term (word_at query.now node 2) ≡ true) }
     requires node_value_2 { kind_of (word_at query.now node 0) ≡ equals }
     ensures right { (S : Structure) (ars : List ℕ) → S.equals ≡ equalityOf → RightIn S ars query.now node env.now budget result }
 {
@@ -120,13 +120,13 @@ fn value_at(values: &[u32], query: &[u32], place: usize) -> u32
 
 // `and` if `every`, otherwise `or`.
 fn join(every: bool, a: Truth, b: Truth) -> Truth
-    ensures { result ≡ join_of (junctionOf every) a b }
+    ensures { result ≡ join_of (junction_of every) a b }
 {
     if every { and(a, b) } else { or(a, b) }
 }
 
 fn settles(every: bool, a: Truth) -> bool
-    ensures { result ≡ settlesOf (junctionOf every) a }
+    ensures { result ≡ settlesOf (junction_of every) a }
 {
     match a {
         Truth::False => every,
@@ -137,7 +137,7 @@ fn settles(every: bool, a: Truth) -> bool
 
 // What joining no verdicts gives.
 fn unit(every: bool) -> Truth
-    ensures { result ≡ unit_of (junctionOf every) }
+    ensures { result ≡ unit_of (junction_of every) }
 {
     if every { Truth::True } else { Truth::False }
 }
@@ -152,10 +152,10 @@ fn negated(
     words: &[u32],
     known: &[u32; 170],
 ) -> Evaluated
-    requires evaluable { Evaluable (aritiesIn known.now) words.now query.now known.now values.now node env.old }
+    requires evaluable { Evaluable (arities_in known.now) words.now query.now known.now values.now node env.old }
     requires node_value { kind_of (word_at query.now node 0) ≡ negates }
     ensures kept { env.new ≡ env.old }
-    ensures right { Right (aritiesIn known.now) words.now query.now node env.old budget result }
+    ensures right { Right (arities_in known.now) words.now query.now node env.old budget result }
 {
     let child = word(query, node, 1);
     let Evaluated::Verdict(truth, cost) = evaluate(query, child, env, budget, values, words, known)
@@ -176,10 +176,10 @@ fn both(
     words: &[u32],
     known: &[u32; 170],
 ) -> Evaluated
-    requires evaluable { Evaluable (aritiesIn known.now) words.now query.now known.now values.now node env.old }
-    requires node_value { kind_of (word_at query.now node 0) ≡ joins (junctionOf every) }
+    requires evaluable { Evaluable (arities_in known.now) words.now query.now known.now values.now node env.old }
+    requires node_value { kind_of (word_at query.now node 0) ≡ joins (junction_of every) }
     ensures kept { env.new ≡ env.old }
-    ensures right { Right (aritiesIn known.now) words.now query.now node env.old budget result }
+    ensures right { Right (arities_in known.now) words.now query.now node env.old budget result }
 {
     let left = word(query, node, 1);
     let right = word(query, node, 2);
@@ -217,10 +217,10 @@ fn walk(
     words: &[u32],
     known: &[u32; 170],
 ) -> Evaluated
-    requires evaluable { Evaluable (aritiesIn known.now) words.now query.now known.now values.now node env.old }
-    requires node_value { kind_of (word_at query.now node 0) ≡ ranges (junctionOf every) }
+    requires evaluable { Evaluable (arities_in known.now) words.now query.now known.now values.now node env.old }
+    requires node_value { kind_of (word_at query.now node 0) ≡ ranges (junction_of every) }
     ensures kept { env.new ≡ env.old }
-    ensures right { Right (aritiesIn known.now) words.now query.now node env.old budget result }
+    ensures right { Right (arities_in known.now) words.now query.now node env.old budget result }
 {
     let places = places_in(known) as usize;
     let old = assigned(query, node, env);
@@ -267,9 +267,9 @@ pub fn evaluate(
     words: &[u32],
     known: &[u32; 170],
 ) -> Evaluated
-    requires { Evaluable (aritiesIn known.now) words.now query.now known.now values.now node env.old }
+    requires { Evaluable (arities_in known.now) words.now query.now known.now values.now node env.old }
     ensures kept { env.new ≡ env.old }
-    ensures right { Right (aritiesIn known.now) words.now query.now node env.old budget result }
+    ensures right { Right (arities_in known.now) words.now query.now node env.old budget result }
 {
     let kind = word(query, node, 0);
     match kind {

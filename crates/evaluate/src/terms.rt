@@ -2,11 +2,11 @@
 ghost use Rattle.std.specs.Prelude.{◌≡◌, true, ◌+◌, ◌<◌, length};
 ghost use Rattle.calculus.specs.Padded.{padded};
 ghost use Rattle.calculus.specs.Formula.{value, values, variables};
-ghost use Rattle.instance.specs.Header.{maxColumns};
+ghost use Rattle.instance.specs.Header.{max_columns};
 ghost use Rattle.calculus.specs.Closed.{equality as equalityOf};
-ghost use Rattle.query.specs.Words.{nodeCount, nodeWords, word_at};
-ghost use Rattle.query.specs.Tree.{termOf, termsAt};
-ghost use Rattle.query.specs.Check.{isTerm};
+ghost use Rattle.query.specs.Words.{node_count, node_words, word_at};
+ghost use Rattle.query.specs.Tree.{term_of, terms_at};
+ghost use Rattle.query.specs.Check.{is_term};
 ghost use Rattle.evaluate.specs.Ready.{TermsWellFormed};
 
 use calculus::cell::CONSTANTS;
@@ -31,9 +31,9 @@ pub fn same(a: u32, b: u32) -> Truth
 
 // The value of the term in word j of a node.
 pub fn term(query: &[u32], node: usize, j: usize, env: &[u32; 16]) -> u32
-    requires node_bound { (node < nodeCount query.now) × (j < nodeWords) }
-    requires j_value { (isTerm (word_at query.now node j) ≡ true) × (length env.now ≡ variables) }
-    ensures { result ≡ value env.now (termOf (word_at query.now node j)) }
+    requires node_bound { (node < node_count query.now) × (j < node_words) }
+    requires j_value { (is_term (word_at query.now node j) ≡ true) × (length env.now ≡ variables) }
+    ensures { result ≡ value env.now (term_of (word_at query.now node j)) }
 {
     let w = query[node * NODE_WORDS + j];
     if w < VARIABLE_BASE {
@@ -46,7 +46,7 @@ pub fn term(query: &[u32], node: usize, j: usize, env: &[u32; 16]) -> u32
 // The values of a node's terms, padded with 0; an atom's terms begin at word 2.
 pub fn asked_row(query: &[u32], node: usize, arity: usize, env: &[u32; 16]) -> [u32; 6]
     requires { TermsWellFormed query.now node arity env.now }
-    ensures { result ≡ padded maxColumns (values env.now (termsAt query.now node 2 arity)) }
+    ensures { result ≡ padded max_columns (values env.now (terms_at query.now node 2 arity)) }
 {
     let mut row = [0u32; 6];
     let mut j = 0;

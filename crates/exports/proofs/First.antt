@@ -13,15 +13,15 @@ use Rattle.instance.specs.NullCounts.{counted}
 use Rattle.log.specs.Log.{undone, logged}
 use Rattle.card.specs.Encode.{encoded}
 use Rattle.answer.specs.Ask.{list, none, admitted, askable, ask}
-use Rattle.exports.specs.Words.{headerLength, headerOf}
-use Rattle.exports.specs.Calls.{insertAnswer, substituteAnswer, logAnswer, undoAnswer, countsAnswer, encodeAnswer, askAnswer}
-use Rattle.exports.specs.Steps.{Job, asks, counts, encodes, inserts, substitutes, logs, undoes, decodes, numberOn}
-use Rattle.exports.specs.Soundness.{readsInstance, UnsoundFirst}
+use Rattle.exports.specs.Words.{header_length, header_of}
+use Rattle.exports.specs.Calls.{insert_answer, substitute_answer, log_answer, undo_answer, counts_answer, encode_answer, ask_answer}
+use Rattle.exports.specs.Steps.{Job, asks, counts, encodes, inserts, substitutes, logs, undoes, decodes, number_on}
+use Rattle.exports.specs.Soundness.{reads_instance, UnsoundFirst}
 
 refused-first :
-    (j : Job) (hs ws : List ℕ) → readsInstance j ≡ true → (b c : Bool) → eqb (length hs) headerLength ≡ b → sound (headerOf hs) ws ≡ c → b && c ≡ false →
-    numberOn j hs ws ≡ unsound
-unfolding insertAnswer inserted substituteAnswer substituted logAnswer undoAnswer undone countsAnswer counted encodeAnswer encoded askAnswer ask askable admitted
+    (j : Job) (hs ws : List ℕ) → reads_instance j ≡ true → (b c : Bool) → eqb (length hs) header_length ≡ b → sound (header_of hs) ws ≡ c → b && c ≡ false →
+    number_on j hs ws ≡ unsound
+unfolding insert_answer inserted substitute_answer substituted log_answer undo_answer undone counts_answer counted encode_answer encoded ask_answer ask askable admitted
 refused-first j hs ws k true true p q f = absurd (false≢true (sym f))
 refused-first (asks qs candidate (list l) budget) hs ws k true false p q f = rw (p, q) refl
 refused-first (asks qs candidate none budget) hs ws k true false p q f = rw (p, q) refl
@@ -42,4 +42,4 @@ refused-first (undoes log used) hs ws k false c p q f = rw p refl
 refused-first (decodes card used) hs ws k false c p q f = absurd (false≢true k)
 
 pub unsound-first : UnsoundFirst
-unsound-first j hs ws k f = refused-first j hs ws k (eqb (length hs) headerLength) (sound (headerOf hs) ws) refl refl f
+unsound-first j hs ws k f = refused-first j hs ws k (eqb (length hs) header_length) (sound (header_of hs) ws) refl refl f

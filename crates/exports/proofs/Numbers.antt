@@ -11,33 +11,33 @@ use Rattle.calculus.specs.declared.answer.Answer.{Answer}
 use Rattle.calculus.specs.declared.answer.Answer.TheVariants.{Done, Refused}
 use Rattle.calculus.specs.Answer.{number_of, after}
 use Rattle.calculus.proofs.Answers.{number-kept}
-use Rattle.calculus.specs.Refusal.{unsound, budget-spent}
-use Rattle.calculus.specs.Model.{outcomeOf}
-use Rattle.instance.specs.NullCounts.{counted, countedWords}
-use Rattle.log.specs.Log.{logged, loggedLog, loggedUsed, undone, undoneUsed}
-use Rattle.instance.specs.Run.{modelOf}
-use Rattle.card.specs.Encode.{encoded, encodedBytes}
-use Rattle.query.specs.Named.{queryOf}
+use Rattle.calculus.specs.Refusal.{unsound, budget_spent}
+use Rattle.calculus.specs.Model.{outcome_of}
+use Rattle.instance.specs.NullCounts.{counted, counted_words}
+use Rattle.log.specs.Log.{logged, logged_log, logged_used, undone, undone_used}
+use Rattle.instance.specs.Run.{model_of}
+use Rattle.card.specs.Encode.{encoded, encoded_bytes}
+use Rattle.query.specs.Named.{query_of}
 use Rattle.evaluate.specs.declared.evaluated.Evaluated.{Evaluated}
 use Rattle.evaluate.specs.declared.evaluated.Evaluated.TheVariants as evaluated
 use Rattle.evaluate.specs.Within.{within}
 use Rattle.answer.specs.declared.asked.Asked.TheVariants as asked
-use Rattle.answer.specs.Ask.{answeredBy, Lent, list, none, askable, ask, askedBuffer}
-use Rattle.answer.specs.Numbers.{askedAs}
-use Rattle.calls.specs.Calls.{Call, answerTo, leaves}
+use Rattle.answer.specs.Ask.{answered_by, Lent, list, none, askable, ask, asked_buffer}
+use Rattle.answer.specs.Numbers.{asked_as}
+use Rattle.calls.specs.Calls.{Call, answer_to, leaves}
 use Rattle.calls.specs.Calls as library
-use Rattle.calls.specs.Numbers.{insertNumbers, fillNumbers, logNumbers, undoNumbers, writeNumbers, readNumbers, askedNumbers, numbers}
-use Rattle.calls.proofs.Numbers.{every-number}
-use Rattle.calls.proofs.Between.{refused-writes-none}
+use Rattle.calls.specs.Numbers.{insert_numbers, fill_numbers, log_numbers, undo_numbers, write_numbers, read_numbers, asked_numbers, numbers}
+use Rattle.calls.proofs.Numbers.{every_number}
+use Rattle.calls.proofs.Between.{refused_writes_none}
 use Rattle.instance.specs.declared.header.Header.{Header}
-use Rattle.exports.specs.Words.{headerLength, headerOf, headerWords, headed, ifHeaded}
-use Rattle.exports.specs.Calls.{decodeAnswer, decodeHeader, decode_words, insertAnswer, insertHeader, insertWords}
-use Rattle.exports.specs.Calls.{substituteAnswer, substituteWords, logAnswer, logWords, logLog, logUsed, undoAnswer, undoWords, undoUsed, decodeUsed}
-use Rattle.exports.specs.Calls.{countsAnswer, countsWords, encodeAnswer, encodeBytes, askAnswer, askBuffer}
-use Rattle.exports.specs.Steps.{Job, asks, counts, encodes, inserts, substitutes, logs, undoes, decodes, answerOn, numberOn, headerLeft, wordsLeft}
-use Rattle.exports.specs.Numbers.{numbersOf, isDone, listGiven, listLeft, outGiven, outLeft, usedGiven, usedLeft, EveryReturn, call_of, Occurs}
-use Rattle.exports.proofs.Headed.{headed-no, headed-yes}
-use Rattle.exports.proofs.HeaderWords.{Eight, words_size, header-back}
+use Rattle.exports.specs.Words.{header_length, header_of, header_words, headed, if_headed}
+use Rattle.exports.specs.Calls.{decode_answer, decode_header, decode_words, insert_answer, insert_header, insert_words}
+use Rattle.exports.specs.Calls.{substitute_answer, substitute_words, log_answer, log_words, log_log, log_used, undo_answer, undo_words, undo_used, decode_used}
+use Rattle.exports.specs.Calls.{counts_answer, counts_words, encode_answer, encode_bytes, ask_answer, ask_buffer}
+use Rattle.exports.specs.Steps.{Job, asks, counts, encodes, inserts, substitutes, logs, undoes, decodes, answer_on, number_on, header_left, words_left}
+use Rattle.exports.specs.Numbers.{numbers_of, is_done, list_given, list_left, out_given, out_left, used_given, used_left, EveryReturn, call_of, Occurs}
+use Rattle.exports.proofs.Headed.{headed_no, headed_yes}
+use Rattle.exports.proofs.HeaderWords.{Eight, words_size, header_back}
 use Rattle.calculus.specs.Demand.{demand}
 use Rattle.calculus.specs.Listed.{listed}
 use Rattle.calculus.proofs.Listed.{listed-right}
@@ -45,69 +45,69 @@ use Rattle.calculus.proofs.Listed.{listed-right}
 -- a refusal is one of these numbers, and not 0
 record Known (ns : List ℕ) (r : ℕ) : Type 0 where
   tabled : listed r ns ≡ true
-  not-zero : r ≡ 0 → ⊥
+  not_zero : r ≡ 0 → ⊥
 
 AllKnown : List ℕ → Answer → Type 0
 AllKnown ns a = (r : ℕ) → a ≡ Refused r → Known ns r
 
 -- the library's call, which is made if the header slice has the right length
-known : (c : Call) (hs ws ns : List ℕ) → listed unsound ns ≡ true → ((r : ℕ) → listed r (numbers c) ≡ true → listed r ns ≡ true) → AllKnown ns (headed hs (answerTo c ws))
+known : (c : Call) (hs ws ns : List ℕ) → listed unsound ns ≡ true → ((r : ℕ) → listed r (numbers c) ≡ true → listed r ns ≡ true) → AllKnown ns (headed hs (answer_to c ws))
 unfolding AllKnown
-known c hs ws ns first more r = go (eqb (length hs) headerLength)
+known c hs ws ns first more r = go (eqb (length hs) header_length)
   where
-    go : (b : Bool) → demand b (Refused unsound) (answerTo c ws) ≡ Refused r → Known ns r
-    go true e = let k = every-number c ws r e in record { tabled = more r k.tabled; not-zero = k.not-zero }
-    go false e = let q : unsound ≡ r = cc in record { tabled = rw (← q) first; not-zero = λ z. omega arith }
+    go : (b : Bool) → demand b (Refused unsound) (answer_to c ws) ≡ Refused r → Known ns r
+    go true e = let k = every_number c ws r e in record { tabled = more r k.tabled; not_zero = k.not_zero }
+    go false e = let q : unsound ≡ r = cc in record { tabled = rw (← q) first; not_zero = λ z. omega arith }
 
-asked-known : (hs ws qs candidate : List ℕ) (lent : Lent) (budget : ℕ) → askedAs (askAnswer hs ws qs candidate lent budget) ≡ headed hs (askedAs (ask (headerOf hs) ws qs candidate lent budget))
-unfolding askAnswer
-asked-known hs ws qs candidate lent budget = go (eqb (length hs) headerLength)
+asked-known : (hs ws qs candidate : List ℕ) (lent : Lent) (budget : ℕ) → asked_as (ask_answer hs ws qs candidate lent budget) ≡ headed hs (asked_as (ask (header_of hs) ws qs candidate lent budget))
+unfolding ask_answer
+asked-known hs ws qs candidate lent budget = go (eqb (length hs) header_length)
   where
-    go : (b : Bool) → askedAs (cond b (ask (headerOf hs) ws qs candidate lent budget) (asked.Refused unsound)) ≡ demand b (Refused unsound) (askedAs (ask (headerOf hs) ws qs candidate lent budget))
+    go : (b : Bool) → asked_as (cond b (ask (header_of hs) ws qs candidate lent budget) (asked.Refused unsound)) ≡ demand b (Refused unsound) (asked_as (ask (header_of hs) ws qs candidate lent budget))
     go true = refl
     go false = refl
 
-unsound-asked : (lent : Lent) → listed unsound (askedNumbers lent) ≡ true
+unsound-asked : (lent : Lent) → listed unsound (asked_numbers lent) ≡ true
 unfolding listed
 unsound-asked (list buffer) = refl
 unsound-asked none = refl
 
-all_known : (j : Job) (hs ws : List ℕ) → AllKnown (numbersOf j) (answerOn j hs ws)
-unfolding countsAnswer encodeAnswer insertAnswer substituteAnswer logAnswer undoAnswer decodeAnswer AllKnown listed
+all_known : (j : Job) (hs ws : List ℕ) → AllKnown (numbers_of j) (answer_on j hs ws)
+unfolding counts_answer encode_answer insert_answer substitute_answer log_answer undo_answer decode_answer AllKnown listed
 all_known (asks qs candidate lent budget) hs ws =
-    λ r e. known (library.asks (headerOf hs) qs candidate lent budget) hs ws (askedNumbers lent) (unsound-asked lent) (λ r e. e) r (sym (asked-known hs ws qs candidate lent budget) ∙ e)
-all_known (counts out) hs ws = known (library.counts (headerOf hs) out) hs ws writeNumbers refl (λ r e. e)
-all_known (encodes out) hs ws = known (library.encodes (headerOf hs) out) hs ws writeNumbers refl (λ r e. e)
-all_known (inserts relation cells) hs ws = known (library.inserts (headerOf hs) relation cells) hs ws insertNumbers refl (λ r e. e)
-all_known (substitutes m c) hs ws = known (library.substitutes (headerOf hs) m c) hs ws fillNumbers refl (λ r e. e)
-all_known (logs log used m c) hs ws = known (library.logs (headerOf hs) log used m c) hs ws logNumbers refl (λ r e. e)
-all_known (undoes log used) hs ws = known (library.undoes (headerOf hs) log used) hs ws undoNumbers refl (λ r e. e)
-all_known (decodes card used) hs ws = known (library.decodes card) hs ws (unsound ∷ readNumbers) refl (λ r e. listed-right r (unsound ∷ []) readNumbers e)
+    λ r e. known (library.asks (header_of hs) qs candidate lent budget) hs ws (asked_numbers lent) (unsound-asked lent) (λ r e. e) r (sym (asked-known hs ws qs candidate lent budget) ∙ e)
+all_known (counts out) hs ws = known (library.counts (header_of hs) out) hs ws write_numbers refl (λ r e. e)
+all_known (encodes out) hs ws = known (library.encodes (header_of hs) out) hs ws write_numbers refl (λ r e. e)
+all_known (inserts relation cells) hs ws = known (library.inserts (header_of hs) relation cells) hs ws insert_numbers refl (λ r e. e)
+all_known (substitutes m c) hs ws = known (library.substitutes (header_of hs) m c) hs ws fill_numbers refl (λ r e. e)
+all_known (logs log used m c) hs ws = known (library.logs (header_of hs) log used m c) hs ws log_numbers refl (λ r e. e)
+all_known (undoes log used) hs ws = known (library.undoes (header_of hs) log used) hs ws undo_numbers refl (λ r e. e)
+all_known (decodes card used) hs ws = known (library.decodes card) hs ws (unsound ∷ read_numbers) refl (λ r e. listed-right r (unsound ∷ []) read_numbers e)
 
 -- ---- what a refused call leaves
 
-words-kept : (c : Call) (hs ws : List ℕ) → (number_of (headed hs (answerTo c ws)) ≡ 0 → ⊥) → ifHeaded hs (leaves c ws) ws ≡ ws
-words-kept c hs ws = go (eqb (length hs) headerLength)
+words-kept : (c : Call) (hs ws : List ℕ) → (number_of (headed hs (answer_to c ws)) ≡ 0 → ⊥) → if_headed hs (leaves c ws) ws ≡ ws
+words-kept c hs ws = go (eqb (length hs) header_length)
   where
-    go : (b : Bool) → (number_of (demand b (Refused unsound) (answerTo c ws)) ≡ 0 → ⊥) → cond b (leaves c ws) ws ≡ ws
-    go true some = refused-writes-none c ws some
+    go : (b : Bool) → (number_of (demand b (Refused unsound) (answer_to c ws)) ≡ 0 → ⊥) → cond b (leaves c ws) ws ≡ ws
+    go true some = refused_writes_none c ws some
     go false some = refl
 
-all-kept : (j : Job) (hs ws : List ℕ) → (numberOn j hs ws ≡ 0 → ⊥) → (headerLeft j hs ws ≡ hs) × (wordsLeft j hs ws ≡ ws)
-unfolding insertAnswer insertHeader insertWords substituteAnswer substituteWords logAnswer logWords undoAnswer undoWords decodeAnswer decodeHeader decode_words
+all-kept : (j : Job) (hs ws : List ℕ) → (number_on j hs ws ≡ 0 → ⊥) → (header_left j hs ws ≡ hs) × (words_left j hs ws ≡ ws)
+unfolding insert_answer insert_header insert_words substitute_answer substitute_words log_answer log_words undo_answer undo_words decode_answer decode_header decode_words
 all-kept (asks qs candidate lent budget) hs ws some = (refl, refl)
 all-kept (counts out) hs ws some = (refl, refl)
 all-kept (encodes out) hs ws some = (refl, refl)
 all-kept (inserts relation cells) hs ws some =
-    (number-kept (insertAnswer hs ws relation cells) _ hs some, words-kept (library.inserts (headerOf hs) relation cells) hs ws some)
-all-kept (substitutes m c) hs ws some = (refl, words-kept (library.substitutes (headerOf hs) m c) hs ws some)
-all-kept (logs log used m c) hs ws some = (refl, words-kept (library.logs (headerOf hs) log used m c) hs ws some)
-all-kept (undoes log used) hs ws some = (refl, words-kept (library.undoes (headerOf hs) log used) hs ws some)
-all-kept (decodes card used) hs ws some = (number-kept (decodeAnswer card hs ws) _ hs some, words-kept (library.decodes card) hs ws some)
+    (number-kept (insert_answer hs ws relation cells) _ hs some, words-kept (library.inserts (header_of hs) relation cells) hs ws some)
+all-kept (substitutes m c) hs ws some = (refl, words-kept (library.substitutes (header_of hs) m c) hs ws some)
+all-kept (logs log used m c) hs ws some = (refl, words-kept (library.logs (header_of hs) log used m c) hs ws some)
+all-kept (undoes log used) hs ws some = (refl, words-kept (library.undoes (header_of hs) log used) hs ws some)
+all-kept (decodes card used) hs ws some = (number-kept (decode_answer card hs ws) _ hs some, words-kept (library.decodes card) hs ws some)
 
 -- the output of a refused call
-out-kept : {A : Type 0} (hs : List ℕ) (a : Answer) (new old : A) → (number_of (headed hs a) ≡ 0 → ⊥) → ifHeaded hs (after a new old) old ≡ old
-out-kept hs a new old = go (eqb (length hs) headerLength)
+out-kept : {A : Type 0} (hs : List ℕ) (a : Answer) (new old : A) → (number_of (headed hs a) ≡ 0 → ⊥) → if_headed hs (after a new old) old ≡ old
+out-kept hs a new old = go (eqb (length hs) header_length)
   where
     go : (b : Bool) → (number_of (demand b (Refused unsound) a) ≡ 0 → ⊥) → cond b (after a new old) old ≡ old
     go true some = number-kept a new old some
@@ -115,47 +115,47 @@ out-kept hs a new old = go (eqb (length hs) headerLength)
 
 -- the working list changes only after a verdict and after 46
 buffer-kept :
-    (hs ws qs candidate buffer : List ℕ) (budget : ℕ) → (number_of (askedAs (askAnswer hs ws qs candidate (list buffer) budget)) ≡ 0 → ⊥) →
-    (number_of (askedAs (askAnswer hs ws qs candidate (list buffer) budget)) ≡ budget-spent → ⊥) → askBuffer hs ws qs candidate buffer ≡ buffer
-unfolding askAnswer askBuffer ask askedBuffer
+    (hs ws qs candidate buffer : List ℕ) (budget : ℕ) → (number_of (asked_as (ask_answer hs ws qs candidate (list buffer) budget)) ≡ 0 → ⊥) →
+    (number_of (asked_as (ask_answer hs ws qs candidate (list buffer) budget)) ≡ budget_spent → ⊥) → ask_buffer hs ws qs candidate buffer ≡ buffer
+unfolding ask_answer ask_buffer ask asked_buffer
 buffer-kept hs ws qs candidate buffer budget =
-    go (eqb (length hs) headerLength) (askable (headerOf hs) ws qs candidate (list buffer)) (within budget (outcomeOf (modelOf (headerOf hs) ws candidate) (queryOf (headerOf hs).arities qs))) _
+    go (eqb (length hs) header_length) (askable (header_of hs) ws qs candidate (list buffer)) (within budget (outcome_of (model_of (header_of hs) ws candidate) (query_of (header_of hs).arities qs))) _
   where
     go :
-        (b : Bool) (a : Answer) (e : Evaluated) (new : List ℕ) → (number_of (askedAs (cond b (answeredBy a e) (asked.Refused unsound))) ≡ 0 → ⊥) →
-        (number_of (askedAs (cond b (answeredBy a e) (asked.Refused unsound))) ≡ budget-spent → ⊥) → cond b (after a new buffer) buffer ≡ buffer
+        (b : Bool) (a : Answer) (e : Evaluated) (new : List ℕ) → (number_of (asked_as (cond b (answered_by a e) (asked.Refused unsound))) ≡ 0 → ⊥) →
+        (number_of (asked_as (cond b (answered_by a e) (asked.Refused unsound))) ≡ budget_spent → ⊥) → cond b (after a new buffer) buffer ≡ buffer
     go false a e new some other = refl
     go true (Refused r) e new some other = refl
     go true (Done n) (evaluated.Verdict t k) new some other = absurd (some refl)
     go true (Done n) evaluated.Spent new some other = absurd (other refl)
 
 list-kept :
-    (hs ws qs candidate : List ℕ) (lent : Lent) (budget : ℕ) → (number_of (askedAs (askAnswer hs ws qs candidate lent budget)) ≡ 0 → ⊥) →
-    (number_of (askedAs (askAnswer hs ws qs candidate lent budget)) ≡ budget-spent → ⊥) → listLeft hs ws qs candidate lent ≡ listGiven lent
+    (hs ws qs candidate : List ℕ) (lent : Lent) (budget : ℕ) → (number_of (asked_as (ask_answer hs ws qs candidate lent budget)) ≡ 0 → ⊥) →
+    (number_of (asked_as (ask_answer hs ws qs candidate lent budget)) ≡ budget_spent → ⊥) → list_left hs ws qs candidate lent ≡ list_given lent
 list-kept hs ws qs candidate (list buffer) budget some other = buffer-kept hs ws qs candidate buffer budget some other
 list-kept hs ws qs candidate none budget some other = refl
 
-all-out : (j : Job) (hs ws : List ℕ) → (numberOn j hs ws ≡ 0 → ⊥) → (numberOn j hs ws ≡ budget-spent → ⊥) → outLeft j hs ws ≡ outGiven j
-unfolding countsAnswer countsWords encodeAnswer encodeBytes countedWords encodedBytes logAnswer logLog loggedLog
+all-out : (j : Job) (hs ws : List ℕ) → (number_on j hs ws ≡ 0 → ⊥) → (number_on j hs ws ≡ budget_spent → ⊥) → out_left j hs ws ≡ out_given j
+unfolding counts_answer counts_words encode_answer encode_bytes counted_words encoded_bytes log_answer log_log logged_log
 all-out (asks qs candidate lent budget) hs ws some other = list-kept hs ws qs candidate lent budget some other
-all-out (counts out) hs ws some other = out-kept hs (counted (headerOf hs) ws out) _ out some
-all-out (encodes out) hs ws some other = out-kept hs (encoded (headerOf hs) ws out) _ out some
+all-out (counts out) hs ws some other = out-kept hs (counted (header_of hs) ws out) _ out some
+all-out (encodes out) hs ws some other = out-kept hs (encoded (header_of hs) ws out) _ out some
 all-out (inserts relation cells) hs ws some other = refl
 all-out (substitutes m c) hs ws some other = refl
-all-out (logs log used m c) hs ws some other = out-kept hs (logged (headerOf hs) ws log used m c) _ log some
+all-out (logs log used m c) hs ws some other = out-kept hs (logged (header_of hs) ws log used m c) _ log some
 all-out (undoes log used) hs ws some other = refl
 all-out (decodes card used) hs ws some other = refl
 
-all-used : (j : Job) (hs ws : List ℕ) → (numberOn j hs ws ≡ 0 → ⊥) → usedLeft j hs ws ≡ usedGiven j
-unfolding logAnswer logUsed loggedUsed undoAnswer undoUsed undoneUsed decodeAnswer decodeUsed
-all-used (asks qs candidate lent budget) hs ws some = refl
-all-used (counts out) hs ws some = refl
-all-used (encodes out) hs ws some = refl
-all-used (inserts relation cells) hs ws some = refl
-all-used (substitutes m c) hs ws some = refl
-all-used (logs log used m c) hs ws some = out-kept hs (logged (headerOf hs) ws log used m c) _ used some
-all-used (undoes log used) hs ws some = out-kept hs (undone (headerOf hs) ws log used) _ used some
-all-used (decodes card used) hs ws some = number-kept (decodeAnswer card hs ws) _ used some
+all_used : (j : Job) (hs ws : List ℕ) → (number_on j hs ws ≡ 0 → ⊥) → used_left j hs ws ≡ used_given j
+unfolding log_answer log_used logged_used undo_answer undo_used undone_used decode_answer decode_used
+all_used (asks qs candidate lent budget) hs ws some = refl
+all_used (counts out) hs ws some = refl
+all_used (encodes out) hs ws some = refl
+all_used (inserts relation cells) hs ws some = refl
+all_used (substitutes m c) hs ws some = refl
+all_used (logs log used m c) hs ws some = out-kept hs (logged (header_of hs) ws log used m c) _ used some
+all_used (undoes log used) hs ws some = out-kept hs (undone (header_of hs) ws log used) _ used some
+all_used (decodes card used) hs ws some = number-kept (decode_answer card hs ws) _ used some
 
 -- ---- what C sees
 
@@ -164,42 +164,42 @@ unfolding AllKnown listed
 tabled-is ns (Done n) t = refl
 tabled-is ns (Refused r) t = listed-right r (0 ∷ []) ns (t r refl).tabled
 
-accepted-is : (ns : List ℕ) (a : Answer) → AllKnown ns a → number_of a ≡ 0 → isDone a ≡ true
+accepted-is : (ns : List ℕ) (a : Answer) → AllKnown ns a → number_of a ≡ 0 → is_done a ≡ true
 unfolding AllKnown
 accepted-is ns (Done n) t e = refl
-accepted-is ns (Refused r) t e = absurd ((t r refl).not-zero e)
+accepted-is ns (Refused r) t e = absurd ((t r refl).not_zero e)
 
-pub every-return : EveryReturn
-every-return j hs ws =
-    let a = answerOn j hs ws in
+pub every_return : EveryReturn
+every_return j hs ws =
+    let a = answer_on j hs ws in
     let t = all_known j hs ws in
     record {
-      tabled = tabled-is (numbersOf j) a t;
-      accepted = accepted-is (numbersOf j) a t;
+      tabled = tabled-is (numbers_of j) a t;
+      accepted = accepted-is (numbers_of j) a t;
       refused = all-kept j hs ws;
-      used = all-used j hs ws;
+      used = all_used j hs ws;
       out = all-out j hs ws;
     }
 
 -- ---- which numbers occur
 
-headed-library : (j : Job) (hs ws : List ℕ) → answerOn j hs ws ≡ headed hs (answerTo (call_of j (headerOf hs)) ws)
-unfolding countsAnswer encodeAnswer insertAnswer substituteAnswer logAnswer undoAnswer decodeAnswer
-headed-library (asks qs candidate lent budget) hs ws = asked-known hs ws qs candidate lent budget
-headed-library (counts out) hs ws = refl
-headed-library (encodes out) hs ws = refl
-headed-library (inserts relation cells) hs ws = refl
-headed-library (substitutes m c) hs ws = refl
-headed-library (logs log used m c) hs ws = refl
-headed-library (undoes log used) hs ws = refl
-headed-library (decodes card used) hs ws = refl
+headed_library : (j : Job) (hs ws : List ℕ) → answer_on j hs ws ≡ headed hs (answer_to (call_of j (header_of hs)) ws)
+unfolding counts_answer encode_answer insert_answer substitute_answer log_answer undo_answer decode_answer
+headed_library (asks qs candidate lent budget) hs ws = asked-known hs ws qs candidate lent budget
+headed_library (counts out) hs ws = refl
+headed_library (encodes out) hs ws = refl
+headed_library (inserts relation cells) hs ws = refl
+headed_library (substitutes m c) hs ws = refl
+headed_library (logs log used m c) hs ws = refl
+headed_library (undoes log used) hs ws = refl
+headed_library (decodes card used) hs ws = refl
 
 pub occurs : Occurs
 occurs = record {
   returns = λ j h ws arities counts.
       let eight : Eight h = record { arities = arities; counts = counts } in
       ap number_of
-      (headed-library j (headerWords h) ws ∙ headed-yes (headerWords h) (words_size h eight) _ ∙
-      ap (λ (x : Header). answerTo (call_of j x) ws) (header-back h eight));
-  decode = λ card hs ws used ne. ap number_of (headed-library (decodes card used) hs ws ∙ headed-no hs ne _);
+      (headed_library j (header_words h) ws ∙ headed_yes (header_words h) (words_size h eight) _ ∙
+      ap (λ (x : Header). answer_to (call_of j x) ws) (header_back h eight));
+  decode = λ card hs ws used ne. ap number_of (headed_library (decodes card used) hs ws ∙ headed_no hs ne _);
 }

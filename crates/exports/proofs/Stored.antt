@@ -12,55 +12,55 @@ use Rattle.calculus.specs.Refusal.{unsound}
 use Rattle.answer.specs.declared.asked.Asked.{Asked}
 use Rattle.answer.specs.declared.asked.Asked.TheVariants as asked
 use Rattle.answer.specs.Ask.{Lent, ask}
-use Rattle.answer.specs.Numbers.{askedAs, askedNumber}
-use Rattle.answer.proofs.RerunLaws.{not-refused}
+use Rattle.answer.specs.Numbers.{asked_as, asked_number}
+use Rattle.answer.proofs.RerunLaws.{not_refused}
 use Rattle.calls.specs.Calls.{asks}
-use Rattle.calls.proofs.Numbers.{every-number}
-use Rattle.exports.specs.Words.{headerLength, headerOf}
-use Rattle.exports.specs.Calls.{askAnswer}
-use Rattle.exports.proofs.Headed.{kept-yes}
+use Rattle.calls.proofs.Numbers.{every_number}
+use Rattle.exports.specs.Words.{header_length, header_of}
+use Rattle.exports.specs.Calls.{ask_answer}
+use Rattle.exports.proofs.Headed.{kept_yes}
 
 module _ (hs ws qs candidate : List ℕ) (lent : Lent) (budget : ℕ) where
   pub ask-is :
-      length hs ≡ headerLength →
-      askAnswer hs ws qs candidate lent budget ≡ ask (headerOf hs) ws qs candidate lent budget
-  unfolding askAnswer
-  ask-is long = kept-yes hs long (ask (headerOf hs) ws qs candidate lent budget) (asked.Refused unsound)
+      length hs ≡ header_length →
+      ask_answer hs ws qs candidate lent budget ≡ ask (header_of hs) ws qs candidate lent budget
+  unfolding ask_answer
+  ask-is long = kept_yes hs long (ask (header_of hs) ws qs candidate lent budget) (asked.Refused unsound)
 
   -- a question that gets a verdict has a header slice of the right length
   has-length :
-      (t : Truth) (n : ℕ) → askAnswer hs ws qs candidate lent budget ≡ asked.Verdict t n → length hs ≡ headerLength
-  unfolding askAnswer
-  has-length t n e = go (eqb (length hs) headerLength) refl
+      (t : Truth) (n : ℕ) → ask_answer hs ws qs candidate lent budget ≡ asked.Verdict t n → length hs ≡ header_length
+  unfolding ask_answer
+  has-length t n e = go (eqb (length hs) header_length) refl
     where
-      go : (b : Bool) → eqb (length hs) headerLength ≡ b → length hs ≡ headerLength
-      go true is = eqb-true (length hs) headerLength is
-      go false is = absurd (not-refused (rw is at e))
+      go : (b : Bool) → eqb (length hs) header_length ≡ b → length hs ≡ header_length
+      go true is = eqb-true (length hs) header_length is
+      go false is = absurd (not_refused (rw is at e))
 
   -- a question is not refused with 0
-  not-zero : askAnswer hs ws qs candidate lent budget ≡ asked.Refused 0 → ⊥
-  unfolding askAnswer
-  not-zero e = go (eqb (length hs) headerLength) refl
+  not_zero : ask_answer hs ws qs candidate lent budget ≡ asked.Refused 0 → ⊥
+  unfolding ask_answer
+  not_zero e = go (eqb (length hs) header_length) refl
     where
-      go : (b : Bool) → eqb (length hs) headerLength ≡ b → ⊥
+      go : (b : Bool) → eqb (length hs) header_length ≡ b → ⊥
       go true is =
-          (every-number (asks (headerOf hs) qs candidate lent budget) ws 0 (ap askedAs (rw is at e))).not-zero refl
+          (every_number (asks (header_of hs) qs candidate lent budget) ws 0 (ap asked_as (rw is at e))).not_zero refl
       go false is = let z : ◌≡◌ {A = ℕ} 41 0 = cc (rw is at e) in omega arith
 
   pub record Stored : Type 0 where
-    pub long : length hs ≡ headerLength
+    pub long : length hs ≡ header_length
     pub verdict : Truth
     pub cost : ℕ
-    pub answers : askAnswer hs ws qs candidate lent budget ≡ asked.Verdict verdict cost
-    pub asks : ask (headerOf hs) ws qs candidate lent budget ≡ asked.Verdict verdict cost
+    pub answers : ask_answer hs ws qs candidate lent budget ≡ asked.Verdict verdict cost
+    pub asks : ask (header_of hs) ws qs candidate lent budget ≡ asked.Verdict verdict cost
 
-  pub stored : askedNumber (askAnswer hs ws qs candidate lent budget) ≡ 0 → Stored
-  stored zero = go (askAnswer hs ws qs candidate lent budget) refl
+  pub stored : asked_number (ask_answer hs ws qs candidate lent budget) ≡ 0 → Stored
+  stored zero = go (ask_answer hs ws qs candidate lent budget) refl
     where
-      go : (a : Asked) → askAnswer hs ws qs candidate lent budget ≡ a → Stored
+      go : (a : Asked) → ask_answer hs ws qs candidate lent budget ≡ a → Stored
       go (asked.Verdict t n) e =
           let long = has-length t n e in
           record { long = long; verdict = t; cost = n; answers = e; asks = sym (ask-is long) ∙ e }
       go (asked.Refused r) e =
-          let none : r ≡ 0 = sym (ap askedNumber e) ∙ zero in
-          absurd (not-zero (e ∙ ap asked.Refused none))
+          let none : r ≡ 0 = sym (ap asked_number e) ∙ zero in
+          absurd (not_zero (e ∙ ap asked.Refused none))

@@ -5,40 +5,40 @@ use mathlib.Core.Bool.{Bool, true, false, cond}
 use native.Mathlib.Omega.{arith}
 use lib.ListN.{length}
 use lib.Dec.{eqb}
-use Rattle.calculus.specs.Refusal.{unsound, buffer-too-short}
+use Rattle.calculus.specs.Refusal.{unsound, buffer_too_short}
 use Rattle.answer.specs.declared.asked.Asked.{Asked}
 use Rattle.answer.specs.declared.asked.Asked.TheVariants.{Verdict, Refused}
 use Rattle.answer.specs.Ask.{list, none, ask}
-use Rattle.answer.specs.Numbers.{askedNumber, verdictOf, costOf}
-use Rattle.answer.proofs.Ways.{ways-agree, never-short}
-use Rattle.exports.specs.Words.{headerLength, headerOf}
-use Rattle.exports.specs.Calls.{askAnswer}
+use Rattle.answer.specs.Numbers.{asked_number, verdict_of, cost_of}
+use Rattle.answer.proofs.Ways.{ways_agree, never_short}
+use Rattle.exports.specs.Words.{header_length, header_of}
+use Rattle.exports.specs.Calls.{ask_answer}
 use Rattle.exports.specs.Ways.{ExportedWaysAgree, ExportedNeverShort}
 
 -- the answer of a call that returned 45
-short-by : (a : Asked) → askedNumber a ≡ buffer-too-short → a ≡ Refused buffer-too-short
-short-by (Verdict t n) e = absurd (zero-not e)
+short_by : (a : Asked) → asked_number a ≡ buffer_too_short → a ≡ Refused buffer_too_short
+short_by (Verdict t n) e = absurd (zero_not e)
   where
-    zero-not : ◌≡◌ {A = ℕ} 0 45 → ⊥
-    zero-not e = omega (arith, e)
-short-by (Refused r) e = ap Refused e
+    zero_not : ◌≡◌ {A = ℕ} 0 45 → ⊥
+    zero_not e = omega (arith, e)
+short_by (Refused r) e = ap Refused e
 
-pub exported-ways-agree : ExportedWaysAgree
-unfolding askAnswer
-exported-ways-agree hs ws qs candidate buffer budget truth cost not_IsShort =
-    let same = go (eqb (length hs) headerLength) not_IsShort in
-    record { number = ap askedNumber same; verdict = ap (λ (a : Asked). verdictOf a truth) same; cost = ap (λ (a : Asked). costOf a cost) same }
+pub exported_ways_agree : ExportedWaysAgree
+unfolding ask_answer
+exported_ways_agree hs ws qs candidate buffer budget truth cost not_IsShort =
+    let same = go (eqb (length hs) header_length) not_IsShort in
+    record { number = ap asked_number same; verdict = ap (λ (a : Asked). verdict_of a truth) same; cost = ap (λ (a : Asked). cost_of a cost) same }
   where
     go :
-        (b : Bool) → (askedNumber (cond b (ask (headerOf hs) ws qs candidate (list buffer) budget) (Refused unsound)) ≡ buffer-too-short → ⊥) →
-        cond b (ask (headerOf hs) ws qs candidate none budget) (Refused unsound) ≡ cond b (ask (headerOf hs) ws qs candidate (list buffer) budget) (Refused unsound)
-    go true no-45 = ways-agree (headerOf hs) ws qs candidate buffer budget (λ e. no-45 (ap askedNumber e))
+        (b : Bool) → (asked_number (cond b (ask (header_of hs) ws qs candidate (list buffer) budget) (Refused unsound)) ≡ buffer_too_short → ⊥) →
+        cond b (ask (header_of hs) ws qs candidate none budget) (Refused unsound) ≡ cond b (ask (header_of hs) ws qs candidate (list buffer) budget) (Refused unsound)
+    go true no-45 = ways_agree (header_of hs) ws qs candidate buffer budget (λ e. no-45 (ap asked_number e))
     go false no-45 = refl
 
-pub exported-never-short : ExportedNeverShort
-unfolding askAnswer
-exported-never-short hs ws qs candidate lent ample budget short = go (eqb (length hs) headerLength) short
+pub exported_never_short : ExportedNeverShort
+unfolding ask_answer
+exported_never_short hs ws qs candidate lent ample budget short = go (eqb (length hs) header_length) short
   where
-    go : (b : Bool) → askedNumber (cond b (ask (headerOf hs) ws qs candidate lent budget) (Refused unsound)) ≡ buffer-too-short → ⊥
-    go true e = never-short (headerOf hs) ws qs candidate lent ample budget (short-by (ask (headerOf hs) ws qs candidate lent budget) e)
+    go : (b : Bool) → asked_number (cond b (ask (header_of hs) ws qs candidate lent budget) (Refused unsound)) ≡ buffer_too_short → ⊥
+    go true e = never_short (header_of hs) ws qs candidate lent ample budget (short_by (ask (header_of hs) ws qs candidate lent budget) e)
     go false e = omega (arith, e)

@@ -3,16 +3,16 @@
 use Rattle.std.specs.Prelude.{ℕ, ◌≡◌, ◌↔◌, true, List, [], ◌∷◌, map, length}
 use Rattle.calculus.specs.declared.answer.Answer.{Answer}
 use Rattle.calculus.specs.Answer.{number_of, value_of}
-use Rattle.calculus.specs.Refusal.{log-empty, bad-log}
+use Rattle.calculus.specs.Refusal.{log_empty, bad_log}
 use Rattle.calculus.specs.Row.{Row}
 use Rattle.instance.specs.declared.header.Header.{Header}
-use Rattle.instance.specs.Sound.{sound, rows, headerFor}
+use Rattle.instance.specs.Sound.{sound, rows, header_for}
 use Rattle.log.specs.Log.{fresh}
-use Rattle.log.specs.History.{Event, rows_by, fillsIn, answerBy, eventsAfter, history}
+use Rattle.log.specs.History.{Event, rows_by, fills_in, answer_by, events_after, history}
 use Rattle.log.specs.History as library
-use Rattle.exports.specs.Words.{headerLength, headerOf, headerWords}
-use Rattle.exports.specs.Calls.{decodeAnswer, decodeHeader, decode_words, decodeUsed}
-use Rattle.exports.specs.Calls.{logAnswer, logWords, logLog, logUsed, undoAnswer, undoWords, undoUsed, insertAnswer, insertHeader, insertWords}
+use Rattle.exports.specs.Words.{header_length, header_of, header_words}
+use Rattle.exports.specs.Calls.{decode_answer, decode_header, decode_words, decode_used}
+use Rattle.exports.specs.Calls.{log_answer, log_words, log_log, log_used, undo_answer, undo_words, undo_used, insert_answer, insert_header, insert_words}
 use Rattle.exports.specs.Steps.{Seen}
 
 -- each call with its own arguments; `count` is the value of the number that it is lent for the count
@@ -28,44 +28,44 @@ pub record State : Type 0 where
   pub log : List ℕ
   pub used : ℕ
 
-abbrev pub stepAnswer : Step → State → Answer
-stepAnswer (fills m c count) s = logAnswer s.header s.words s.log s.used m c
-stepAnswer (undoes count) s = undoAnswer s.header s.words s.log s.used
-stepAnswer (inserts r) s = insertAnswer s.header s.words r.relation r.cells
+abbrev pub step_answer : Step → State → Answer
+step_answer (fills m c count) s = log_answer s.header s.words s.log s.used m c
+step_answer (undoes count) s = undo_answer s.header s.words s.log s.used
+step_answer (inserts r) s = insert_answer s.header s.words r.relation r.cells
 
-abbrev pub stepState : Step → State → State
-stepState (fills m c count) s = record {
+abbrev pub step_state : Step → State → State
+step_state (fills m c count) s = record {
   header = s.header;
-  words = logWords s.header s.words s.log s.used m c;
-  log = logLog s.header s.words s.log s.used m c;
-  used = logUsed s.header s.words s.log s.used m c;
+  words = log_words s.header s.words s.log s.used m c;
+  log = log_log s.header s.words s.log s.used m c;
+  used = log_used s.header s.words s.log s.used m c;
 }
-stepState (undoes count) s = record {
+step_state (undoes count) s = record {
   header = s.header;
-  words = undoWords s.header s.words s.log s.used;
+  words = undo_words s.header s.words s.log s.used;
   log = s.log;
-  used = undoUsed s.header s.words s.log s.used;
+  used = undo_used s.header s.words s.log s.used;
 }
-stepState (inserts r) s = record {
-  header = insertHeader s.header s.words r.relation r.cells;
-  words = insertWords s.header s.words r.relation r.cells;
+step_state (inserts r) s = record {
+  header = insert_header s.header s.words r.relation r.cells;
+  words = insert_words s.header s.words r.relation r.cells;
   log = s.log;
   used = s.used;
 }
 
 -- what C sees of a call that returned a: its number, and the count, of which an insert has none
-abbrev pub seenOf : Step → Answer → Seen
-seenOf (fills m c count) a = record { number = number_of a; count = value_of a count }
-seenOf (undoes count) a = record { number = number_of a; count = value_of a count }
-seenOf (inserts r) a = record { number = number_of a; count = 0 }
+abbrev pub seen_of : Step → Answer → Seen
+seen_of (fills m c count) a = record { number = number_of a; count = value_of a count }
+seen_of (undoes count) a = record { number = number_of a; count = value_of a count }
+seen_of (inserts r) a = record { number = number_of a; count = 0 }
 
-unfoldable pub stepsSeen : List Step → State → List Seen
-stepsSeen [] s = []
-stepsSeen (p ∷ ps) s = seenOf p (stepAnswer p s) ∷ stepsSeen ps (stepState p s)
+unfoldable pub steps_seen : List Step → State → List Seen
+steps_seen [] s = []
+steps_seen (p ∷ ps) s = seen_of p (step_answer p s) ∷ steps_seen ps (step_state p s)
 
-unfoldable pub stateAfter : List Step → State → State
-stateAfter [] s = s
-stateAfter (p ∷ ps) s = stateAfter ps (stepState p s)
+unfoldable pub state_after : List Step → State → State
+state_after [] s = s
+state_after (p ∷ ps) s = state_after ps (step_state p s)
 
 -- the library's step
 abbrev pub step_of : Step → library.Step
@@ -75,39 +75,39 @@ step_of (inserts r) = library.inserts r
 
 module _ (h : Header) (ws log : List ℕ) where
   -- what C would see by the history's answers
-  unfoldable pub historySeen : List Step → List Event → List Seen
-  historySeen [] es = []
-  historySeen (p ∷ ps) es = seenOf p (answerBy h ws log (step_of p) es) ∷ historySeen ps (eventsAfter h ws log (step_of p) es)
+  unfoldable pub history_seen : List Step → List Event → List Seen
+  history_seen [] es = []
+  history_seen (p ∷ ps) es = seen_of p (answer_by h ws log (step_of p) es) ∷ history_seen ps (events_after h ws log (step_of p) es)
 
-  abbrev pub eventsOf : List Step → List Event
-  eventsOf ps = history h ws log (map step_of ps) []
+  abbrev pub events_of : List Step → List Event
+  events_of ps = history h ws log (map step_of ps) []
 
 abbrev pub start : List ℕ → List ℕ → List ℕ → State
 start hs ws log = record { header = hs; words = ws; log = log; used = fresh }
 
 abbrev pub state_of : State → library.State
-state_of s = record { header = headerOf s.header; words = s.words; log = s.log; used = s.used }
+state_of s = record { header = header_of s.header; words = s.words; log = s.log; used = s.used }
 
 -- what holds after a list of steps, if hs is the header slice at the start
 pub record Ended (hs ws log : List ℕ) (ps : List Step) : Type 0 where
-  pub seen : stepsSeen ps (start hs ws log) ≡ historySeen (headerOf hs) ws log ps []
+  pub seen : steps_seen ps (start hs ws log) ≡ history_seen (header_of hs) ws log ps []
   -- the header's words are those of the header of the history's rows; the rest as in the library's claim
   pub header :
-      (stateAfter ps (start hs ws log)).header ≡
-      headerWords (headerFor (headerOf hs).relations (headerOf hs).arities (rows_by (eventsOf (headerOf hs) ws log ps) (rows (headerOf hs) ws)))
-  pub follows : library.Follows (headerOf hs) ws log (eventsOf (headerOf hs) ws log ps) (state_of (stateAfter ps (start hs ws log)))
+      (state_after ps (start hs ws log)).header ≡
+      header_words (header_for (header_of hs).relations (header_of hs).arities (rows_by (events_of (header_of hs) ws log ps) (rows (header_of hs) ws)))
+  pub follows : library.Follows (header_of hs) ws log (events_of (header_of hs) ws log ps) (state_of (state_after ps (start hs ws log)))
   -- no call returns 49 next, and undo returns 48 exactly if no fill counts
-  pub never-bad : (p : Step) → number_of (stepAnswer p (stateAfter ps (start hs ws log))) ≡ bad-log → ⊥
+  pub never_bad : (p : Step) → number_of (step_answer p (state_after ps (start hs ws log))) ≡ bad_log → ⊥
   pub empty :
-      (count : ℕ) → (number_of (stepAnswer (undoes count) (stateAfter ps (start hs ws log))) ≡ log-empty) ↔ (fillsIn (eventsOf (headerOf hs) ws log ps) ≡ 0)
+      (count : ℕ) → (number_of (step_answer (undoes count) (state_after ps (start hs ws log))) ≡ log_empty) ↔ (fills_in (events_of (header_of hs) ws log ps) ≡ 0)
 
 -- every sound plot with its header's words, every log and list of steps, refused ones included
 abbrev pub ExportedHistory : Type 0
 ExportedHistory =
-    (hs ws log : List ℕ) (ps : List Step) → length hs ≡ headerLength → sound (headerOf hs) ws ≡ true → Ended hs ws log ps
+    (hs ws log : List ℕ) (ps : List Step) → length hs ≡ header_length → sound (header_of hs) ws ≡ true → Ended hs ws log ps
 
 -- "Reading a card starts a fresh log": whatever header, plot, log and words in use were before, an accepted decode leaves a start of a history
 abbrev pub HistoryFromCard : Type 0
 HistoryFromCard =
-    (card hs ws log : List ℕ) (used : ℕ) (ps : List Step) → number_of (decodeAnswer card hs ws) ≡ 0 →
-    (decodeUsed card hs ws used ≡ fresh) × Ended (decodeHeader card hs ws) (decode_words card hs ws) log ps
+    (card hs ws log : List ℕ) (used : ℕ) (ps : List Step) → number_of (decode_answer card hs ws) ≡ 0 →
+    (decode_used card hs ws used ≡ fresh) × Ended (decode_header card hs ws) (decode_words card hs ws) log ps

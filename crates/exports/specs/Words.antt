@@ -4,37 +4,37 @@ use Rattle.calculus.specs.declared.answer.Answer.{Answer}
 use Rattle.calculus.specs.Demand.{demand}
 use Rattle.calculus.specs.Refusal.{unsound}
 use Rattle.instance.specs.declared.header.Header.{Header}
-use Rattle.instance.specs.Header.{maxRelations, headerWith}
+use Rattle.instance.specs.Header.{max_relations, header_with}
 use Rattle.calculus.specs.declared.answer.Answer.TheVariants.{Refused}
 
 -- where each part begins, and the length
-abbrev pub relationsAt : ℕ
-relationsAt = 0
+abbrev pub relations_at : ℕ
+relations_at = 0
 
-abbrev pub aritiesAt : ℕ
-aritiesAt = relationsAt + 1
+abbrev pub arities_at : ℕ
+arities_at = relations_at + 1
 
-abbrev pub usedAt : ℕ
-usedAt = aritiesAt + maxRelations
+abbrev pub used_at : ℕ
+used_at = arities_at + max_relations
 
-abbrev pub rowCountsAt : ℕ
-rowCountsAt = usedAt + 1
+abbrev pub row_counts_at : ℕ
+row_counts_at = used_at + 1
 
-abbrev pub headerLength : ℕ
-headerLength = rowCountsAt + maxRelations
+abbrev pub header_length : ℕ
+header_length = row_counts_at + max_relations
 
-unfoldable pub headerOf : List ℕ → Header
-headerOf hs =
-    headerWith (get_or hs relationsAt 0) (take maxRelations (drop aritiesAt hs)) (get_or hs usedAt 0)
-    (take maxRelations (drop rowCountsAt hs))
+unfoldable pub header_of : List ℕ → Header
+header_of hs =
+    header_with (get_or hs relations_at 0) (take max_relations (drop arities_at hs)) (get_or hs used_at 0)
+    (take max_relations (drop row_counts_at hs))
 
-unfoldable pub headerWords : Header → List ℕ
-headerWords h = h.relations ∷ h.arities ++ h.used ∷ h.counts
+unfoldable pub header_words : Header → List ℕ
+header_words h = h.relations ∷ h.arities ++ h.used ∷ h.counts
 
 -- a slice of another length is no header, and so the plot breaks a rule of its section: 41, before any other refusal
 abbrev pub headed : List ℕ → Answer → Answer
-headed hs a = demand (eqb (length hs) headerLength) (Refused unsound) a
+headed hs a = demand (eqb (length hs) header_length) (Refused unsound) a
 
 -- the new content if the slice is as long as a header, otherwise the old
-abbrev pub ifHeaded : {A : Type 0} → List ℕ → A → A → A
-ifHeaded hs new old = cond (eqb (length hs) headerLength) new old
+abbrev pub if_headed : {A : Type 0} → List ℕ → A → A → A
+if_headed hs new old = cond (eqb (length hs) header_length) new old

@@ -2,12 +2,12 @@
 ghost use Rattle.std.specs.Prelude.{◌≡◌};
 ghost use Rattle.calculus.specs.Answer.{number_of, value_of};
 ghost use Rattle.answer.specs.Ask.{list, none};
-ghost use Rattle.answer.specs.Numbers.{askedNumber, verdictOf, costOf};
-ghost use Rattle.exports.specs.Calls.{decodeAnswer, decodeHeader, decode_words, decodeUsed};
-ghost use Rattle.exports.specs.Calls.{insertAnswer, insertHeader, insertWords};
-ghost use Rattle.exports.specs.Calls.{substituteAnswer, substituteWords, countsAnswer, countsWords, encodeAnswer, encodeBytes};
-ghost use Rattle.exports.specs.Calls.{logAnswer, logWords, logLog, logUsed, undoAnswer, undoWords, undoUsed};
-ghost use Rattle.exports.specs.Calls.{askAnswer, askBuffer};
+ghost use Rattle.answer.specs.Numbers.{asked_number, verdict_of, cost_of};
+ghost use Rattle.exports.specs.Calls.{decode_answer, decode_header, decode_words, decode_used};
+ghost use Rattle.exports.specs.Calls.{insert_answer, insert_header, insert_words};
+ghost use Rattle.exports.specs.Calls.{substitute_answer, substitute_words, counts_answer, counts_words, encode_answer, encode_bytes};
+ghost use Rattle.exports.specs.Calls.{log_answer, log_words, log_log, log_used, undo_answer, undo_words, undo_used};
+ghost use Rattle.exports.specs.Calls.{ask_answer, ask_buffer};
 
 mod words;
 
@@ -25,10 +25,10 @@ pub extern "C" fn plotask_decode(
     instance: &mut [u32],
     used: &mut usize,
 ) -> u32
-    ensures number { result ≡ number_of (decodeAnswer card.now header.old instance.old) }
-    ensures header { header.new ≡ decodeHeader card.now header.old instance.old }
+    ensures number { result ≡ number_of (decode_answer card.now header.old instance.old) }
+    ensures header { header.new ≡ decode_header card.now header.old instance.old }
     ensures words { instance.new ≡ decode_words card.now header.old instance.old }
-    ensures used { used.new ≡ decodeUsed card.now header.old instance.old used.old }
+    ensures used { used.new ≡ decode_used card.now header.old instance.old used.old }
 {
     if header.len() != HEADER {
         return UNSOUND;
@@ -49,9 +49,9 @@ pub extern "C" fn plotask_insert(
     relation: u32,
     cells: &[u32],
 ) -> u32
-    ensures number { result ≡ number_of (insertAnswer header.old instance.old relation cells.now) }
-    ensures header { header.new ≡ insertHeader header.old instance.old relation cells.now }
-    ensures words { instance.new ≡ insertWords header.old instance.old relation cells.now }
+    ensures number { result ≡ number_of (insert_answer header.old instance.old relation cells.now) }
+    ensures header { header.new ≡ insert_header header.old instance.old relation cells.now }
+    ensures words { instance.new ≡ insert_words header.old instance.old relation cells.now }
 {
     if header.len() != HEADER {
         return UNSOUND;
@@ -72,9 +72,9 @@ pub extern "C" fn plotask_substitute(
     cell: u32,
     count: &mut u32,
 ) -> u32
-    ensures number { result ≡ number_of (substituteAnswer header.now instance.old mark cell) }
-    ensures words { instance.new ≡ substituteWords header.now instance.old mark cell }
-    ensures count { count.new ≡ value_of (substituteAnswer header.now instance.old mark cell) count.old }
+    ensures number { result ≡ number_of (substitute_answer header.now instance.old mark cell) }
+    ensures words { instance.new ≡ substitute_words header.now instance.old mark cell }
+    ensures count { count.new ≡ value_of (substitute_answer header.now instance.old mark cell) count.old }
 {
     if header.len() != HEADER {
         return UNSOUND;
@@ -95,11 +95,11 @@ pub extern "C" fn plotask_substitute_logged(
     cell: u32,
     count: &mut u32,
 ) -> u32
-    ensures number { result ≡ number_of (logAnswer header.now instance.old log.old used.old mark cell) }
-    ensures words { instance.new ≡ logWords header.now instance.old log.old used.old mark cell }
-    ensures log { log.new ≡ logLog header.now instance.old log.old used.old mark cell }
-    ensures used { used.new ≡ logUsed header.now instance.old log.old used.old mark cell }
-    ensures count { count.new ≡ value_of (logAnswer header.now instance.old log.old used.old mark cell) count.old }
+    ensures number { result ≡ number_of (log_answer header.now instance.old log.old used.old mark cell) }
+    ensures words { instance.new ≡ log_words header.now instance.old log.old used.old mark cell }
+    ensures log { log.new ≡ log_log header.now instance.old log.old used.old mark cell }
+    ensures used { used.new ≡ log_used header.now instance.old log.old used.old mark cell }
+    ensures count { count.new ≡ value_of (log_answer header.now instance.old log.old used.old mark cell) count.old }
 {
     if header.len() != HEADER {
         return UNSOUND;
@@ -127,10 +127,10 @@ pub extern "C" fn plotask_undo(
     used: &mut usize,
     count: &mut u32,
 ) -> u32
-    ensures number { result ≡ number_of (undoAnswer header.now instance.old log.now used.old) }
-    ensures words { instance.new ≡ undoWords header.now instance.old log.now used.old }
-    ensures used { used.new ≡ undoUsed header.now instance.old log.now used.old }
-    ensures count { count.new ≡ value_of (undoAnswer header.now instance.old log.now used.old) count.old }
+    ensures number { result ≡ number_of (undo_answer header.now instance.old log.now used.old) }
+    ensures words { instance.new ≡ undo_words header.now instance.old log.now used.old }
+    ensures used { used.new ≡ undo_used header.now instance.old log.now used.old }
+    ensures count { count.new ≡ value_of (undo_answer header.now instance.old log.now used.old) count.old }
 {
     if header.len() != HEADER {
         return UNSOUND;
@@ -150,9 +150,9 @@ pub extern "C" fn plotask_null_counts(
     counts: &mut [u32],
     count: &mut u32,
 ) -> u32
-    ensures number { result ≡ number_of (countsAnswer header.now instance.now counts.old) }
-    ensures words { counts.new ≡ countsWords header.now instance.now counts.old }
-    ensures count { count.new ≡ value_of (countsAnswer header.now instance.now counts.old) count.old }
+    ensures number { result ≡ number_of (counts_answer header.now instance.now counts.old) }
+    ensures words { counts.new ≡ counts_words header.now instance.now counts.old }
+    ensures count { count.new ≡ value_of (counts_answer header.now instance.now counts.old) count.old }
 {
     if header.len() != HEADER {
         return UNSOUND;
@@ -170,9 +170,9 @@ pub extern "C" fn plotask_encode(
     card: &mut [u8],
     count: &mut u32,
 ) -> u32
-    ensures number { result ≡ number_of (encodeAnswer header.now instance.now card.old) }
-    ensures bytes { card.new ≡ encodeBytes header.now instance.now card.old }
-    ensures count { count.new ≡ value_of (encodeAnswer header.now instance.now card.old) count.old }
+    ensures number { result ≡ number_of (encode_answer header.now instance.now card.old) }
+    ensures bytes { card.new ≡ encode_bytes header.now instance.now card.old }
+    ensures count { count.new ≡ value_of (encode_answer header.now instance.now card.old) count.old }
 {
     if header.len() != HEADER {
         return UNSOUND;
@@ -194,10 +194,10 @@ pub extern "C" fn plotask_ask(
     truth: &mut u32,
     cost: &mut u32,
 ) -> u32
-    ensures number { result ≡ askedNumber (askAnswer header.now instance.now query.now candidate.now (list buffer.old) budget) }
-    ensures buffer { buffer.new ≡ askBuffer header.now instance.now query.now candidate.now buffer.old }
-    ensures truth { truth.new ≡ verdictOf (askAnswer header.now instance.now query.now candidate.now (list buffer.old) budget) truth.old }
-    ensures cost { cost.new ≡ costOf (askAnswer header.now instance.now query.now candidate.now (list buffer.old) budget) cost.old }
+    ensures number { result ≡ asked_number (ask_answer header.now instance.now query.now candidate.now (list buffer.old) budget) }
+    ensures buffer { buffer.new ≡ ask_buffer header.now instance.now query.now candidate.now buffer.old }
+    ensures truth { truth.new ≡ verdict_of (ask_answer header.now instance.now query.now candidate.now (list buffer.old) budget) truth.old }
+    ensures cost { cost.new ≡ cost_of (ask_answer header.now instance.now query.now candidate.now (list buffer.old) budget) cost.old }
 {
     if header.len() != HEADER {
         return UNSOUND;
@@ -226,9 +226,9 @@ pub extern "C" fn plotask_ask_unlisted(
     truth: &mut u32,
     cost: &mut u32,
 ) -> u32
-    ensures number { result ≡ askedNumber (askAnswer header.now instance.now query.now candidate.now none budget) }
-    ensures truth { truth.new ≡ verdictOf (askAnswer header.now instance.now query.now candidate.now none budget) truth.old }
-    ensures cost { cost.new ≡ costOf (askAnswer header.now instance.now query.now candidate.now none budget) cost.old }
+    ensures number { result ≡ asked_number (ask_answer header.now instance.now query.now candidate.now none budget) }
+    ensures truth { truth.new ≡ verdict_of (ask_answer header.now instance.now query.now candidate.now none budget) truth.old }
+    ensures cost { cost.new ≡ cost_of (ask_answer header.now instance.now query.now candidate.now none budget) cost.old }
 {
     if header.len() != HEADER {
         return UNSOUND;

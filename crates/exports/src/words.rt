@@ -2,8 +2,8 @@
 ghost use Rattle.std.specs.Prelude.{◌≡◌, length};
 ghost use Rattle.calculus.specs.Answer.{after, number_of, value_of};
 ghost use Rattle.calculus.specs.Kleene.{rank};
-ghost use Rattle.answer.specs.Numbers.{askedNumber, verdictOf, costOf};
-ghost use Rattle.exports.specs.Words.{headerOf, headerWords, headerLength};
+ghost use Rattle.answer.specs.Numbers.{asked_number, verdict_of, cost_of};
+ghost use Rattle.exports.specs.Words.{header_of, header_words, header_length};
 
 use answer::asked::Asked;
 use calculus::answer::Answer;
@@ -23,8 +23,8 @@ const ROW_COUNTS_AT: usize = USED_AT + 1;
 pub const HEADER: usize = ROW_COUNTS_AT + RELATIONS as usize;
 
 pub fn read_header(words: &[u32]) -> Header
-    requires { length words.now ≡ headerLength }
-    ensures { result ≡ headerOf words.now }
+    requires { length words.now ≡ header_length }
+    ensures { result ≡ header_of words.now }
 {
     let arities = eight(words, ARITIES_AT);
     let counts = eight(words, ROW_COUNTS_AT);
@@ -32,8 +32,8 @@ pub fn read_header(words: &[u32]) -> Header
 }
 
 fn write_header(words: &mut [u32], header: Header)
-    requires { length words.old ≡ headerLength }
-    ensures { words.new ≡ headerWords header }
+    requires { length words.old ≡ header_length }
+    ensures { words.new ≡ header_words header }
 {
     let arities = header.arities;
     let counts = header.counts;
@@ -45,8 +45,8 @@ fn write_header(words: &mut [u32], header: Header)
 
 // Writes the header that an accepted call leaves; a refused call leaves the words as they are.
 pub fn put_header(words: &mut [u32], answer: Answer, header: Header)
-    requires { length words.old ≡ headerLength }
-    ensures { words.new ≡ after answer (headerWords header) words.old }
+    requires { length words.old ≡ header_length }
+    ensures { words.new ≡ after answer (header_words header) words.old }
 {
     if let Answer::Done(_) = answer {
         write_header(words, header);
@@ -92,7 +92,7 @@ fn truth_number(truth: Truth) -> u32
 }
 
 pub fn asked_number(asked: Asked) -> u32
-    ensures { result ≡ askedNumber asked }
+    ensures { result ≡ asked_number asked }
 {
     match asked {
         Asked::Verdict(_, _) => 0,
@@ -101,7 +101,7 @@ pub fn asked_number(asked: Asked) -> u32
 }
 
 pub fn verdict(asked: Asked, old: u32) -> u32
-    ensures { result ≡ verdictOf asked old }
+    ensures { result ≡ verdict_of asked old }
 {
     match asked {
         Asked::Verdict(truth, _) => truth_number(truth),
@@ -110,7 +110,7 @@ pub fn verdict(asked: Asked, old: u32) -> u32
 }
 
 pub fn cost_of(asked: Asked, old: u32) -> u32
-    ensures { result ≡ costOf asked old }
+    ensures { result ≡ cost_of asked old }
 {
     match asked {
         Asked::Verdict(_, n) => n,

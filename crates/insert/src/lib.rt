@@ -1,7 +1,7 @@
 // Inserts (enters) a row.
 ghost use Rattle.std.specs.Prelude.{◌≡◌, ◌+◌, ◌≤◌, ◌<◌, ◌∷◌, ◌++◌, length, drop};
 ghost use Rattle.calculus.specs.Answer.{Tells};
-ghost use Rattle.instance.specs.Insert.{inserted, insertedHeader, insertedWords};
+ghost use Rattle.instance.specs.Insert.{inserted, inserted_header, inserted_words};
 
 use calculus::answer::Answer;
 use calculus::refusal::{NO_ROOM, NO_SUCH_RELATION, NOT_A_CELL, UNSOUND, WRONG_ROW_LENGTH};
@@ -49,9 +49,9 @@ fn write_row(part: &mut [u32], relation: u32, cells: &[u32])
 // Inserts a row after the words in use.
 pub fn insert(header: Header, instance: &mut [u32], relation: u32, cells: &[u32]) -> Stored
     ensures answer { result.answer ≡ inserted header instance.old relation cells.now }
-    ensures header { result.header ≡ insertedHeader header instance.old relation cells.now }
-    ensures words { instance.new ≡ insertedWords header instance.old relation cells.now }
-    ensures told { Tells result.answer (inserted header instance.old relation cells.now) (insertedHeader header instance.old relation cells.now).used }
+    ensures header { result.header ≡ inserted_header header instance.old relation cells.now }
+    ensures words { instance.new ≡ inserted_words header instance.old relation cells.now }
+    ensures told { Tells result.answer (inserted header instance.old relation cells.now) (inserted_header header instance.old relation cells.now).used }
 {
     let answer = check_insert(header, instance, relation, cells);
     let Answer::Done(used) = answer else {

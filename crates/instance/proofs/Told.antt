@@ -10,26 +10,26 @@ use Rattle.calculus.specs.declared.answer.Answer.TheVariants.{Done, Refused}
 use Rattle.calculus.specs.Answer.{Tells}
 use Rattle.calculus.specs.Cell.{nulls}
 use Rattle.calculus.specs.Fill.{Logging, held}
-use Rattle.calculus.specs.Refusal.{unsound, output-too-short}
-use Rattle.calculus.proofs.Answers.{demand-done, two-demands, tells}
+use Rattle.calculus.specs.Refusal.{unsound, output_too_short}
+use Rattle.calculus.proofs.Answers.{demand_done, two_demands, tells}
 use Rattle.instance.specs.declared.header.Header.{Header}
 use Rattle.instance.specs.declared.scan.Scanned.{Scanned}
-use Rattle.instance.specs.Sound.{sound, rows, tally, scanned, scannedAs, soundAnswer}
-use Rattle.instance.specs.Insert.{inserted, insertedHeader}
+use Rattle.instance.specs.Sound.{sound, rows, tally, scanned, scanned_as, sound_answer}
+use Rattle.instance.specs.Insert.{inserted, inserted_header}
 use Rattle.instance.specs.Substitute.{substituted}
 use Rattle.instance.specs.NullCounts.{counted}
-use Rattle.instance.proofs.Accepted.{insert-accepted, substitute-accepted}
-use Rattle.instance.proofs.Kept.{entered-used}
+use Rattle.instance.proofs.Accepted.{insert_accepted, substitute-accepted}
+use Rattle.instance.proofs.Kept.{entered_used}
 use Rattle.calculus.specs.Demand.{demand}
 
 module _ (h : Header) (ws : List ℕ) where
-  pub scan-told : {r : Scanned} → r ≡ scanned h ws → (r ≡ scanned h ws) × Tells (scannedAs r) (soundAnswer h ws) (length (rows h ws))
+  pub scan_told : {r : Scanned} → r ≡ scanned h ws → (r ≡ scanned h ws) × Tells (scanned_as r) (sound_answer h ws) (length (rows h ws))
   unfolding scanned
-  scan-told e =
+  scan_told e =
       let n = length (rows h ws) in
-      (e, tells n (ap scannedAs e ∙ is (sound h ws) n) (λ k d. let f : Done n ≡ Done k = (demand-done (sound h ws) unsound (Done n) k d).1 in cc))
+      (e, tells n (ap scanned_as e ∙ is (sound h ws) n) (λ k d. let f : Done n ≡ Done k = (demand_done (sound h ws) unsound (Done n) k d).1 in cc))
     where
-      is : (b : Bool) (n : ℕ) → scannedAs (tally b n) ≡ demand b (Refused unsound) (Done n)
+      is : (b : Bool) (n : ℕ) → scanned_as (tally b n) ≡ demand b (Refused unsound) (Done n)
       is true n = refl
       is false n = refl
 
@@ -41,21 +41,21 @@ module _ (h : Header) (ws : List ℕ) where
   pub counts-told :
       (out : List ℕ) {r : Answer} {P : Type 0} → (r ≡ counted h ws out) × P → (r ≡ counted h ws out) × (P × Tells r (counted h ws out) nulls)
   unfolding counted
-  counts-told out p = (p.0, (p.1, tells nulls p.0 (two-demands (sound h ws) (leb nulls (length out)) unsound output-too-short nulls)))
+  counts-told out p = (p.0, (p.1, tells nulls p.0 (two_demands (sound h ws) (leb nulls (length out)) unsound output_too_short nulls)))
 
   -- the value is the number of words in use in the header that is left
   pub insert-told :
       (r : ℕ) (cs : List ℕ) {a : Answer} {g : Header} {P : Type 0} →
-      (a ≡ inserted h ws r cs) × ((g ≡ insertedHeader h ws r cs) × P) →
-      (a ≡ inserted h ws r cs) × ((g ≡ insertedHeader h ws r cs) × (P × Tells a (inserted h ws r cs) (insertedHeader h ws r cs).used))
-  unfolding insertedHeader
+      (a ≡ inserted h ws r cs) × ((g ≡ inserted_header h ws r cs) × P) →
+      (a ≡ inserted h ws r cs) × ((g ≡ inserted_header h ws r cs) × (P × Tells a (inserted h ws r cs) (inserted_header h ws r cs).used))
+  unfolding inserted_header
   insert-told r cs p = (
     p.0,
     (
       p.1.0,
       (
         p.1.1,
-        tells (insertedHeader h ws r cs).used p.0 (λ k d. rw d (entered-used h ws r cs k (insert-accepted h ws r cs k d))),
+        tells (inserted_header h ws r cs).used p.0 (λ k d. rw d (entered_used h ws r cs k (insert_accepted h ws r cs k d))),
       ),
     ),
   )

@@ -19,19 +19,19 @@ unfoldable pub fields_of : List Record → List Field
 fields_of [] = []
 fields_of (r ∷ rs) = r.fields ++ fields_of rs
 
-unfoldable pub blanksIn : List Field → ℕ
-blanksIn [] = 0
-blanksIn (written c ∷ fs) = blanksIn fs
-blanksIn (blank ∷ fs) = suc (blanksIn fs)
+unfoldable pub blanks_in : List Field → ℕ
+blanks_in [] = 0
+blanks_in (written c ∷ fs) = blanks_in fs
+blanks_in (blank ∷ fs) = suc (blanks_in fs)
 
 unfoldable pub blanks : List Record → ℕ
 blanks [] = 0
-blanks (r ∷ rs) = blanksIn r.fields + blanks rs
+blanks (r ∷ rs) = blanks_in r.fields + blanks rs
 
 -- the highest null among cells, 0 if there is none
-unfoldable pub highestOf : List ℕ → ℕ
-highestOf [] = 0
-highestOf (c ∷ cs) = max (mark_of c) (highestOf cs)
+unfoldable pub highest_of : List ℕ → ℕ
+highest_of [] = 0
+highest_of (c ∷ cs) = max (mark_of c) (highest_of cs)
 
 -- the cells that are written
 unfoldable pub written_of : List Field → List ℕ
@@ -40,12 +40,12 @@ written_of (written c ∷ fs) = c ∷ written_of fs
 written_of (blank ∷ fs) = written_of fs
 
 -- the highest null that is written
-abbrev pub highestIn : List Field → ℕ
-highestIn fs = highestOf (written_of fs)
+abbrev pub highest_in : List Field → ℕ
+highest_in fs = highest_of (written_of fs)
 
 unfoldable pub highest : List Record → ℕ
 highest [] = 0
-highest (r ∷ rs) = max (highestIn r.fields) (highest rs)
+highest (r ∷ rs) = max (highest_in r.fields) (highest rs)
 
 -- the cells of the fields, if the next blank gets null m
 unfoldable pub numbered : ℕ → List Field → List ℕ
@@ -53,10 +53,10 @@ numbered m [] = []
 numbered m (written c ∷ fs) = c ∷ numbered m fs
 numbered m (blank ∷ fs) = null m ∷ numbered (suc m) fs
 
-unfoldable pub numberedRows : ℕ → List Record → List Row
-numberedRows m [] = []
-numberedRows m (r ∷ rs) = record { relation = r.relation; cells = numbered m r.fields } ∷ numberedRows (m + blanksIn r.fields) rs
+unfoldable pub numbered_rows : ℕ → List Record → List Row
+numbered_rows m [] = []
+numbered_rows m (r ∷ rs) = record { relation = r.relation; cells = numbered m r.fields } ∷ numbered_rows (m + blanks_in r.fields) rs
 
 -- the rows that records stand for
 abbrev pub rows_of : List Record → List Row
-rows_of rs = numberedRows (suc (highest rs)) rs
+rows_of rs = numbered_rows (suc (highest rs)) rs

@@ -4,11 +4,11 @@ use Rattle.std.specs.Prelude.{ℕ, ◌+◌, List, [], ◌∷◌, length}
 use Rattle.calculus.specs.Row.{Row}
 use Rattle.calculus.specs.Closed.{tuples}
 use Rattle.calculus.specs.Table.{table}
-use Rattle.instance.specs.Header.{maxRelations}
+use Rattle.instance.specs.Header.{max_relations}
 
 -- for each of the eight relations that a header has room for; 0 for one that does not exist
-abbrev pub rowCounts : List Row → List ℕ
-rowCounts rs = table (λ r. length (tuples r rs)) maxRelations
+abbrev pub row_counts : List Row → List ℕ
+row_counts rs = table (λ r. length (tuples r rs)) max_relations
 
 -- the rows that counts add up to
 unfoldable pub sum_of : List ℕ → ℕ

@@ -1,11 +1,11 @@
 // Whether all numbers of a list are cells.
 ghost use Rattle.std.specs.Prelude.{◌≡◌};
-ghost use Rattle.instance.specs.Rows.{areCells};
+ghost use Rattle.instance.specs.Rows.{are_cells};
 
 use calculus::cell::is_cell;
 
 pub fn are_cells(cells: &[u32]) -> bool
-    ensures { result ≡ areCells cells.now }
+    ensures { result ≡ are_cells cells.now }
 {
     let mut i = 0;
     while i < cells.len() {

@@ -1,11 +1,11 @@
 // Room for words in a slice.
 ghost use Rattle.std.specs.Prelude.{◌≡◌};
-ghost use Rattle.instance.specs.Room.{hasRoom};
+ghost use Rattle.instance.specs.Room.{has_room};
 
 use super::header::WORDS;
 
 pub fn has_room(words: usize, slice: usize) -> bool
-    ensures { result ≡ hasRoom words slice }
+    ensures { result ≡ has_room words slice }
 {
     words <= WORDS && words <= slice
 }

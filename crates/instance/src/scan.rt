@@ -1,15 +1,15 @@
 // One pass over an instance that tells whether it is sound, and how many rows it has.
 ghost use Rattle.std.specs.Prelude.{◌≡◌, true, ◌≤◌, length};
-ghost use Rattle.instance.specs.Header.{headerWellFormed, maxRelations, maxWords};
+ghost use Rattle.instance.specs.Header.{header_well_formed, max_relations, max_words};
 ghost use Rattle.calculus.specs.Answer.{Tells};
 ghost use Rattle.calculus.specs.Closed.{identical};
 ghost use Rattle.instance.specs.RowCounts.{sum_of};
-ghost use Rattle.instance.specs.Sound.{rows, scanned, scannedWords, scannedAs, soundAnswer};
+ghost use Rattle.instance.specs.Sound.{rows, scanned, scanned_words, scanned_as, sound_answer};
 
 use super::cells::are_cells;
 use super::header::{COLUMNS, Header, RELATIONS, WORDS};
 
-#[derive(Drop)]
+#[derive(Clone, Copy)]
 pub enum Scanned {
     Rows(u32),
     Unsound,
@@ -17,8 +17,8 @@ pub enum Scanned {
 
 // Whether a header has 1 to 8 relations, of 1 to 6 columns each, and no columns for the others.
 fn header_well_formed(relations: u32, arities: &[u32; 8]) -> bool
-    requires { length arities.now ≡ maxRelations }
-    ensures { result ≡ headerWellFormed relations arities.now }
+    requires { length arities.now ≡ max_relations }
+    ensures { result ≡ header_well_formed relations arities.now }
 {
     if relations < 1 {
         return false;
@@ -46,7 +46,7 @@ fn header_well_formed(relations: u32, arities: &[u32; 8]) -> bool
 
 // Whether two lists of counts are the same.
 fn same_counts(counts: &[u32; 8], others: &[u32; 8]) -> bool
-    requires { (length counts.now ≡ maxRelations) × (length others.now ≡ maxRelations) }
+    requires { (length counts.now ≡ max_relations) × (length others.now ≡ max_relations) }
     ensures { result ≡ identical counts.now others.now }
 {
     let mut i = 0;
@@ -61,7 +61,7 @@ fn same_counts(counts: &[u32; 8], others: &[u32; 8]) -> bool
 
 // How many rows eight counts add up to.
 fn all_rows(counts: &[u32; 8]) -> u32
-    requires { (length counts.now ≡ maxRelations) × (sum_of counts.now ≤ maxWords) }
+    requires { (length counts.now ≡ max_relations) × (sum_of counts.now ≤ max_words) }
     ensures { result ≡ sum_of counts.now }
 {
     let mut rows: u32 = 0;
@@ -76,9 +76,9 @@ fn all_rows(counts: &[u32; 8]) -> u32
 // The number of rows in the words; `Unsound` if they are not whole rows of cells, or if a relation has another number
 // of rows than its count.
 fn scan_words(relations: u32, arities: &[u32; 8], counts: &[u32; 8], words: &[u32]) -> Scanned
-    requires { (headerWellFormed relations arities.now ≡ true) × (length words.now ≤ maxWords)
-        × (length counts.now ≡ maxRelations) }
-    ensures { result ≡ scannedWords relations arities.now counts.now words.now }
+    requires { (header_well_formed relations arities.now ≡ true) × (length words.now ≤ max_words)
+        × (length counts.now ≡ max_relations) }
+    ensures { result ≡ scanned_words relations arities.now counts.now words.now }
 {
     let mut found = [0u32; 8];
     // the last row's relation and arity, so that a row of the same relation needs no look into `arities`
@@ -113,7 +113,7 @@ fn scan_words(relations: u32, arities: &[u32; 8], counts: &[u32; 8], words: &[u3
 
 pub fn scan(header: Header, instance: &[u32]) -> Scanned
     ensures answer { result ≡ scanned header instance.now }
-    ensures told { Tells (scannedAs result) (soundAnswer header instance.now) (length (rows header instance.now)) }
+    ensures told { Tells (scanned_as result) (sound_answer header instance.now) (length (rows header instance.now)) }
 {
     let relations = header.relations;
     let arities = header.arities;

@@ -12,22 +12,22 @@ use Rattle.card.specs.Decode.{Decoded}
 use Rattle.answer.specs.declared.asked.Asked.{Asked}
 use Rattle.answer.specs.declared.asked.Asked.TheVariants.{Refused}
 use Rattle.line.specs.Fields.{Fields}
-use Rattle.line.specs.Text.{maxLine}
-use Rattle.line.specs.Line.{askedInstance, askedDecoded, answered, line_for, line_of, lineLength, lineOut}
+use Rattle.line.specs.Text.{max_line}
+use Rattle.line.specs.Line.{asked_instance, asked_decoded, answered, line_for, line_of, line_length, line_out}
 
 module _ (f : Fields) (d : Decoded) {a : Answer} (told : a ≡ d.answer) where
-  pub card-refused : {r : ℕ} → a ≡ answer.Refused r → Refused r ≡ askedDecoded f d
+  pub card-refused : {r : ℕ} → a ≡ answer.Refused r → Refused r ≡ asked_decoded f d
   card-refused is = rw (← told, is)
 
-  pub card-read : {used : ℕ} {h : Header} {ws : List ℕ} → a ≡ answer.Done used → h ≡ d.header → ws ≡ d.words → askedInstance f h ws ≡ askedDecoded f d
+  pub card-read : {used : ℕ} {h : Header} {ws : List ℕ} → a ≡ answer.Done used → h ≡ d.header → ws ≡ d.words → asked_instance f h ws ≡ asked_decoded f d
   card-read is head words = rw (head, words, ← told, is)
 
 module _ (input out : List ℕ) where
-  pub no_line : length out < maxLine → (lineLength input out ≡ 0) × (lineOut input out ≡ out)
-  unfolding lineLength lineOut
-  no_line l = (rw (lt-leb maxLine (length out) l), rw (lt-leb maxLine (length out) l))
+  pub no_line : length out < max_line → (line_length input out ≡ 0) × (line_out input out ≡ out)
+  unfolding line_length line_out
+  no_line l = (rw (lt-leb max_line (length out) l), rw (lt-leb max_line (length out) l))
 
-  pub one_line : {a : Asked} → a ≡ answered input → maxLine ≤ length out
-      → (lineLength input out ≡ length (line_for a)) × (lineOut input out ≡ overwrite (line_for a) out)
-  unfolding lineLength lineOut line_of
-  one_line e l = (rw (le-leb maxLine (length out) l, e), rw (le-leb maxLine (length out) l, e))
+  pub one_line : {a : Asked} → a ≡ answered input → max_line ≤ length out
+      → (line_length input out ≡ length (line_for a)) × (line_out input out ≡ overwrite (line_for a) out)
+  unfolding line_length line_out line_of
+  one_line e l = (rw (le-leb max_line (length out) l, e), rw (le-leb max_line (length out) l, e))

@@ -8,12 +8,12 @@ use lib.ListN.{length, drop, length-append}
 use lib.Dec.{leb}
 use Rattle.calculus.specs.Demand.{demand}
 use Rattle.calculus.specs.Overwrite.{overwrite}
-use Rattle.line.specs.Text.{maxLine}
-use Rattle.line.specs.Line.{line_of, lineLength, lineOut}
+use Rattle.line.specs.Text.{max_line}
+use Rattle.line.specs.Line.{line_of, line_length, line_out}
 
-pub line-fits : (input out left : List ℕ) → left ≡ lineOut input out → length left ≡ length out → lineLength input out ≤ length out
-unfolding lineLength lineOut
-line-fits input out left is kept = go (leb maxLine (length out)) (ap length is)
+pub line_fits : (input out left : List ℕ) → left ≡ line_out input out → length left ≡ length out → line_length input out ≤ length out
+unfolding line_length line_out
+line_fits input out left is kept = go (leb max_line (length out)) (ap length is)
   where
     go : (b : Bool) → length left ≡ length (demand b out (overwrite (line_of input) out)) → demand b 0 (length (line_of input)) ≤ length out
     go true e = omega (arith, e, kept, length-append (line_of input) (drop (length (line_of input)) out))

@@ -9,43 +9,43 @@ use lib.ListN.{length}
 use lib.Dec.{leb, eqb}
 use Rattle.instance.specs.declared.header.Header.{Header}
 use Rattle.instance.specs.Sound.{sound}
-use Rattle.query.specs.Words.{rightLength, nodeWords, maxNodes}
+use Rattle.query.specs.Words.{right_length, node_words, max_nodes}
 use Rattle.answer.specs.Ask.{Lent, admitted, askable, ask}
-use Rattle.parse.specs.Parse.{isRead}
-use Rattle.parse.specs.Number.{readNumber, readNumbers, numbersOf}
-use Rattle.parse.proofs.Each.{each-length, each_fewer}
-use Rattle.line.specs.Line.{lookedAt}
+use Rattle.parse.specs.Parse.{is_read}
+use Rattle.parse.specs.Number.{read_number, read_numbers, numbers_of}
+use Rattle.parse.proofs.Each.{each_length, each_fewer}
+use Rattle.line.specs.Line.{looked_at}
 
 module _ (h : Header) (ws candidate : List ℕ) (lent : Lent) (budget : ℕ) where
-  wrong-length : (qs qs' : List ℕ) → rightLength qs ≡ false → rightLength qs' ≡ false → ask h ws qs candidate lent budget ≡ ask h ws qs' candidate lent budget
+  wrong_length : (qs qs' : List ℕ) → right_length qs ≡ false → right_length qs' ≡ false → ask h ws qs candidate lent budget ≡ ask h ws qs' candidate lent budget
   unfolding ask askable admitted
-  wrong-length qs qs' e e' = go (sound h ws) refl
+  wrong_length qs qs' e e' = go (sound h ws) refl
     where
       go : (b : Bool) → sound h ws ≡ b → ask h ws qs candidate lent budget ≡ ask h ws qs' candidate lent budget
       go true s = rw (s, e, e')
       go false s = rw s
 
   -- more words than a question may have
-  too_many : (qs : List ℕ) → maxNodes * nodeWords < length qs → rightLength qs ≡ false
-  unfolding rightLength
-  too_many qs l = go (leb nodeWords (length qs))
+  too_many : (qs : List ℕ) → max_nodes * node_words < length qs → right_length qs ≡ false
+  unfolding right_length
+  too_many qs l = go (leb node_words (length qs))
     where
-      go : (b : Bool) → (b && leb (length qs) (maxNodes * nodeWords) && eqb (length qs % nodeWords) 0) ≡ false
-      go true = rw (lt-leb (length qs) (maxNodes * nodeWords) l)
+      go : (b : Bool) → (b && leb (length qs) (max_nodes * node_words) && eqb (length qs % node_words) 0) ≡ false
+      go true = rw (lt-leb (length qs) (max_nodes * node_words) l)
       go false = refl
 
-  pub first-words : (count shown : ℕ) (bs : List ℕ) → shown ≡ min count lookedAt → isRead (readNumbers 4 count bs) ≡ true
-      → ask h ws (numbersOf 4 shown bs) candidate lent budget ≡ ask h ws (numbersOf 4 count bs) candidate lent budget
-  first-words count shown bs is e = rw is (go (leb count lookedAt) refl)
+  pub first_words_lem : (count shown : ℕ) (bs : List ℕ) → shown ≡ min count looked_at → is_read (read_numbers 4 count bs) ≡ true
+      → ask h ws (numbers_of 4 shown bs) candidate lent budget ≡ ask h ws (numbers_of 4 count bs) candidate lent budget
+  first_words_lem count shown bs is e = rw is (go (leb count looked_at) refl)
     where
-      go : (b : Bool) → leb count lookedAt ≡ b → ask h ws (numbersOf 4 (min count lookedAt) bs) candidate lent budget ≡ ask h ws (numbersOf 4 count bs) candidate lent budget
+      go : (b : Bool) → leb count looked_at ≡ b → ask h ws (numbers_of 4 (min count looked_at) bs) candidate lent budget ≡ ask h ws (numbers_of 4 count bs) candidate lent budget
       go true t =
-          let same : min count lookedAt ≡ count = omega (arith, leb-true count lookedAt t) in
+          let same : min count looked_at ≡ count = omega (arith, leb-true count looked_at t) in
           rw same
       go false t =
-          let more : lookedAt < count = leb-false count lookedAt t in
-          let same : min count lookedAt ≡ lookedAt = omega arith in
-          let few = each-length (readNumber 4) lookedAt bs (each_fewer (readNumber 4) lookedAt count bs (omega arith) e) in
+          let more : looked_at < count = leb-false count looked_at t in
+          let same : min count looked_at ≡ looked_at = omega arith in
+          let few = each_length (read_number 4) looked_at bs (each_fewer (read_number 4) looked_at count bs (omega arith) e) in
           rw same
-          (wrong-length (numbersOf 4 lookedAt bs) (numbersOf 4 count bs)
-          (too_many (numbersOf 4 lookedAt bs) (omega arith)) (too_many (numbersOf 4 count bs) (omega (arith, each-length (readNumber 4) count bs e))))
+          (wrong_length (numbers_of 4 looked_at bs) (numbers_of 4 count bs)
+          (too_many (numbers_of 4 looked_at bs) (omega arith)) (too_many (numbers_of 4 count bs) (omega (arith, each_length (read_number 4) count bs e))))

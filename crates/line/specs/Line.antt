@@ -7,57 +7,57 @@ use Rattle.calculus.specs.Demand.{demand}
 use Rattle.calculus.specs.Overwrite.{overwrite}
 use Rattle.calculus.specs.Reading.{read, refused}
 use Rattle.instance.specs.declared.header.Header.{Header}
-use Rattle.instance.specs.Header.{maxWords}
+use Rattle.instance.specs.Header.{max_words}
 use Rattle.parse.specs.Parse.{Parsed}
 use Rattle.card.specs.Decode.{Decoded, decoded}
 use Rattle.answer.specs.declared.asked.Asked.{Asked}
 use Rattle.answer.specs.declared.asked.Asked.TheVariants.{Verdict, Refused}
 use Rattle.answer.specs.Ask.{list, ask}
-use Rattle.query.specs.Words.{nodeWords, maxNodes}
+use Rattle.query.specs.Words.{node_words, max_nodes}
 use Rattle.line.specs.Fields.{Fields, read_input}
-use Rattle.line.specs.Text.{verdictLine, refusedLine, maxLine}
+use Rattle.line.specs.Text.{verdict_line, refused_line, max_line}
 
 -- the plot slice before the card is read, and also the working list
 unfoldable pub blank : List ℕ
-blank = replicate maxWords 0
+blank = replicate max_words 0
 
 -- One node more than a question may have. A question with more words is refused for its length, so its other words are not read.
-abbrev pub lookedAt : ℕ
-lookedAt = (maxNodes + 1) * nodeWords
+abbrev pub looked_at : ℕ
+looked_at = (max_nodes + 1) * node_words
 
 -- the answer to the question about a plot
-abbrev pub askedInstance : Fields → Header → List ℕ → Asked
-askedInstance f h ws = ask h ws f.words f.candidate (list blank) f.budget
+abbrev pub asked_instance : Fields → Header → List ℕ → Asked
+asked_instance f h ws = ask h ws f.words f.candidate (list blank) f.budget
 
 -- goes on only if the card is accepted
-abbrev pub ifRead : Answer → Asked → Asked
-ifRead (answer.Done used) a = a
-ifRead (answer.Refused r) a = Refused r
+abbrev pub if_read : Answer → Asked → Asked
+if_read (answer.Done used) a = a
+if_read (answer.Refused r) a = Refused r
 
 -- "then the card, then the question"
-abbrev pub askedDecoded : Fields → Decoded → Asked
-askedDecoded f d = ifRead d.answer (askedInstance f d.header d.words)
+abbrev pub asked_decoded : Fields → Decoded → Asked
+asked_decoded f d = if_read d.answer (asked_instance f d.header d.words)
 
-unfoldable pub askedCard : Fields → Asked
-askedCard f = askedDecoded f (decoded f.card blank)
+unfoldable pub asked_card : Fields → Asked
+asked_card f = asked_decoded f (decoded f.card blank)
 
-abbrev pub askedFields : Parsed Fields → Asked
-askedFields (read f bs) = askedCard f
-askedFields (refused r) = Refused r
+abbrev pub asked_fields : Parsed Fields → Asked
+asked_fields (read f bs) = asked_card f
+asked_fields (refused r) = Refused r
 
 unfoldable pub answered : List ℕ → Asked
-answered input = askedFields (read_input input)
+answered input = asked_fields (read_input input)
 
 abbrev pub line_for : Asked → List ℕ
-line_for (Verdict truth cost) = verdictLine truth cost
-line_for (Refused r) = refusedLine r
+line_for (Verdict truth cost) = verdict_line truth cost
+line_for (Refused r) = refused_line r
 
 unfoldable pub line_of : List ℕ → List ℕ
 line_of input = line_for (answered input)
 
--- an output of fewer than maxLine bytes gets no line
-unfoldable pub lineLength : List ℕ → List ℕ → ℕ
-lineLength input out = demand (leb maxLine (length out)) 0 (length (line_of input))
+-- an output of fewer than max_line bytes gets no line
+unfoldable pub line_length : List ℕ → List ℕ → ℕ
+line_length input out = demand (leb max_line (length out)) 0 (length (line_of input))
 
-unfoldable pub lineOut : List ℕ → List ℕ → List ℕ
-lineOut input out = demand (leb maxLine (length out)) out (overwrite (line_of input) out)
+unfoldable pub line_out : List ℕ → List ℕ → List ℕ
+line_out input out = demand (leb max_line (length out)) out (overwrite (line_of input) out)

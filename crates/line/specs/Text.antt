@@ -12,21 +12,21 @@ word_of False = 102 ∷ 97 ∷ 108 ∷ 115 ∷ 101 ∷ 32 ∷ []
 word_of Unknown = 117 ∷ 110 ∷ 107 ∷ 110 ∷ 111 ∷ 119 ∷ 110 ∷ 32 ∷ []
 
 -- "refused", with its space
-abbrev pub refusedWord : List ℕ
-refusedWord = 114 ∷ 101 ∷ 102 ∷ 117 ∷ 115 ∷ 101 ∷ 100 ∷ 32 ∷ []
+abbrev pub refused_word : List ℕ
+refused_word = 114 ∷ 101 ∷ 102 ∷ 117 ∷ 115 ∷ 101 ∷ 100 ∷ 32 ∷ []
 
-abbrev pub lineFeed : ℕ
-lineFeed = 10
+abbrev pub line_feed : ℕ
+line_feed = 10
 
-unfoldable pub lineWith : List ℕ → ℕ → List ℕ
-lineWith word n = word ++ digits n ++ lineFeed ∷ []
+unfoldable pub line_with : List ℕ → ℕ → List ℕ
+line_with word n = word ++ digits n ++ line_feed ∷ []
 
-abbrev pub verdictLine : Truth → ℕ → List ℕ
-verdictLine t cost = lineWith (word_of t) cost
+abbrev pub verdict_line : Truth → ℕ → List ℕ
+verdict_line t cost = line_with (word_of t) cost
 
-abbrev pub refusedLine : ℕ → List ℕ
-refusedLine number = lineWith refusedWord number
+abbrev pub refused_line : ℕ → List ℕ
+refused_line number = line_with refused_word number
 
 -- no line has more bytes
-abbrev pub maxLine : ℕ
-maxLine = 20
+abbrev pub max_line : ℕ
+max_line = 20

@@ -1,7 +1,7 @@
 // Asks the question of the input.
 ghost use Rattle.std.specs.Prelude.{◌≡◌, min};
 ghost use Rattle.line.specs.Fields.{PlacesWithin, fields_at};
-ghost use Rattle.line.specs.Line.{lookedAt, askedInstance, askedCard, answered};
+ghost use Rattle.line.specs.Line.{looked_at, asked_instance, asked_card, answered};
 
 use super::fields::{Found, Places, find};
 use answer::ask::ask;
@@ -15,7 +15,7 @@ use parse::number::numbers;
 const LOOKED_AT: usize = 808;
 
 fn looked_at(count: usize) -> usize
-    ensures { result ≡ min count lookedAt }
+    ensures { result ≡ min count looked_at }
 {
     if count < LOOKED_AT { count } else { LOOKED_AT }
 }
@@ -23,7 +23,7 @@ fn looked_at(count: usize) -> usize
 // Asks the question at the given places of the input about a plot.
 fn ask_instance(input: &[u8], places: Places, header: Header, instance: &[u32]) -> Asked
     requires { PlacesWithin input.now places }
-    ensures { result ≡ askedInstance (fields_at input.now places) header instance.now }
+    ensures { result ≡ asked_instance (fields_at input.now places) header instance.now }
 {
     let mut words = [0u32; LOOKED_AT];
     let count = looked_at(places.count);
@@ -45,7 +45,7 @@ fn ask_instance(input: &[u8], places: Places, header: Header, instance: &[u32]) 
 // Decodes the card in the input, and asks the question.
 fn ask_card(input: &[u8], places: Places) -> Asked
     requires { PlacesWithin input.now places }
-    ensures { result ≡ askedCard (fields_at input.now places) }
+    ensures { result ≡ asked_card (fields_at input.now places) }
 {
     let end = 2 + places.size;
     let mut instance = [0u32; WORDS];

@@ -1,13 +1,13 @@
 // The fields of the input.
 ghost use Rattle.std.specs.Prelude.{◌≡◌};
-ghost use Rattle.line.specs.Fields.{read_input, foundAs, FoundIn};
+ghost use Rattle.line.specs.Fields.{read_input, found_as, FoundIn};
 
 use super::INPUT;
 use calculus::refusal::{BYTES_LEFT_OVER, CUT_SHORT, INPUT_TOO_LONG};
 use parse::number::number;
 
 // Where the fields are: the card starts at byte 2 and has `size` bytes, the question has `count` words, and the candidate `arity` cells.
-#[derive(Drop)]
+#[derive(Clone, Copy)]
 pub struct Places {
     pub size: usize,
     pub words: usize,
@@ -17,7 +17,7 @@ pub struct Places {
     pub budget: u32,
 }
 
-#[derive(Drop)]
+#[derive(Clone, Copy)]
 pub enum Found {
     Fields(Places),
     Refused(u32),
@@ -25,7 +25,7 @@ pub enum Found {
 
 pub fn find(input: &[u8]) -> Found
     ensures places { FoundIn input.now result }
-    ensures told { read_input input.now ≡ foundAs input.now result }
+    ensures told { read_input input.now ≡ found_as input.now result }
 {
     if INPUT < input.len() {
         return Found::Refused(INPUT_TOO_LONG);

@@ -1,6 +1,6 @@
 // The line that plotask prints.
 ghost use Rattle.std.specs.Prelude.{◌≡◌};
-ghost use Rattle.line.specs.Line.{lineLength, lineOut};
+ghost use Rattle.line.specs.Line.{line_length, line_out};
 
 use answer::asked::Asked;
 use asking::answer;
@@ -18,8 +18,8 @@ mod text;
 
 // Writes the line for an input, and returns its length; if `out` has fewer than LINE bytes, nothing is written and 0 is returned.
 pub fn line(input: &[u8], out: &mut [u8]) -> usize
-    ensures length { result ≡ lineLength input.now out.old }
-    ensures bytes { out.new ≡ lineOut input.now out.old }
+    ensures length { result ≡ line_length input.now out.old }
+    ensures bytes { out.new ≡ line_out input.now out.old }
 {
     if out.len() < LINE {
         return 0;

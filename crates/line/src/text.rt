@@ -1,8 +1,8 @@
 // The text of the line: its word and its number.
 ghost use Rattle.std.specs.Prelude.{◌≡◌, ◌+◌, ◌≤◌, length};
 ghost use Rattle.calculus.specs.Overwrite.{overwrite};
-ghost use Rattle.decimal.specs.Decimal.{maxDigits};
-ghost use Rattle.line.specs.Text.{lineWith, verdictLine, refusedLine, maxLine};
+ghost use Rattle.decimal.specs.Decimal.{max_digits};
+ghost use Rattle.line.specs.Text.{line_with, verdict_line, refused_line, max_line};
 
 use calculus::truth::Truth;
 use decimal::decimal;
@@ -20,9 +20,9 @@ fn copy(out: &mut [u8], text: &[u8])
 
 // Writes a word, then a number and a line feed, and returns the line's length.
 fn write_line(out: &mut [u8], word: &[u8], n: u32) -> usize
-    requires { length word.now + (maxDigits + 1) ≤ length out.old }
-    ensures length { result ≡ length (lineWith word.now n) }
-    ensures bytes { out.new ≡ overwrite (lineWith word.now n) out.old }
+    requires { length word.now + (max_digits + 1) ≤ length out.old }
+    ensures length { result ≡ length (line_with word.now n) }
+    ensures bytes { out.new ≡ overwrite (line_with word.now n) out.old }
 {
     copy(out, word);
     let at = word.len();
@@ -32,9 +32,9 @@ fn write_line(out: &mut [u8], word: &[u8], n: u32) -> usize
 }
 
 pub fn write_verdict(out: &mut [u8], truth: Truth, cost: u32) -> usize
-    requires { maxLine ≤ length out.old }
-    ensures length { result ≡ length (verdictLine truth cost) }
-    ensures bytes { out.new ≡ overwrite (verdictLine truth cost) out.old }
+    requires { max_line ≤ length out.old }
+    ensures length { result ≡ length (verdict_line truth cost) }
+    ensures bytes { out.new ≡ overwrite (verdict_line truth cost) out.old }
 {
     match truth {
         Truth::True => write_line(out, b"true ", cost),
@@ -44,9 +44,9 @@ pub fn write_verdict(out: &mut [u8], truth: Truth, cost: u32) -> usize
 }
 
 pub fn write_refused(out: &mut [u8], why: u32) -> usize
-    requires { maxLine ≤ length out.old }
-    ensures length { result ≡ length (refusedLine why) }
-    ensures bytes { out.new ≡ overwrite (refusedLine why) out.old }
+    requires { max_line ≤ length out.old }
+    ensures length { result ≡ length (refused_line why) }
+    ensures bytes { out.new ≡ overwrite (refused_line why) out.old }
 {
     write_line(out, b"refused ", why)
 }

@@ -6,15 +6,15 @@ use native.Mathlib.Omega.{arith}
 use lib.ListN.{length, get_or, take, drop, length-append, length-take, take-append-drop}
 use lib.Seq.{take_at, drop_at, get_or-append-add}
 use Rattle.calculus.specs.Cell.{null}
-use Rattle.calculus.specs.Fill.{entryLength, held}
+use Rattle.calculus.specs.Fill.{entry_length, held}
 use Rattle.calculus.specs.Row.{Row}
 use Rattle.log.specs.Places.{places_of}
-use Rattle.log.specs.Log.{entry_of, lastCount, lastMark}
+use Rattle.log.specs.Log.{entry_of, last_count, last_mark}
 use Rattle.log.proofs.Places.{places_count}
 
-pub entry_length : (m : ℕ) (rs : List Row) → length (entry_of m rs) ≡ entryLength (held m rs)
+pub entry_length_lem : (m : ℕ) (rs : List Row) → length (entry_of m rs) ≡ entry_length (held m rs)
 unfolding entry_of
-entry_length m rs = length-append (places_of (null m) 0 rs) (m ∷ held m rs ∷ []) ∙ omega (arith, places_count (null m) 0 rs)
+entry_length_lem m rs = length-append (places_of (null m) 0 rs) (m ∷ held m rs ∷ []) ∙ omega (arith, places_count (null m) 0 rs)
 
 -- a log whose words in use end with the entry of a fill of null m in the rows rs
 module _ (front log : List ℕ) (used m : ℕ) (rs : List Row) (is : take used log ≡ front ++ entry_of m rs) (size : used ≡ length (front ++ entry_of m rs)) where
@@ -27,8 +27,8 @@ module _ (front log : List ℕ) (used m : ℕ) (rs : List Row) (is : take used l
   count : length places ≡ n
   count = places_count (null m) 0 rs
 
-  pub entry-used : used ≡ length front + entryLength n
-  entry-used = size ∙ length-append front (entry_of m rs) ∙ omega (arith, entry_length m rs)
+  pub entry_used : used ≡ length front + entry_length n
+  entry_used = size ∙ length-append front (entry_of m rs) ∙ omega (arith, entry_length_lem m rs)
 
   pub entry-within : used ≤ length log
   entry-within = omega (arith, length-take used log, ap length is, sym size)
@@ -47,19 +47,19 @@ module _ (front log : List ℕ) (used m : ℕ) (rs : List Row) (is : take used l
       get_or-append-add front (places ++ m ∷ n ∷ drop used log) (length places + k) 0 ∙
       get_or-append-add places (m ∷ n ∷ drop used log) k 0
 
-  pub entry-count : lastCount log used ≡ n
-  entry-count = at (used - 1) 1 (omega (arith, entry-used, count))
+  pub entry-count : last_count log used ≡ n
+  entry-count = at (used - 1) 1 (omega (arith, entry_used, count))
 
-  pub entry-mark : lastMark log used ≡ m
-  entry-mark = at (used - 2) 0 (omega (arith, entry-used, count))
+  pub entry-mark : last_mark log used ≡ m
+  entry-mark = at (used - 2) 0 (omega (arith, entry_used, count))
 
-  pub entry-front : used - entryLength n ≡ length front
-  entry-front = omega (arith, entry-used)
+  pub entry_front : used - entry_length n ≡ length front
+  entry_front = omega (arith, entry_used)
 
-  pub entry-places : take n (drop (used - entryLength n) log) ≡ places
+  pub entry-places : take n (drop (used - entry_length n) log) ≡ places
   entry-places =
-      ap (λ (l : List ℕ). take n (drop (used - entryLength n) l)) shape ∙
-      ap (take n) (drop_at front (places ++ m ∷ n ∷ drop used log) (used - entryLength n) (sym entry-front)) ∙
+      ap (λ (l : List ℕ). take n (drop (used - entry_length n) l)) shape ∙
+      ap (take n) (drop_at front (places ++ m ∷ n ∷ drop used log) (used - entry_length n) (sym entry_front)) ∙
       take_at places (m ∷ n ∷ drop used log) n count
 
   pub entry-before : take (length front) log ≡ front

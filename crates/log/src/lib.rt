@@ -7,14 +7,14 @@ use instance::header::Header;
 pub const FRESH: usize = 0;
 
 // What a call that uses the log returns: the answer, and the log's words in use.
-#[derive(Drop)]
+#[derive(Clone, Copy)]
 pub struct Logged {
     pub answer: Answer,
     pub log: usize,
 }
 
 // What a call returns that changes an instance and starts its log fresh: the answer, the header, and the log's words in use.
-#[derive(Drop)]
+#[derive(Clone, Copy)]
 pub struct Restarted {
     pub answer: Answer,
     pub header: Header,

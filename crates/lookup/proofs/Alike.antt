@@ -21,16 +21,16 @@ module _ (x y : ℕ) (xs ys : List ℕ) where
   unfolding alike
   alike_same e = simp (eq-eqb x y e)
 
-  pub alike-differs : (x ≡ y → ⊥) → alike (x ∷ xs) (y ∷ ys) ≡ 0
+  pub alike_differs : (x ≡ y → ⊥) → alike (x ∷ xs) (y ∷ ys) ≡ 0
   unfolding alike
-  alike-differs ne = simp (ne_eqb x y ne)
+  alike_differs ne = simp (ne_eqb x y ne)
 
 -- they do not matter to the comparison
-pub matching-past : (xs ys : List ℕ) → matching xs ys ≡ matching (drop (alike xs ys) xs) (drop (alike xs ys) ys)
+pub matching_past : (xs ys : List ℕ) → matching xs ys ≡ matching (drop (alike xs ys) xs) (drop (alike xs ys) ys)
 unfolding alike
-matching-past [] ys = refl
-matching-past (x ∷ xs) [] = refl
-matching-past (x ∷ xs) (y ∷ ys) = go (eqb x y) refl (matching-past xs ys)
+matching_past [] ys = refl
+matching_past (x ∷ xs) [] = refl
+matching_past (x ∷ xs) (y ∷ ys) = go (eqb x y) refl (matching_past xs ys)
   where
     go :
         (b : Bool) → eqb x y ≡ b → matching xs ys ≡ matching (drop (alike xs ys) xs) (drop (alike xs ys) ys) →

@@ -8,16 +8,16 @@ use lib.Seq.{take_at, drop_at, drop-cons}
 use Rattle.calculus.specs.Row.{Row}
 use Rattle.instance.specs.Rows.{words_of}
 use Rattle.instance.specs.Sound.{rows}
-use Rattle.instance.proofs.Rows.{words_append, row-well-formed-parts}
-use Rattle.instance.proofs.Sound.{sound-gives}
-use Rattle.calculus.proofs.All.{all-parts, all_split}
+use Rattle.instance.proofs.Rows.{words_append, row_well_formed_parts}
+use Rattle.instance.proofs.Sound.{sound_gives}
+use Rattle.calculus.proofs.All.{all_parts, all_split}
 use Rattle.lookup.specs.Matching.{matching}
 use Rattle.lookup.specs.Place.{row_at, place_of, EveryRow}
 
-pub every-row : EveryRow
+pub every_row : EveryRow
 unfolding words_of
-every-row h ws is-sound k less asked long =
-    let good = sound-gives h ws is-sound in
+every_row h ws is_sound k less asked long =
+    let good = sound_gives h ws is_sound in
     let rs = rows h ws in
     let r = row_at rs k in
     let front = words_of (take k rs) in
@@ -25,7 +25,7 @@ every-row h ws is-sound k less asked long =
     let parts : rs ≡ take k rs ++ (r ∷ drop (suc k) rs) =
     sym (take-append-drop k rs) ∙ ap (λ (l : List Row). take k rs ++ l) (drop-cons rs k (record { relation = 0; cells = [] }) less)
     in
-    let fits = row-well-formed-parts _ _ r (all-parts _ r _ (all_split _ (take k rs) _ (rw parts at good.rows-well-formed)).1).0 in
+    let fits = row_well_formed_parts _ _ r (all_parts _ r _ (all_split _ (take k rs) _ (rw parts at good.rows_well_formed_lem)).1).0 in
     let split : words_of rs ≡ front ++ (r.relation ∷ (r.cells ++ words_of (drop (suc k) rs))) = ap words_of parts ∙ words_append (take k rs) (r ∷ drop (suc k) rs) in
     let shape : ws ≡ (front ++ r.relation ∷ []) ++ (r.cells ++ back) =
     sym (take-append-drop h.used ws) ∙ ap (λ (l : List ℕ). l ++ drop h.used ws) (sym good.words ∙ split) ∙

@@ -3,5 +3,5 @@ use Rattle.std.specs.Prelude.{ℕ, List}
 use Rattle.calculus.specs.Closed.{stands, examined}
 use Rattle.lookup.specs.declared.relation.Examined.{Examined}
 
-abbrev pub examinedOf : List (List ℕ) → List ℕ → Examined
-examinedOf ts row = record { truth = stands ts row; rows = examined ts row }
+abbrev pub examined_of : List (List ℕ) → List ℕ → Examined
+examined_of ts row = record { truth = stands ts row; rows = examined ts row }

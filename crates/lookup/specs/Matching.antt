@@ -15,14 +15,14 @@ unfoldable pub matching : List ℕ → List ℕ → Match
 matching xs ys = cond (identical xs ys) Identical (unified (unifies xs ys))
 
 -- the same once an earlier row may unify: after one that does, a row that is not identical changes nothing
-abbrev pub matchAfter : Bool → List ℕ → List ℕ → Match
-matchAfter possible xs ys = cond possible (cond (identical xs ys) Identical Unifies) (matching xs ys)
+abbrev pub match_after : Bool → List ℕ → List ℕ → Match
+match_after possible xs ys = cond possible (cond (identical xs ys) Identical Unifies) (matching xs ys)
 
 -- the same as a verdict: what kind 1 says of a relation that has only this row
-abbrev pub rowVerdict : Match → Truth
-rowVerdict Identical = True
-rowVerdict Unifies = Unknown
-rowVerdict Apart = False
+abbrev pub row_verdict : Match → Truth
+row_verdict Identical = True
+row_verdict Unifies = Unknown
+row_verdict Apart = False
 
 -- the number of columns before the first that differs
 unfoldable pub alike : List ℕ → List ℕ → ℕ

@@ -3,7 +3,7 @@ use Rattle.std.specs.Prelude.{ℕ, ◌+◌, ◌≤◌, ◌<◌, ◌≡◌, true,
 use Rattle.calculus.specs.Row.{Row}
 use Rattle.calculus.specs.Unify.{Unify}
 use Rattle.instance.specs.declared.header.Header.{Header}
-use Rattle.instance.specs.Header.{maxColumns}
+use Rattle.instance.specs.Header.{max_columns}
 use Rattle.instance.specs.Rows.{words_of}
 use Rattle.instance.specs.Sound.{sound, rows}
 use Rattle.lookup.specs.declared.row.Match.{Match}
@@ -18,20 +18,20 @@ abbrev pub place_of : List Row → ℕ → ℕ
 place_of rs k = length (words_of (take k rs))
 
 -- the n cells of the row at a place
-abbrev pub cellsAt : List ℕ → ℕ → ℕ → List ℕ
-cellsAt ws place n = take n (drop (place + 1) ws)
+abbrev pub cells_at : List ℕ → ℕ → ℕ → List ℕ
+cells_at ws place n = take n (drop (place + 1) ws)
 
 -- how an asked row compares with the row at a place
-abbrev pub comparedAt : List ℕ → ℕ → List ℕ → Match
-comparedAt ws place asked = matching asked (cellsAt ws place (length asked))
+abbrev pub compared_at : List ℕ → ℕ → List ℕ → Match
+compared_at ws place asked = matching asked (cells_at ws place (length asked))
 
 -- "equals the definition for every row of every sound plot and every asked row of that length"; the first two parts let the test be made there
 abbrev pub EveryRow : Type 0
 EveryRow =
     (h : Header) (ws : List ℕ) → sound h ws ≡ true → (k : ℕ) → k < length (rows h ws) →
     (asked : List ℕ) → length asked ≡ length (row_at (rows h ws) k).cells →
-    (place_of (rows h ws) k + (1 + length asked) ≤ length ws) × (length asked ≤ maxColumns)
-    × (comparedAt ws (place_of (rows h ws) k) asked ≡ matching asked (row_at (rows h ws) k).cells)
+    (place_of (rows h ws) k + (1 + length asked) ≤ length ws) × (length asked ≤ max_columns)
+    × (compared_at ws (place_of (rows h ws) k) asked ≡ matching asked (row_at (rows h ws) k).cells)
 
 -- What the three answers mean. Document 01: "Two lists of cells unify if some giving of inked values to marks, one value per mark over both lists,
 -- makes them equal."

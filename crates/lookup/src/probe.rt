@@ -1,7 +1,7 @@
 // The probe of one column by which rows are passed over.
 ghost use Rattle.std.specs.Prelude.{◌≡◌, ◌+◌, ◌≤◌, ◌<◌, length};
-ghost use Rattle.lookup.specs.Probe.{probeAt, Probes};
-ghost use Rattle.lookup.specs.Passing.{limitOf};
+ghost use Rattle.lookup.specs.Probe.{probe_at, Probes};
+ghost use Rattle.lookup.specs.Passing.{limit_of};
 
 use calculus::cell::CONSTANTS;
 
@@ -12,7 +12,7 @@ const ANY_CELL: u32 = 4_294_967_295;
 const FAILS: u32 = 4;
 
 // A column, the limit for its cells, and how many rows it has failed to tell apart.
-#[derive(Drop)]
+#[derive(Clone, Copy)]
 pub struct Probe {
     pub column: usize,
     pub low: u32,
@@ -21,7 +21,7 @@ pub struct Probe {
 
 // How low a cell must be to tell by itself, if it differs from the asked one, that its row need not be compared.
 fn limit(possible: bool, cell: u32) -> u32
-    ensures { result ≡ limitOf possible cell }
+    ensures { result ≡ limit_of possible cell }
 {
     if possible {
         return ANY_CELL;
@@ -35,7 +35,7 @@ fn limit(possible: bool, cell: u32) -> u32
 // A probe of a column, which has not failed yet.
 pub fn probe_at(row: &[u32], column: usize, possible: bool) -> Probe
     requires { column < length row.now }
-    ensures { result ≡ probeAt possible row.now column }
+    ensures { result ≡ probe_at possible row.now column }
 {
     let low = limit(possible, row[column]);
     Probe {

@@ -2,13 +2,13 @@
 ghost use Rattle.std.specs.Prelude.{◌≡◌, ◌+◌, ◌≤◌, length, take};
 ghost use Rattle.calculus.specs.Closed.{tuples};
 ghost use Rattle.calculus.specs.KindOne.{MeansStands, MeansExamined};
-ghost use Rattle.instance.specs.Header.{arityOf, maxColumns};
+ghost use Rattle.instance.specs.Header.{arity_of, max_columns};
 ghost use Rattle.instance.specs.Rows.{rows_from};
-ghost use Rattle.lookup.specs.Examined.{examinedOf};
-ghost use Rattle.lookup.specs.Matching.{matchAfter};
-ghost use Rattle.known.specs.Known.{knownWords, aritiesIn};
+ghost use Rattle.lookup.specs.Examined.{examined_of};
+ghost use Rattle.lookup.specs.Matching.{match_after};
+ghost use Rattle.known.specs.Known.{known_words, arities_in};
 ghost use Rattle.lookup.specs.Passing.{RowsLeft};
-ghost use Rattle.lookup.specs.Place.{cellsAt};
+ghost use Rattle.lookup.specs.Place.{cells_at};
 
 use super::probe::{next_probe, probe_at};
 use super::row::{Match, alike, compare};
@@ -17,7 +17,7 @@ use calculus::truth::Truth;
 use known::arities::arity_in;
 
 // What rows of a relation say of a row, and how many of them were examined.
-#[derive(Drop)]
+#[derive(Clone, Copy)]
 pub struct Examined {
     pub truth: Truth,
     pub rows: u32,
@@ -25,8 +25,8 @@ pub struct Examined {
 
 // How the row at a place compares with an asked row, if it matters: once an earlier row has unified, only identity does.
 fn compare_after(words: &[u32], place: usize, row: &[u32], possible: bool) -> Match
-    requires { (place + (1 + length row.now) ≤ length words.now) × (length row.now ≤ maxColumns) }
-    ensures { result ≡ matchAfter possible row.now (cellsAt words.now place (length row.now)) }
+    requires { (place + (1 + length row.now) ≤ length words.now) × (length row.now ≤ max_columns) }
+    ensures { result ≡ match_after possible row.now (cells_at words.now place (length row.now)) }
 {
     if possible {
         if alike(words, place, row) == row.len() {
@@ -46,10 +46,10 @@ pub fn stands(
     most: u32,
     row: &[u32; 6],
 ) -> Examined
-    requires { RowsLeft (aritiesIn known.now) words.now relation 0 most × (length known.now ≡ knownWords) × (length row.now ≡ maxColumns) }
-    ensures answer { result ≡ examinedOf (take most (tuples relation (rows_from (aritiesIn known.now) 0 words.now))) (take (arityOf (aritiesIn known.now) relation) row.now) }
-    ensures verdict { MeansStands (take most (tuples relation (rows_from (aritiesIn known.now) 0 words.now))) (take (arityOf (aritiesIn known.now) relation) row.now) result.truth }
-    ensures charge { MeansExamined (take most (tuples relation (rows_from (aritiesIn known.now) 0 words.now))) (take (arityOf (aritiesIn known.now) relation) row.now) result.rows }
+    requires { RowsLeft (arities_in known.now) words.now relation 0 most × (length known.now ≡ known_words) × (length row.now ≡ max_columns) }
+    ensures answer { result ≡ examined_of (take most (tuples relation (rows_from (arities_in known.now) 0 words.now))) (take (arity_of (arities_in known.now) relation) row.now) }
+    ensures verdict { MeansStands (take most (tuples relation (rows_from (arities_in known.now) 0 words.now))) (take (arity_of (arities_in known.now) relation) row.now) result.truth }
+    ensures charge { MeansExamined (take most (tuples relation (rows_from (arities_in known.now) 0 words.now))) (take (arity_of (arities_in known.now) relation) row.now) result.rows }
 {
     let arity = arity_in(known, relation as usize) as usize;
     // A part of an array behind a reference is taken from its whole slice.

@@ -2,14 +2,14 @@
 ghost use Rattle.std.specs.Prelude.{◌≡◌, ℕ, suc, ◌+◌, ◌<◌, Bool, List, length, get_or, take, drop};
 ghost use Rattle.calculus.specs.Closed.{tuples};
 ghost use Rattle.instance.specs.Rows.{rows_from};
-ghost use Rattle.instance.specs.Header.{arityOf};
-ghost use Rattle.known.specs.Known.{knownWords, aritiesIn};
-ghost use Rattle.lookup.specs.Passing.{RowsLeft, toldApart, passing, wordsPassed};
+ghost use Rattle.instance.specs.Header.{arity_of};
+ghost use Rattle.known.specs.Known.{known_words, arities_in};
+ghost use Rattle.lookup.specs.Passing.{RowsLeft, told_apart, passing, words_passed};
 
 use known::arities::arity_in;
 
 // The place of a row, and how many rows of its relation are left from there on.
-#[derive(Drop)]
+#[derive(Clone, Copy)]
 pub struct Near {
     pub place: usize,
     pub more: u32,
@@ -18,11 +18,11 @@ pub struct Near {
 // The place of the relation's next row. While rows of another relation follow one another, their length is not looked up again: that look-up would have
 // to end before the next word can be read. Such rows are passed over two at a time.
 fn next_row(words: &[u32], known: &[u32; 170], relation: u32, place: usize) -> usize
-    requires { RowsLeft (aritiesIn known.now) words.now relation place 1 × (length known.now ≡ knownWords) }
+    requires { RowsLeft (arities_in known.now) words.now relation place 1 × (length known.now ≡ known_words) }
     ensures here { get_or words.now result 0 ≡ relation }
-    ensures rows { tuples relation (rows_from (aritiesIn known.now) 0 (drop result words.now)) ≡ tuples relation (rows_from (aritiesIn known.now) 0 (drop place words.now)) }
-    ensures left { RowsLeft (aritiesIn known.now) words.now relation result 1 }
-    ensures place { (test : List ℕ → Bool) (n : ℕ) → result + wordsPassed test relation (suc n) (rows_from (aritiesIn known.now) 0 (drop result words.now)) ≡ place + wordsPassed test relation (suc n) (rows_from (aritiesIn known.now) 0 (drop place words.now)) }
+    ensures rows { tuples relation (rows_from (arities_in known.now) 0 (drop result words.now)) ≡ tuples relation (rows_from (arities_in known.now) 0 (drop place words.now)) }
+    ensures left { RowsLeft (arities_in known.now) words.now relation result 1 }
+    ensures place { (test : List ℕ → Bool) (n : ℕ) → result + words_passed test relation (suc n) (rows_from (arities_in known.now) 0 (drop result words.now)) ≡ place + words_passed test relation (suc n) (rows_from (arities_in known.now) 0 (drop place words.now)) }
 {
     let mut other = relation;
     let mut step = 0;
@@ -55,11 +55,11 @@ pub fn next_near(
     place: usize,
     most: u32,
 ) -> Near
-    requires { RowsLeft (aritiesIn known.now) words.now relation place most × (length known.now ≡ knownWords) × (column < arityOf (aritiesIn known.now) relation) }
-    ensures rows { take result.more (tuples relation (rows_from (aritiesIn known.now) 0 (drop result.place words.now))) ≡ passing (toldApart column asked limit) (take most (tuples relation (rows_from (aritiesIn known.now) 0 (drop place words.now)))) }
-    ensures left { RowsLeft (aritiesIn known.now) words.now relation result.place result.more }
+    requires { RowsLeft (arities_in known.now) words.now relation place most × (length known.now ≡ known_words) × (column < arity_of (arities_in known.now) relation) }
+    ensures rows { take result.more (tuples relation (rows_from (arities_in known.now) 0 (drop result.place words.now))) ≡ passing (told_apart column asked limit) (take most (tuples relation (rows_from (arities_in known.now) 0 (drop place words.now)))) }
+    ensures left { RowsLeft (arities_in known.now) words.now relation result.place result.more }
     ensures here { 0 < result.more → get_or words.now result.place 0 ≡ relation }
-    ensures place { result.place ≡ place + wordsPassed (toldApart column asked limit) relation most (rows_from (aritiesIn known.now) 0 (drop place words.now)) }
+    ensures place { result.place ≡ place + words_passed (told_apart column asked limit) relation most (rows_from (arities_in known.now) 0 (drop place words.now)) }
 {
     let step = 1 + arity_in(known, relation as usize) as usize;
     let mut more = most;

@@ -2,8 +2,8 @@
 ghost use Rattle.std.specs.Prelude.{◌≡◌, ◌≤◌, length};
 ghost use Rattle.calculus.specs.Answer.{Tells};
 ghost use Rattle.calculus.specs.Cell.{nulls};
-ghost use Rattle.instance.specs.Header.{maxWords};
-ghost use Rattle.instance.specs.NullCounts.{counted, countedWords, nullsIn};
+ghost use Rattle.instance.specs.Header.{max_words};
+ghost use Rattle.instance.specs.NullCounts.{counted, counted_words, nulls_in};
 
 use calculus::answer::Answer;
 use calculus::cell::{CONSTANTS, NULLS};
@@ -13,8 +13,8 @@ use instance::scan::{Scanned, scan};
 
 // The count of each null in words, in one pass.
 fn count_words(words: &[u32]) -> [u32; 200]
-    requires { length words.now ≤ maxWords }
-    ensures { result ≡ nullsIn words.now }
+    requires { length words.now ≤ max_words }
+    ensures { result ≡ nulls_in words.now }
 {
     let mut counts = [0u32; 200];
     let mut i = 0;
@@ -31,7 +31,7 @@ fn count_words(words: &[u32]) -> [u32; 200]
 
 pub fn null_counts(header: Header, instance: &[u32], counts: &mut [u32]) -> Answer
     ensures answer { result ≡ counted header instance.now counts.old }
-    ensures words { counts.new ≡ countedWords header instance.now counts.old }
+    ensures words { counts.new ≡ counted_words header instance.now counts.old }
     ensures told { Tells result (counted header instance.now counts.old) nulls }
 {
     let Scanned::Rows(_) = scan(header, instance) else {

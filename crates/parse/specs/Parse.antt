@@ -9,18 +9,18 @@ abbrev pub Parsed : Type 0 → Type 0
 Parsed A = Reading (List ℕ) A
 
 -- one byte under its rule
-unfoldable pub readByte : (ℕ → Bool) → ℕ → List ℕ → Parsed ℕ
-readByte rule why [] = refused cut_short
-readByte rule why (b ∷ bs) = demand (rule b) (refused why) (read b bs)
+unfoldable pub read_byte : (ℕ → Bool) → ℕ → List ℕ → Parsed ℕ
+read_byte rule why [] = refused cut_short
+read_byte rule why (b ∷ bs) = demand (rule b) (refused why) (read b bs)
 
 -- n items, one after the other
-unfoldable pub readEach : {A : Type 0} → (List ℕ → Parsed A) → ℕ → List ℕ → Parsed (List A)
-readEach item zero bs = read [] bs
-readEach item (suc n) bs = and_then (item bs) (λ x bs. and_then (readEach item n bs) (λ xs bs. read (x ∷ xs) bs))
+unfoldable pub read_each : {A : Type 0} → (List ℕ → Parsed A) → ℕ → List ℕ → Parsed (List A)
+read_each item zero bs = read [] bs
+read_each item (suc n) bs = and_then (item bs) (λ x bs. and_then (read_each item n bs) (λ xs bs. read (x ∷ xs) bs))
 
-abbrev pub isRead : {A : Type 0} → Parsed A → Bool
-isRead (read a bs) = true
-isRead (refused r) = false
+abbrev pub is_read : {A : Type 0} → Parsed A → Bool
+is_read (read a bs) = true
+is_read (refused r) = false
 
 -- what was read, or the given value if nothing was
 abbrev pub got : {A : Type 0} → A → Parsed A → A

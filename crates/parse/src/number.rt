@@ -2,8 +2,8 @@
 ghost use Rattle.std.specs.Prelude.{◌≡◌, true, ◌+◌, ◌^◌, ◌≤◌, ◌<◌, length, drop, get_or};
 ghost use Rattle.calculus.specs.Overwrite.{overwrite};
 ghost use Rattle.calculus.specs.Reading.{read};
-ghost use Rattle.parse.specs.Parse.{isRead};
-ghost use Rattle.parse.specs.Number.{readNumber, readNumbers, numbersOf};
+ghost use Rattle.parse.specs.Parse.{is_read};
+ghost use Rattle.parse.specs.Number.{read_number, read_numbers, numbers_of};
 
 pub fn byte(bytes: &[u8], at: usize) -> u32
     requires { at < length bytes.now }
@@ -16,7 +16,7 @@ pub fn byte(bytes: &[u8], at: usize) -> u32
 pub fn number(bytes: &[u8], at: usize, width: usize) -> u32
     requires narrow { width ≤ 4 }
     requires within { at + width ≤ length bytes.now }
-    ensures read { readNumber width (drop at bytes.now) ≡ read result (drop (at + width) bytes.now) }
+    ensures read { read_number width (drop at bytes.now) ≡ read result (drop (at + width) bytes.now) }
     ensures small { result < 256 ^ width }
 {
     let mut number: u32 = 0;
@@ -32,9 +32,9 @@ pub fn number(bytes: &[u8], at: usize, width: usize) -> u32
 pub fn numbers(out: &mut [u32], bytes: &[u8], at: usize, width: usize, count: usize)
     requires narrow { width ≤ 4 }
     requires within { at ≤ length bytes.now }
-    requires reads { isRead (readNumbers width count (drop at bytes.now)) ≡ true }
+    requires reads { is_read (read_numbers width count (drop at bytes.now)) ≡ true }
     requires room { count ≤ length out.old }
-    ensures { out.new ≡ overwrite (numbersOf width count (drop at bytes.now)) out.old }
+    ensures { out.new ≡ overwrite (numbers_of width count (drop at bytes.now)) out.old }
 {
     let mut next = at;
     let mut i = 0;

@@ -9,12 +9,12 @@ use lib.ListN.{length, length-map}
 use lib.Dec.{eqb, ltb, leb}
 use borrow.Author.Tests.{eqb-true, eq-eqb, ne_eqb, lt-ltb, ltb-true, leb-true, not-true}
 use Rattle.calculus.specs.All.{all}
-use Rattle.calculus.specs.Cell.{constants, nulls, null, isConstant, is_null, isCell}
+use Rattle.calculus.specs.Cell.{constants, nulls, null, is_constant, is_null, is_cell}
 use Rattle.calculus.specs.Domain.{without}
 use Rattle.calculus.specs.Unify.{Valuation, under}
-use Rattle.calculus.proofs.All.{all-unmap}
-use Rattle.calculus.proofs.Bools.{false-not-true, and_parts, and_intro}
-use Rattle.calculus.proofs.Distinct.{without-le}
+use Rattle.calculus.proofs.All.{all_unmap}
+use Rattle.calculus.proofs.Bools.{false_not_true, and_parts, and_intro}
+use Rattle.calculus.proofs.Distinct.{without_le}
 
 -- ---- a number that a list lacks
 
@@ -22,22 +22,22 @@ use Rattle.calculus.proofs.Distinct.{without-le}
 abbrev lacks : ℕ → List ℕ → Bool
 lacks n cs = all (λ c. not (eqb c n)) cs
 
-without-less : (n : ℕ) (cs : List ℕ) → lacks n cs ≡ false → length (without n cs) < length cs
+without_less : (n : ℕ) (cs : List ℕ) → lacks n cs ≡ false → length (without n cs) < length cs
 unfolding all without
-without-less n [] e = false-not-true (sym e)
-without-less n (c ∷ cs) e = go (eqb c n) e (without-less n cs)
+without_less n [] e = false_not_true (sym e)
+without_less n (c ∷ cs) e = go (eqb c n) e (without_less n cs)
   where
     go :
         (b : Bool) → (not b && lacks n cs) ≡ false → (lacks n cs ≡ false → length (without n cs) < length cs) →
         length (cond b (without n cs) (c ∷ without n cs)) < suc (length cs)
-    go true e later = omega (arith, without-le n cs)
+    go true e later = omega (arith, without_le n cs)
     go false e later = omega (arith, later e)
 
 -- if the list without n lacks m, and m is not n, the list lacks m
-without-lacks : (m n : ℕ) (cs : List ℕ) → (n ≡ m → ⊥) → lacks m (without n cs) ≡ true → lacks m cs ≡ true
+without_lacks : (m n : ℕ) (cs : List ℕ) → (n ≡ m → ⊥) → lacks m (without n cs) ≡ true → lacks m cs ≡ true
 unfolding all without
-without-lacks m n [] ne e = refl
-without-lacks m n (c ∷ cs) ne e = go (eqb c n) refl e (without-lacks m n cs ne)
+without_lacks m n [] ne e = refl
+without_lacks m n (c ∷ cs) ne e = go (eqb c n) refl e (without_lacks m n cs ne)
   where
     go :
         (b : Bool) → eqb c n ≡ b → lacks m (cond b (without n cs) (c ∷ without n cs)) ≡ true →
@@ -58,9 +58,9 @@ lacking (suc n) cs l = go (lacks n cs) refl (lacking n (without n cs))
         (m : ℕ) × (m < suc n) × (lacks m cs ≡ true)
     go true e fewer = (n, omega arith, e)
     go false e fewer =
-        let r = fewer (omega (arith, without-less n cs e)) in
+        let r = fewer (omega (arith, without_less n cs e)) in
         let low = r.1 in
-        (r.0, omega arith, without-lacks r.0 n cs (λ q. omega arith) r.2)
+        (r.0, omega arith, without_lacks r.0 n cs (λ q. omega arith) r.2)
 
 -- ---- a block of constants
 
@@ -76,10 +76,10 @@ abbrev pub outside : ℕ → ℕ → Bool
 outside k c = not (eqb (block_of c) k)
 
 -- if there are fewer values than blocks, some block has none of them
-pub free-block : (cs : List ℕ) → length cs < blocks → (k : ℕ) × (k < blocks) × (all (outside k) cs ≡ true)
-free-block cs few =
+pub free_block : (cs : List ℕ) → length cs < blocks → (k : ℕ) × (k < blocks) × (all (outside k) cs ≡ true)
+free_block cs few =
     let r = lacking blocks (map block_of cs) (omega (arith, length-map cs block_of)) in
-    (r.0, r.1, all-unmap (λ c. not (eqb c r.0)) block_of cs r.2)
+    (r.0, r.1, all_unmap (λ c. not (eqb c r.0)) block_of cs r.2)
 
 module _ (k : ℕ) (low : k < blocks) where
   -- null m gets constant m - 1 of the block
@@ -93,14 +93,14 @@ module _ (k : ℕ) (low : k < blocks) where
   pub back : ℕ → ℕ
   back c = cond (eqb (block_of c) k) (null (1 + c % nulls)) c
 
-  pub back-outside : (c : ℕ) → outside k c ≡ true → back c ≡ c
+  pub back_outside : (c : ℕ) → outside k c ≡ true → back c ≡ c
   unfolding back
-  back-outside c e = rw (not-true (eqb (block_of c) k) e)
+  back_outside c e = rw (not-true (eqb (block_of c) k) e)
 
   -- the way back, for cells outside the block
-  pub back-fresh : (c : ℕ) → (isCell c && outside k c) ≡ true → back (under fresh c) ≡ c
-  unfolding back fresh isCell
-  back-fresh c e = let p = and_parts (isConstant c || is_null c) (outside k c) e in go (isConstant c) p.0 p.1
+  pub back_fresh : (c : ℕ) → (is_cell c && outside k c) ≡ true → back (under fresh c) ≡ c
+  unfolding back fresh is_cell
+  back_fresh c e = let p = and_parts (is_constant c || is_null c) (outside k c) e in go (is_constant c) p.0 p.1
     where
       go :
           (b : Bool) → (b || is_null c) ≡ true → outside k c ≡ true →

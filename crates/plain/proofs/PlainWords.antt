@@ -8,54 +8,54 @@ use Rattle.calculus.specs.All.{all}
 use Rattle.calculus.specs.Kleene.{conj, disj}
 use Rattle.calculus.specs.Formula.{Formula}
 use Rattle.calculus.specs.Listed.{listed}
-use Rattle.calculus.proofs.All.{all-member}
-use Rattle.calculus.proofs.Bools.{false-not-true, and_parts, and_intro}
-use Rattle.calculus.proofs.Listed.{listed-member}
+use Rattle.calculus.proofs.All.{all_member}
+use Rattle.calculus.proofs.Bools.{false_not_true, and_parts, and_intro}
+use Rattle.calculus.proofs.Listed.{listed_member}
 use Rattle.calculus.proofs.From.{each_from}
-use Rattle.query.specs.Words.{Kind, rowStands, equals, negates, noKind, joins, ranges, kind_of, word_at, nodeCount}
-use Rattle.query.specs.Tree.{formulaBy, formulaOf}
+use Rattle.query.specs.Words.{Kind, row_stands, equals, negates, no_such_kind, joins, ranges, kind_of, word_at, node_count}
+use Rattle.query.specs.Tree.{formula_by, formula_of}
 use Rattle.query.specs.Passed.{NodeBy, NodeWellFormed}
 use Rattle.query.proofs.Trees.{at_top}
-use Rattle.plain.specs.Plain.{plainKinds, plainFrom, plainWords}
+use Rattle.plain.specs.Plain.{plain_kinds, plain_from, plain_words}
 use Rattle.plain.proofs.Positive.{positive}
 
-abbrev positiveKind : Kind → Bool
-positiveKind rowStands = true
-positiveKind equals = true
-positiveKind negates = false
-positiveKind (joins j) = true
-positiveKind (ranges conj) = false
-positiveKind (ranges disj) = true
-positiveKind noKind = false
+abbrev positive_kind : Kind → Bool
+positive_kind row_stands = true
+positive_kind equals = true
+positive_kind negates = false
+positive_kind (joins j) = true
+positive_kind (ranges conj) = false
+positive_kind (ranges disj) = true
+positive_kind no_such_kind = false
 
 -- by one test of the plain kinds
-plain-kind : (w : ℕ) → listed w plainKinds ≡ true → positiveKind (kind_of w) ≡ true
+plain_kind : (w : ℕ) → listed w plain_kinds ≡ true → positive_kind (kind_of w) ≡ true
 unfolding kind_of all
-plain-kind w e = all-member (λ w. positiveKind (kind_of w)) plainKinds (listed-member w plainKinds e) refl
+plain_kind w e = all_member (λ w. positive_kind (kind_of w)) plain_kinds (listed_member w plain_kinds e) refl
 
-module _ (n : ℕ) (ars qs : List ℕ) (well-formed : (i : ℕ) → i < nodeCount qs → NodeWellFormed n ars qs i)
-    (plain : plainWords qs ≡ true) where
-  node-plain : (i : ℕ) → i < nodeCount qs → positiveKind (kind_of (word_at qs i 0)) ≡ true
-  unfolding plainFrom
-  node-plain i l =
-      plain-kind (word_at qs i 0)
-      (each_from (λ d. listed (word_at qs d 0) plainKinds ≡ true) (λ d k. plainFrom qs d k ≡ true)
-      (λ d k e. and_parts (listed (word_at qs d 0) plainKinds) (plainFrom qs (suc d) k) e)
-      0 (nodeCount qs) i plain (omega arith) (omega arith))
+module _ (n : ℕ) (ars qs : List ℕ) (well_formed : (i : ℕ) → i < node_count qs → NodeWellFormed n ars qs i)
+    (plain : plain_words qs ≡ true) where
+  node_plain : (i : ℕ) → i < node_count qs → positive_kind (kind_of (word_at qs i 0)) ≡ true
+  unfolding plain_from
+  node_plain i l =
+      plain_kind (word_at qs i 0)
+      (each_from (λ d. listed (word_at qs d 0) plain_kinds ≡ true) (λ d k. plain_from qs d k ≡ true)
+      (λ d k e. and_parts (listed (word_at qs d 0) plain_kinds) (plain_from qs (suc d) k) e)
+      0 (node_count qs) i plain (omega arith) (omega arith))
 
   positive-by :
-      (f : ℕ → Formula) (i : ℕ) → ((c : ℕ) → i < c → c < nodeCount qs → positive (f c) ≡ true) → (k : Kind) →
-      positiveKind k ≡ true → NodeBy n ars qs i k → positive (formulaBy ars qs f i k) ≡ true
+      (f : ℕ → Formula) (i : ℕ) → ((c : ℕ) → i < c → c < node_count qs → positive (f c) ≡ true) → (k : Kind) →
+      positive_kind k ≡ true → NodeBy n ars qs i k → positive (formula_by ars qs f i k) ≡ true
   unfolding positive
-  positive-by f i h rowStands e p = refl
+  positive-by f i h row_stands e p = refl
   positive-by f i h equals e p = refl
-  positive-by f i h negates e p = false-not-true e
+  positive-by f i h negates e p = false_not_true e
   positive-by f i h (joins j) e p = and_intro (h _ p.0.0 p.0.1) (h _ p.1.0 p.1.1)
-  positive-by f i h (ranges conj) e p = false-not-true e
+  positive-by f i h (ranges conj) e p = false_not_true e
   positive-by f i h (ranges disj) e p = h _ p.1.0 p.1.1
-  positive-by f i h noKind e p = absurd p
+  positive-by f i h no_such_kind e p = absurd p
 
-  pub plain-positive : 0 < nodeCount qs → positive (formulaOf ars qs) ≡ true
-  plain-positive some =
+  pub plain_positive : 0 < node_count qs → positive (formula_of ars qs) ≡ true
+  plain_positive some =
       at_top ars qs (λ i f. positive f ≡ true)
-      (λ f i l h. positive-by f i h (kind_of (word_at qs i 0)) (node-plain i l) (well-formed i l)) some
+      (λ f i l h. positive-by f i h (kind_of (word_at qs i 0)) (node_plain i l) (well_formed i l)) some

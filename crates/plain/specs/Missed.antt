@@ -5,37 +5,37 @@
 use Rattle.std.specs.Prelude.{ℕ, ◌≡◌, Bool, true, false, ◌↔◌, List}
 use Rattle.calculus.specs.declared.truth.Truth.{Truth}
 use Rattle.calculus.specs.declared.truth.Truth.TheVariants.{True}
-use Rattle.calculus.specs.Order.{ofBool}
+use Rattle.calculus.specs.Order.{of_bool}
 use Rattle.calculus.specs.Unify.{Valuation}
-use Rattle.calculus.specs.Model.{saysYes, valued}
+use Rattle.calculus.specs.Model.{says_yes, valued}
 use Rattle.instance.specs.declared.header.Header.{Header}
-use Rattle.instance.specs.Run.{modelOf}
-use Rattle.query.specs.Named.{queryOf}
+use Rattle.instance.specs.Run.{model_of}
+use Rattle.query.specs.Named.{query_of}
 use Rattle.answer.specs.declared.asked.Asked.TheVariants.{Verdict}
 use Rattle.answer.specs.Ask.{Lent, ask}
-use Rattle.plain.specs.Plain.{plainWords}
+use Rattle.plain.specs.Plain.{plain_words}
 
--- Whether plot and candidate, completed by one giving of inked values to all marks, satisfy the question: by two-valued
+-- Whether plot and candidate, completed by one giving of inked values to all marks, satisfy the question: by two_valued
 -- logic, with the range of the completed plot.
 abbrev pub satisfied : Header → (ws qs candidate : List ℕ) → Valuation → Bool
-satisfied h ws qs candidate v = saysYes (valued v (modelOf h ws candidate)) (queryOf h.arities qs)
+satisfied h ws qs candidate v = says_yes (valued v (model_of h ws candidate)) (query_of h.arities qs)
 
 -- Nothing is missed of a plain question, by either way of asking.
 abbrev pub NothingMissed : Type 0
 NothingMissed =
     (h : Header) (ws qs candidate : List ℕ) (lent : Lent) (budget : ℕ) (t : Truth) (n : ℕ) →
-    plainWords qs ≡ true → ask h ws qs candidate lent budget ≡ Verdict t n →
+    plain_words qs ≡ true → ask h ws qs candidate lent budget ≡ Verdict t n →
     t ≡ True ↔ ((v : Valuation) → satisfied h ws qs candidate v ≡ true)
 
 -- If a plain question's verdict is not true, there is a giving of inked values that makes the question false.
 abbrev pub FalseSomehow : Type 0
 FalseSomehow =
     (h : Header) (ws qs candidate : List ℕ) (lent : Lent) (budget : ℕ) (t : Truth) (n : ℕ) →
-    plainWords qs ≡ true → ask h ws qs candidate lent budget ≡ Verdict t n → (t ≡ True → ⊥) →
+    plain_words qs ≡ true → ask h ws qs candidate lent budget ≡ Verdict t n → (t ≡ True → ⊥) →
     (v : Valuation) × (satisfied h ws qs candidate v ≡ false)
 
 -- A true verdict of any question is right, and so is a false one.
 abbrev pub VerdictsRight : Type 0
 VerdictsRight =
     (h : Header) (ws qs candidate : List ℕ) (lent : Lent) (budget n : ℕ) (t : Bool) →
-    ask h ws qs candidate lent budget ≡ Verdict (ofBool t) n → (v : Valuation) → satisfied h ws qs candidate v ≡ t
+    ask h ws qs candidate lent budget ≡ Verdict (of_bool t) n → (v : Valuation) → satisfied h ws qs candidate v ≡ t

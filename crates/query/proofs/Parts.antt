@@ -11,12 +11,12 @@ use lib.Seq.{get_or-set_same, get_or-set_other}
 use lib.Dec.{ltb, eqb}
 use Rattle.calculus.proofs.Bools.{and_parts}
 use Rattle.calculus.specs.Formula.{variables}
-use Rattle.instance.specs.Header.{arityOf}
-use Rattle.query.specs.Words.{Kind, rowStands, equals, negates, noKind, joins, ranges, kind_of, word_at, nodeCount, maxNodes}
+use Rattle.instance.specs.Header.{arity_of}
+use Rattle.query.specs.Words.{Kind, row_stands, equals, negates, no_such_kind, joins, ranges, kind_of, word_at, node_count, max_nodes}
 use Rattle.query.specs.Scope.{Scopes, naming, binding}
 use Rattle.query.specs.Answers.{Long}
-use Rattle.query.specs.Check.{passed, restIsZero, isTerm, isBound, isChild, checkTerms, checkChild, checkBy, checkNode, checkNodes}
-use Rattle.calculus.proofs.Reading.{demand-read, then-read, refused-read}
+use Rattle.query.specs.Check.{passed, rest_is_zero, is_term, is_bound, is_child, check_terms, check_child, check_by, check_node, check_nodes}
+use Rattle.calculus.proofs.Reading.{demand-read, then_read, refused-read}
 
 -- node i is named, in a scope
 pub record NamedIn (s : Scopes) (i mask : ℕ) : Type 0 where
@@ -42,7 +42,7 @@ pub record ChildPassed (count mask i child : ℕ) (s t : Scopes) : Type 0 where
   pub kept : Kept s t
   pub long : Long t
 
-module _ (count : ℕ) (few : count ≤ maxNodes) (mask i child : ℕ) (s : Scopes) (l : Long s) where
+module _ (count : ℕ) (few : count ≤ max_nodes) (mask i child : ℕ) (s : Scopes) (l : Long s) where
   naming-long : Long (naming s child mask)
   naming-long = record { named = rw length-set l.named; masks = rw length-set l.masks }
 
@@ -54,10 +54,10 @@ module _ (count : ℕ) (few : count ≤ maxNodes) (mask i child : ℕ) (s : Scop
         scope = get_or-set_other s.masks child j mask 0 other ∙ k.scope;
       }
 
-  pub child-passed : {t : Scopes} → checkChild count mask i child s ≡ passed t → ChildPassed count mask i child s t
-  unfolding checkChild
+  pub child-passed : {t : Scopes} → check_child count mask i child s ≡ passed t → ChildPassed count mask i child s t
+  unfolding check_child
   child-passed {t} e =
-      let p = demand-read (isChild count i child s) _ _ e in
+      let p = demand-read (is_child count i child s) _ _ e in
       let q = and_parts (ltb i child && ltb child count) (eqb (get_or s.named child 0) 0) p.0 in
       let o = and_parts (ltb i child) (ltb child count) q.0 in
       let b = ltb-true i child o.0 in
@@ -80,88 +80,88 @@ module _ (count : ℕ) (few : count ≤ maxNodes) (mask i child : ℕ) (s : Scop
 
 -- k words from word j of node i are terms: constants, or variables that are bound
 abbrev pub BoundTerms : List ℕ → ℕ → ℕ → ℕ → ℕ → Type 0
-BoundTerms qs mask i j k = (m : ℕ) → m < k → (isTerm (word_at qs i (j + m)) ≡ true) × (isBound mask (word_at qs i (j + m)) ≡ true)
+BoundTerms qs mask i j k = (m : ℕ) → m < k → (is_term (word_at qs i (j + m)) ≡ true) × (is_bound mask (word_at qs i (j + m)) ≡ true)
 
-terms-more : (qs : List ℕ) (mask i j k : ℕ) → isTerm (word_at qs i j) ≡ true → isBound mask (word_at qs i j) ≡ true → BoundTerms qs mask i (suc j) k
+terms_more : (qs : List ℕ) (mask i j k : ℕ) → is_term (word_at qs i j) ≡ true → is_bound mask (word_at qs i j) ≡ true → BoundTerms qs mask i (suc j) k
     → BoundTerms qs mask i j (suc k)
-terms-more qs mask i j k p q r zero l = rw add-zero (p, q)
-terms-more qs mask i j k p q r (suc m) l = let f : suc j + m ≡ j + suc m = omega arith in rw f at (r m (omega arith))
+terms_more qs mask i j k p q r zero l = rw add-zero (p, q)
+terms_more qs mask i j k p q r (suc m) l = let f : suc j + m ≡ j + suc m = omega arith in rw f at (r m (omega arith))
 
-pub terms-passed : (qs : List ℕ) (mask i j k : ℕ) (s : Scopes) {t : Scopes} → checkTerms qs mask i j k s ≡ passed t → BoundTerms qs mask i j k × (t ≡ s)
-unfolding checkTerms
+pub terms-passed : (qs : List ℕ) (mask i j k : ℕ) (s : Scopes) {t : Scopes} → check_terms qs mask i j k s ≡ passed t → BoundTerms qs mask i j k × (t ≡ s)
+unfolding check_terms
 terms-passed qs mask i j zero s e = (λ m l. absurd (omega arith), cc)
 terms-passed qs mask i j (suc k) s {t} e =
-    let p = demand-read (isTerm (word_at qs i j)) _ _ e in
-    let q = demand-read (isBound mask (word_at qs i j)) _ _ p.1 in
+    let p = demand-read (is_term (word_at qs i j)) _ _ e in
+    let q = demand-read (is_bound mask (word_at qs i j)) _ _ p.1 in
     let r = terms-passed qs mask i (suc j) k s q.1 in
-    (terms-more qs mask i j k p.0 q.0 r.0, r.1)
+    (terms_more qs mask i j k p.0 q.0 r.0, r.1)
 
 module _ (n : ℕ) (ars qs : List ℕ) where
   -- node i is well formed in its scope, by its kind; s tells which nodes are named
   abbrev pub WellFormedIn : Scopes → ℕ → ℕ → Kind → Type 0
-  WellFormedIn s i mask rowStands = (word_at qs i 1 < n) × BoundTerms qs mask i 2 (arityOf ars (word_at qs i 1))
+  WellFormedIn s i mask row_stands = (word_at qs i 1 < n) × BoundTerms qs mask i 2 (arity_of ars (word_at qs i 1))
   WellFormedIn s i mask equals = BoundTerms qs mask i 1 2
-  WellFormedIn s i mask negates = ChildIn (nodeCount qs) s i (word_at qs i 1) mask
-  WellFormedIn s i mask (joins j) = ChildIn (nodeCount qs) s i (word_at qs i 1) mask × ChildIn (nodeCount qs) s i (word_at qs i 2) mask
-  WellFormedIn s i mask (ranges j) = (word_at qs i 1 < variables) × ChildIn (nodeCount qs) s i (word_at qs i 2) (binding mask (word_at qs i 1))
-  WellFormedIn s i mask noKind = ⊥
+  WellFormedIn s i mask negates = ChildIn (node_count qs) s i (word_at qs i 1) mask
+  WellFormedIn s i mask (joins j) = ChildIn (node_count qs) s i (word_at qs i 1) mask × ChildIn (node_count qs) s i (word_at qs i 2) mask
+  WellFormedIn s i mask (ranges j) = (word_at qs i 1 < variables) × ChildIn (node_count qs) s i (word_at qs i 2) (binding mask (word_at qs i 1))
+  WellFormedIn s i mask no_such_kind = ⊥
 
-  well-formed-kept : {s t : Scopes} (i mask : ℕ) (k : Kind) → Kept s t → WellFormedIn s i mask k → WellFormedIn t i mask k
-  well-formed-kept i mask rowStands κ p = p
-  well-formed-kept i mask equals κ p = p
-  well-formed-kept i mask negates κ p = child-kept κ p
-  well-formed-kept i mask (joins j) κ p = (child-kept κ p.0, child-kept κ p.1)
-  well-formed-kept i mask (ranges j) κ p = (p.0, child-kept κ p.1)
-  well-formed-kept i mask noKind κ p = p
+  well_formed-kept : {s t : Scopes} (i mask : ℕ) (k : Kind) → Kept s t → WellFormedIn s i mask k → WellFormedIn t i mask k
+  well_formed-kept i mask row_stands κ p = p
+  well_formed-kept i mask equals κ p = p
+  well_formed-kept i mask negates κ p = child-kept κ p
+  well_formed-kept i mask (joins j) κ p = (child-kept κ p.0, child-kept κ p.1)
+  well_formed-kept i mask (ranges j) κ p = (p.0, child-kept κ p.1)
+  well_formed-kept i mask no_such_kind κ p = p
 
   -- what a passed check of a node says
   pub record NodePassed (s : Scopes) (i mask : ℕ) (k : Kind) (t : Scopes) : Type 0 where
-    pub well-formed : WellFormedIn t i mask k
+    pub well_formed : WellFormedIn t i mask k
     pub kept : Kept s t
     pub long : Long t
 
-  module _ (few : nodeCount qs ≤ maxNodes) (s : Scopes) (l : Long s) where
+  module _ (few : node_count qs ≤ max_nodes) (s : Scopes) (l : Long s) where
     unchanged : {t : Scopes} (i mask : ℕ) (k : Kind) → WellFormedIn s i mask k → t ≡ s → NodePassed s i mask k t
-    unchanged i mask k p e = rw e (record { well-formed = p; kept = λ j m h. h; long = l })
+    unchanged i mask k p e = rw e (record { well_formed = p; kept = λ j m h. h; long = l })
 
-    by-passed : {t : Scopes} (i mask : ℕ) (k : Kind) → checkBy n ars qs i mask s k ≡ passed t → NodePassed s i mask k t
-    by-passed i mask rowStands e =
+    by_passed : {t : Scopes} (i mask : ℕ) (k : Kind) → check_by n ars qs i mask s k ≡ passed t → NodePassed s i mask k t
+    by_passed i mask row_stands e =
         let p = demand-read (ltb (word_at qs i 1) n) _ _ e in
-        let q = demand-read (restIsZero qs i (2 + arityOf ars (word_at qs i 1))) _ _ p.1 in
-        let r = terms-passed qs mask i 2 (arityOf ars (word_at qs i 1)) s q.1 in
-        unchanged i mask rowStands (ltb-true _ _ p.0, r.0) r.1
-    by-passed i mask equals e =
-        let p = demand-read (restIsZero qs i 3) _ _ e in
+        let q = demand-read (rest_is_zero qs i (2 + arity_of ars (word_at qs i 1))) _ _ p.1 in
+        let r = terms-passed qs mask i 2 (arity_of ars (word_at qs i 1)) s q.1 in
+        unchanged i mask row_stands (ltb-true _ _ p.0, r.0) r.1
+    by_passed i mask equals e =
+        let p = demand-read (rest_is_zero qs i 3) _ _ e in
         let r = terms-passed qs mask i 1 2 s p.1 in
         unchanged i mask equals r.0 r.1
-    by-passed i mask negates e =
-        let p = demand-read (restIsZero qs i 2) _ _ e in
-        let c = child-passed (nodeCount qs) few mask i (word_at qs i 1) s l p.1 in
-        record { well-formed = c.named; kept = c.kept; long = c.long }
-    by-passed i mask (joins j) e =
-        let p = demand-read (restIsZero qs i 3) _ _ e in
-        let b = then-read (checkChild (nodeCount qs) mask i (word_at qs i 1) s) (λ first. checkChild (nodeCount qs) mask i (word_at qs i 2)) p.1 in
-        let c = child-passed (nodeCount qs) few mask i (word_at qs i 1) s l b.first in
-        let d = child-passed (nodeCount qs) few mask i (word_at qs i 2) b.state c.long b.second in
+    by_passed i mask negates e =
+        let p = demand-read (rest_is_zero qs i 2) _ _ e in
+        let c = child-passed (node_count qs) few mask i (word_at qs i 1) s l p.1 in
+        record { well_formed = c.named; kept = c.kept; long = c.long }
+    by_passed i mask (joins j) e =
+        let p = demand-read (rest_is_zero qs i 3) _ _ e in
+        let b = then_read (check_child (node_count qs) mask i (word_at qs i 1) s) (λ first. check_child (node_count qs) mask i (word_at qs i 2)) p.1 in
+        let c = child-passed (node_count qs) few mask i (word_at qs i 1) s l b.first in
+        let d = child-passed (node_count qs) few mask i (word_at qs i 2) b.state c.long b.second in
         record {
-          well-formed = (child-kept d.kept c.named, d.named);
+          well_formed = (child-kept d.kept c.named, d.named);
           kept = λ j m h. d.kept j m (c.kept j m h);
           long = d.long;
         }
-    by-passed i mask (ranges j) e =
-        let p = demand-read (restIsZero qs i 3) _ _ e in
+    by_passed i mask (ranges j) e =
+        let p = demand-read (rest_is_zero qs i 3) _ _ e in
         let q = demand-read (ltb (word_at qs i 1) variables) _ _ p.1 in
-        let c = child-passed (nodeCount qs) few (binding mask (word_at qs i 1)) i (word_at qs i 2) s l q.1 in
-        record { well-formed = (ltb-true _ _ q.0, c.named); kept = c.kept; long = c.long }
-    by-passed i mask noKind e = refused-read e
+        let c = child-passed (node_count qs) few (binding mask (word_at qs i 1)) i (word_at qs i 2) s l q.1 in
+        record { well_formed = (ltb-true _ _ q.0, c.named); kept = c.kept; long = c.long }
+    by_passed i mask no_such_kind e = refused-read e
 
     -- the node is named, and well formed by its kind in its scope
-    pub node-passed : {t : Scopes} (i : ℕ) → checkNode n ars qs i s ≡ passed t
+    pub node-passed : {t : Scopes} (i : ℕ) → check_node n ars qs i s ≡ passed t
         → (get_or s.named i 0 ≡ 1) × NodePassed s i (get_or s.masks i 0) (kind_of (word_at qs i 0)) t
-    unfolding checkNode
+    unfolding check_node
     node-passed i e =
         let p = demand-read (eqb (get_or s.named i 0) 1) _ _ e in
-        (eqb-true _ _ p.0, by-passed i (get_or s.masks i 0) (kind_of (word_at qs i 0)) p.1)
+        (eqb-true _ _ p.0, by_passed i (get_or s.masks i 0) (kind_of (word_at qs i 0)) p.1)
 
   -- each of the k nodes from i is well formed in its scope
   abbrev pub AllWellFormed : Scopes → ℕ → ℕ → Type 0
@@ -175,16 +175,16 @@ module _ (n : ℕ) (ars qs : List ℕ) where
       go true e =
           let f = eqb-true j i e in
           let same = (κ i _ (p.kept i (get_or s.masks i 0) (record { named = named; scope = refl }))).scope in
-          rw (f, same) (well-formed-kept i (get_or s.masks i 0) (kind_of (word_at qs i 0)) κ p.well-formed)
+          rw (f, same) (well_formed-kept i (get_or s.masks i 0) (kind_of (word_at qs i 0)) κ p.well_formed)
       go false e = let n = eqb-false j i e in all j (omega arith) (omega arith)
 
   -- if the check of nodes is passed, those that were named stay so, and each node is well formed
-  pub nodes-passed : nodeCount qs ≤ maxNodes → (i k : ℕ) (s : Scopes) {t : Scopes} → Long s → checkNodes n ars qs i k s ≡ passed t
+  pub nodes-passed : node_count qs ≤ max_nodes → (i k : ℕ) (s : Scopes) {t : Scopes} → Long s → check_nodes n ars qs i k s ≡ passed t
       → Kept s t × AllWellFormed t i k
-  unfolding checkNodes
+  unfolding check_nodes
   nodes-passed few i zero s {t} l e = let z : t ≡ s = cc in (λ j m h. rw z h, λ j a b. absurd (omega arith))
   nodes-passed few i (suc k) s {t} l e =
-      let b = then-read (checkNode n ars qs i s) (λ first. checkNodes n ars qs (suc i) k) e in
+      let b = then_read (check_node n ars qs i s) (λ first. check_nodes n ars qs (suc i) k) e in
       let p = node-passed few s l i b.first in
       let r = nodes-passed few (suc i) k b.state p.1.long b.second in
       (λ j m h. r.0 j m (p.1.kept j m h), one_more i k p.0 p.1 t r.0 r.1)

@@ -1,8 +1,8 @@
 // The check of a question and its candidate.
 ghost use Rattle.std.specs.Prelude.{◌≡◌, true, ◌≤◌, length};
-ghost use Rattle.instance.specs.Header.{headerWellFormed, maxRelations};
-ghost use Rattle.query.specs.Words.{nodeCount, maxNodes, rightLength};
-ghost use Rattle.query.specs.Check.{checkNodes, checkQuery, checkNumber};
+ghost use Rattle.instance.specs.Header.{header_well_formed, max_relations};
+ghost use Rattle.query.specs.Words.{node_count, max_nodes, right_length};
+ghost use Rattle.query.specs.Check.{check_nodes, check_query, check_number};
 ghost use Rattle.query.specs.Answers.{scopes, Long, Answers};
 
 use super::node::check_node;
@@ -19,9 +19,9 @@ fn check_nodes(
     named: &mut [u32; 100],
     masks: &mut [u32; 100],
 ) -> u32
-    requires { (headerWellFormed relations arities.now ≡ true) × (length arities.now ≡ maxRelations) × (nodeCount query.now ≤ maxNodes)
+    requires { (header_well_formed relations arities.now ≡ true) × (length arities.now ≡ max_relations) × (node_count query.now ≤ max_nodes)
         × Long (scopes named.old masks.old) }
-    ensures { Answers (checkNodes relations arities.now query.now 0 (nodeCount query.now)
+    ensures { Answers (check_nodes relations arities.now query.now 0 (node_count query.now)
         (scopes named.old masks.old))
         result (scopes named.new masks.new) }
 {
@@ -39,8 +39,8 @@ fn check_nodes(
 
 // The number of the first refusal of a question of the right length and its candidate, or 0.
 pub fn check(relations: u32, arities: &[u32; 8], query: &[u32], candidate: &[u32]) -> u32
-    requires { (headerWellFormed relations arities.now ≡ true) × (length arities.now ≡ maxRelations) × (rightLength query.now ≡ true) }
-    ensures { result ≡ checkNumber (checkQuery relations arities.now query.now candidate.now) }
+    requires { (header_well_formed relations arities.now ≡ true) × (length arities.now ≡ max_relations) × (right_length query.now ≡ true) }
+    ensures { result ≡ check_number (check_query relations arities.now query.now candidate.now) }
 {
     if (COLUMNS as usize) < candidate.len() {
         return BAD_CANDIDATE;

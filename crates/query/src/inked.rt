@@ -1,15 +1,15 @@
 // The inked terms of a question, by node and word.
 ghost use Rattle.std.specs.Prelude.{◌≡◌, ◌<◌, ◌+◌, ◌*◌, length};
-ghost use Rattle.query.specs.Words.{nodeCount, nodeWords, word_at, kind_of};
-ghost use Rattle.query.specs.Named.{firstTerm, termCount, termsOf, constantsAmong, named_in, HasTerms};
+ghost use Rattle.query.specs.Words.{node_count, node_words, word_at, kind_of};
+ghost use Rattle.query.specs.Named.{first_term, term_count, terms_of, constants_among, named_in, HasTerms};
 
 use super::words::NODE_WORDS;
 use calculus::cell::CONSTANTS;
 
 // The index of a node's first term in the question.
 pub fn terms_start(query: &[u32], node: usize) -> usize
-    requires { (nodeCount query.now * nodeWords ≡ length query.now) × (node < nodeCount query.now) }
-    ensures { result ≡ node * nodeWords + firstTerm (kind_of (word_at query.now node 0)) }
+    requires { (node_count query.now * node_words ≡ length query.now) × (node < node_count query.now) }
+    ensures { result ≡ node * node_words + first_term (kind_of (word_at query.now node 0)) }
 {
     if query[node * NODE_WORDS] == 1 {
         return node * NODE_WORDS + 2;
@@ -19,8 +19,8 @@ pub fn terms_start(query: &[u32], node: usize) -> usize
 
 // The number of a node's terms.
 pub fn term_count(query: &[u32], arities: &[u32; 8], node: usize) -> usize
-    requires { HasTerms arities.now query.now × (node < nodeCount query.now) }
-    ensures { result ≡ termCount arities.now query.now node
+    requires { HasTerms arities.now query.now × (node < node_count query.now) }
+    ensures { result ≡ term_count arities.now query.now node
         (kind_of (word_at query.now node 0)) }
 {
     let kind = query[node * NODE_WORDS];
@@ -35,8 +35,8 @@ pub fn term_count(query: &[u32], arities: &[u32; 8], node: usize) -> usize
 
 // A node's terms, as a part of the question.
 pub fn terms_of<'a>(query: &'a [u32], arities: &[u32; 8], node: usize) -> &'a [u32]
-    requires { HasTerms arities.now query.now × (node < nodeCount query.now) }
-    ensures { result.now ≡ termsOf arities.now query.now node }
+    requires { HasTerms arities.now query.now × (node < node_count query.now) }
+    ensures { result.now ≡ terms_of arities.now query.now node }
 {
     let start = terms_start(query, node);
     let end = start + term_count(query, arities, node);
@@ -45,7 +45,7 @@ pub fn terms_of<'a>(query: &'a [u32], arities: &[u32; 8], node: usize) -> &'a [u
 
 // The number of constants among words.
 fn count_constants(words: &[u32]) -> usize
-    ensures { result ≡ length (constantsAmong words.now) }
+    ensures { result ≡ length (constants_among words.now) }
 {
     let mut count = 0;
     let mut i = 0;

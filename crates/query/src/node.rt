@@ -1,10 +1,10 @@
 // The check of one node by its kind.
 ghost use Rattle.std.specs.Prelude.{◌≡◌, true, List, ℕ, ◌+◌, ◌*◌, ◌≤◌, ◌<◌, length};
 ghost use Rattle.calculus.specs.Kleene.{Junction};
-ghost use Rattle.instance.specs.Header.{headerWellFormed, maxRelations};
-ghost use Rattle.query.specs.Words.{nodeWords, maxNodes, rowStands, equals, negates, joins, ranges};
+ghost use Rattle.instance.specs.Header.{header_well_formed, max_relations};
+ghost use Rattle.query.specs.Words.{node_words, max_nodes, row_stands, equals, negates, joins, ranges};
 ghost use Rattle.query.specs.Scope.{Scopes};
-ghost use Rattle.query.specs.Check.{restIsZero, checkChild, checkBy, checkNode};
+ghost use Rattle.query.specs.Check.{rest_is_zero, check_child, check_by, check_node};
 ghost use Rattle.query.specs.Answers.{scopes, Long, AtNode, Answers};
 
 use super::term::{bind, check_terms};
@@ -13,8 +13,8 @@ use calculus::refusal::{BAD_CHILD, BAD_NODE, NO_SUCH_QUERY_RELATION, UNBOUND_VAR
 
 // Whether all words of a node after its first `from` are 0.
 fn rest_is_zero(query: &[u32], node: usize, from: usize) -> bool
-    requires { (node * nodeWords + nodeWords ≤ length query.now) × (from ≤ nodeWords) }
-    ensures { result ≡ restIsZero query.now node from }
+    requires { (node * node_words + node_words ≤ length query.now) × (from ≤ node_words) }
+    ensures { result ≡ rest_is_zero query.now node from }
 {
     let mut j = from;
     while j < NODE_WORDS {
@@ -35,8 +35,8 @@ fn check_child(
     named: &mut [u32; 100],
     masks: &mut [u32; 100],
 ) -> u32
-    requires { (count ≤ maxNodes) × Long (scopes named.old masks.old) }
-    ensures { Answers (checkChild count mask parent child
+    requires { (count ≤ max_nodes) × Long (scopes named.old masks.old) }
+    ensures { Answers (check_child count mask parent child
         (scopes named.old masks.old))
         result (scopes named.new masks.new) }
 {
@@ -57,8 +57,8 @@ fn check_child(
 
 // Kind 1.
 fn check_atom(relations: u32, arities: &[u32; 8], query: &[u32], node: usize, mask: u32) -> u32
-    requires { (headerWellFormed relations arities.now ≡ true) × (length arities.now ≡ maxRelations) × (node * nodeWords + nodeWords ≤ length query.now) }
-    ensures { (s : Scopes) → Answers (checkBy relations arities.now query.now node mask s rowStands) result s }
+    requires { (header_well_formed relations arities.now ≡ true) × (length arities.now ≡ max_relations) × (node * node_words + node_words ≤ length query.now) }
+    ensures { (s : Scopes) → Answers (check_by relations arities.now query.now node mask s row_stands) result s }
 {
     let relation = query[node * NODE_WORDS + 1];
     if relations <= relation {
@@ -73,8 +73,8 @@ fn check_atom(relations: u32, arities: &[u32; 8], query: &[u32], node: usize, ma
 
 // Kind 2.
 fn check_equality(query: &[u32], node: usize, mask: u32) -> u32
-    requires { node * nodeWords + nodeWords ≤ length query.now }
-    ensures { (n : ℕ) (ars : List ℕ) (s : Scopes) → Answers (checkBy n ars query.now node mask s equals) result s }
+    requires { node * node_words + node_words ≤ length query.now }
+    ensures { (n : ℕ) (ars : List ℕ) (s : Scopes) → Answers (check_by n ars query.now node mask s equals) result s }
 {
     if !rest_is_zero(query, node, 3) {
         return BAD_NODE;
@@ -92,7 +92,7 @@ fn check_negation(
 ) -> u32
     requires { AtNode query.now node (scopes named.old masks.old) }
     ensures { (n : ℕ) (ars : List ℕ) →
-        Answers (checkBy n ars query.now node mask
+        Answers (check_by n ars query.now node mask
         (scopes named.old masks.old) negates)
         result (scopes named.new masks.new) }
 {
@@ -119,7 +119,7 @@ fn check_junction(
 ) -> u32
     requires { AtNode query.now node (scopes named.old masks.old) }
     ensures { (n : ℕ) (ars : List ℕ) (j : Junction) →
-        Answers (checkBy n ars query.now node mask
+        Answers (check_by n ars query.now node mask
         (scopes named.old masks.old) (joins j))
         result (scopes named.new masks.new) }
 {
@@ -158,7 +158,7 @@ fn check_quantifier(
 ) -> u32
     requires { AtNode query.now node (scopes named.old masks.old) }
     ensures { (n : ℕ) (ars : List ℕ) (j : Junction) →
-        Answers (checkBy n ars query.now node mask
+        Answers (check_by n ars query.now node mask
         (scopes named.old masks.old) (ranges j))
         result (scopes named.new masks.new) }
 {
@@ -188,8 +188,8 @@ pub fn check_node(
     named: &mut [u32; 100],
     masks: &mut [u32; 100],
 ) -> u32
-    requires { (headerWellFormed relations arities.now ≡ true) × (length arities.now ≡ maxRelations) × AtNode query.now node (scopes named.old masks.old) }
-    ensures { Answers (checkNode relations arities.now query.now node
+    requires { (header_well_formed relations arities.now ≡ true) × (length arities.now ≡ max_relations) × AtNode query.now node (scopes named.old masks.old) }
+    ensures { Answers (check_node relations arities.now query.now node
         (scopes named.old masks.old))
         result (scopes named.new masks.new) }
 {

@@ -1,6 +1,6 @@
 // A question's words: up to 100 nodes of 8 words each.
 ghost use Rattle.std.specs.Prelude.{◌≡◌};
-ghost use Rattle.query.specs.Words.{rightLength};
+ghost use Rattle.query.specs.Words.{right_length};
 
 pub const NODE_WORDS: usize = 8;
 
@@ -13,7 +13,7 @@ pub const VARIABLES: u32 = 16;
 
 // The opposite of refusal 21.
 pub fn right_length(query: &[u32]) -> bool
-    ensures { result ≡ rightLength query.now }
+    ensures { result ≡ right_length query.now }
 {
     if query.len() < NODE_WORDS {
         return false;

@@ -8,16 +8,16 @@ use borrow.Author.Tests.{lt-ltb, leb-true, leb-false, ltb-true, ltb-false}
 use lib.Dec.{leb, ltb}
 use lib.ListN.{length, get_or, take, drop, length-append, length-drop, get_or-eq_default}
 use lib.Seq.{take_all, take-length, take-append-add, get_or-append-add, get_or-take, get_or-drop, length-take-le}
-use Rattle.calculus.specs.Cell.{isConstant}
+use Rattle.calculus.specs.Cell.{is_constant}
 use Rattle.calculus.specs.Domain.{listing}
 use Rattle.calculus.specs.Listed.{listed}
 use Rattle.calculus.proofs.Listed.{listed-append}
 use Rattle.calculus.proofs.Listing.{listing-append}
-use Rattle.known.specs.Known.{flagAt, unpassed}
-use Rattle.query.specs.Named.{constantsAmong}
+use Rattle.known.specs.Known.{flag_at, unpassed}
+use Rattle.query.specs.Named.{constants_among}
 use Rattle.query.proofs.KindTerms.{among_next as among_one}
-use Rattle.instance.specs.Header.{arityOf}
-use Rattle.range.specs.Flagged.{Flagged, stoodBefore, Asking, Passed}
+use Rattle.instance.specs.Header.{arity_of}
+use Rattle.range.specs.Flagged.{Flagged, stood_before, Asking, Passed}
 use Rattle.range.specs.Walked.{passes}
 use Rattle.range.proofs.Places.{stood-next, unpassed-same}
 
@@ -26,7 +26,7 @@ unfolding unpassed
 unpassed-append known [] ys p = let e : p + 0 ≡ p = omega arith in rw e refl
 unpassed-append known (x ∷ xs) ys p =
     let e : p + suc (length xs) ≡ suc p + length xs = omega arith in
-    rw e (go (flagAt known p) (unpassed-append known xs ys (suc p)))
+    rw e (go (flag_at known p) (unpassed-append known xs ys (suc p)))
   where
     go :
         (b : Bool) → unpassed known (suc p) (xs ++ ys) ≡ unpassed known (suc p) xs ++ unpassed known (suc p + length xs) ys →
@@ -36,39 +36,39 @@ unpassed-append known (x ∷ xs) ys p =
     go false ih = ap (λ (l : List ℕ). x ∷ l) ih
 
 -- what stood before word p of the question: in the instance, or earlier in the question
-pub stood-parts : (known ws qs : List ℕ) (p : ℕ) → stoodBefore known (ws ++ qs) (length ws + p) ≡ unpassed known 0 ws ++ unpassed known (length ws) (take p qs)
-stood-parts known ws qs p =
+pub stood_parts : (known ws qs : List ℕ) (p : ℕ) → stood_before known (ws ++ qs) (length ws + p) ≡ unpassed known 0 ws ++ unpassed known (length ws) (take p qs)
+stood_parts known ws qs p =
     let e : 0 + length ws ≡ length ws = omega arith in
     ap (unpassed known 0) (take-append-add ws qs p) ∙ unpassed-append known ws (take p qs) 0 ∙ rw e refl
 
 pub listed-parts :
     (known ws qs : List ℕ) (p w : ℕ) →
-    listed w (stoodBefore known (ws ++ qs) (length ws + p)) ≡ (listed w (unpassed known 0 ws) || listed w (unpassed known (length ws) (take p qs)))
+    listed w (stood_before known (ws ++ qs) (length ws + p)) ≡ (listed w (unpassed known 0 ws) || listed w (unpassed known (length ws) (take p qs)))
 listed-parts known ws qs p w =
-    ap (listed w) (stood-parts known ws qs p) ∙ listed-append w (unpassed known 0 ws) (unpassed known (length ws) (take p qs))
+    ap (listed w) (stood_parts known ws qs p) ∙ listed-append w (unpassed known 0 ws) (unpassed known (length ws) (take p qs))
 
 -- whether a word is an inked term that is new
 module _ (known ws qs : List ℕ) (p : ℕ) (term : Bool) (is : term ≡ true) (low : get_or qs p 0 < 1000000) where
   abbrev word : ℕ
   word = get_or qs p 0
 
-  whole : stoodBefore known ws (length ws) ≡ unpassed known 0 ws
+  whole : stood_before known ws (length ws) ≡ unpassed known 0 ws
   whole = ap (unpassed known 0) (take-length ws)
 
-  pub not_new : listed word (stoodBefore known ws (length ws)) ≡ true → false ≡ (term && (isConstant word && not (listed word (stoodBefore known (ws ++ qs) (length ws + p)))))
+  pub not_new : listed word (stood_before known ws (length ws)) ≡ true → false ≡ (term && (is_constant word && not (listed word (stood_before known (ws ++ qs) (length ws + p)))))
   not_new e =
-      let seen : listed word (stoodBefore known (ws ++ qs) (length ws + p)) ≡ true = listed-parts known ws qs p word ∙ rw (sym (ap (listed word) whole) ∙ e) refl in
+      let seen : listed word (stood_before known (ws ++ qs) (length ws + p)) ≡ true = listed-parts known ws qs p word ∙ rw (sym (ap (listed word) whole) ∙ e) refl in
       rw (is, lt-ltb word 1000000 low, seen) refl
 
   pub new-here :
-      listed word (stoodBefore known ws (length ws)) ≡ false → (b : Bool) → b ≡ listed word (unpassed known (length ws) (take p qs)) →
-      not b ≡ (term && (isConstant word && not (listed word (stoodBefore known (ws ++ qs) (length ws + p)))))
+      listed word (stood_before known ws (length ws)) ≡ false → (b : Bool) → b ≡ listed word (unpassed known (length ws) (take p qs)) →
+      not b ≡ (term && (is_constant word && not (listed word (stood_before known (ws ++ qs) (length ws + p)))))
   new-here e b f =
-      let seen : listed word (stoodBefore known (ws ++ qs) (length ws + p)) ≡ b = listed-parts known ws qs p word ∙ rw (sym (ap (listed word) whole) ∙ e) (sym f) in
+      let seen : listed word (stood_before known (ws ++ qs) (length ws + p)) ≡ b = listed-parts known ws qs p word ∙ rw (sym (ap (listed word) whole) ∙ e) (sym f) in
       rw (is, lt-ltb word 1000000 low, seen) refl
 
 pub passed-starts :
-    (ws qs known : List ℕ) (p : ℕ) → ((q : ℕ) → length ws + p ≤ q → flagAt known q ≡ false) → Passed ws qs known p [] known p
+    (ws qs known : List ℕ) (p : ℕ) → ((q : ℕ) → length ws + p ≤ q → flag_at known q ≡ false) → Passed ws qs known p [] known p
 unfolding listing
 passed-starts ws qs known p later = record { size = refl; kept = refl; instance = refl; walks = refl; later = later }
 
@@ -83,37 +83,37 @@ passed_then {xs = xs} {ys = ys} f g = record {
 }
 
 -- a word is kept if it is an inked term that is new
-module _ (ws qs known : List ℕ) (p : ℕ) (l : p < length qs) (term : Bool) (later : (q : ℕ) → length ws + p ≤ q → flagAt known q ≡ false) where
+module _ (ws qs known : List ℕ) (p : ℕ) (l : p < length qs) (term : Bool) (later : (q : ℕ) → length ws + p ≤ q → flag_at known q ≡ false) where
   abbrev w : ℕ
   w = get_or qs p 0
 
-  abbrev stoodHere : List ℕ
-  stoodHere = stoodBefore known (ws ++ qs) (length ws + p)
+  abbrev stood_here : List ℕ
+  stood_here = stood_before known (ws ++ qs) (length ws + p)
 
-  abbrev isNew : Bool
-  isNew = term && (isConstant w && not (listed w stoodHere))
+  abbrev is_new : Bool
+  is_new = term && (is_constant w && not (listed w stood_here))
 
   -- what the word adds
   abbrev adds : List ℕ
-  adds = cond (term && isConstant w) (w ∷ []) []
+  adds = cond (term && is_constant w) (w ∷ []) []
 
-  pub passed-word : (after : List ℕ) → Flagged known (length ws + p) (not isNew) after → Passed ws qs known p adds after (p + 1)
+  pub passed-word : (after : List ℕ) → Flagged known (length ws + p) (not is_new) after → Passed ws qs known p adds after (p + 1)
   unfolding listing
   passed-word after f = record {
     size = f.size;
     kept = f.kept;
     instance = unpassed-same known after ws 0 (λ q m. f.other q (λ e. omega (arith, e, m)));
     walks =
-        ap (stoodBefore after (ws ++ qs)) (let e : length ws + (p + 1) ≡ length ws + p + 1 = omega arith in e) ∙
+        ap (stood_before after (ws ++ qs)) (let e : length ws + (p + 1) ≡ length ws + p + 1 = omega arith in e) ∙
         stood-next (ws ++ qs) (omega (arith, length-append ws qs)) f ∙
-        ap (λ (v : ℕ). cond (not isNew) stoodHere (stoodHere ++ v ∷ [])) (get_or-append-add ws qs p 0) ∙
-        go term (isConstant w) (listed w stoodHere) refl;
+        ap (λ (v : ℕ). cond (not is_new) stood_here (stood_here ++ v ∷ [])) (get_or-append-add ws qs p 0) ∙
+        go term (is_constant w) (listed w stood_here) refl;
     later = λ q m. f.other q (λ e. omega (arith, e, m)) ∙ later q (omega arith);
   }
     where
       go :
-          (t c b : Bool) → listed w stoodHere ≡ b →
-          cond (not (t && (c && not b))) stoodHere (stoodHere ++ w ∷ []) ≡ listing stoodHere (cond (t && c) (w ∷ []) [])
+          (t c b : Bool) → listed w stood_here ≡ b →
+          cond (not (t && (c && not b))) stood_here (stood_here ++ w ∷ []) ≡ listing stood_here (cond (t && c) (w ∷ []) [])
       go true true true e = rw e refl
       go true true false e = rw e refl
       go true false b e = refl
@@ -127,28 +127,28 @@ module _ (qs : List ℕ) (start end p : ℕ) (ordered : start ≤ end) (within :
   terms-long : length terms ≡ end - start
   terms-long = length-take-le (end - start) (drop start qs) (omega (arith, length-drop start qs))
 
-  term-at : start ≤ p → p < end → get_or terms (p - start) 0 ≡ get_or qs p 0
-  term-at a b =
+  term_at : start ≤ p → p < end → get_or terms (p - start) 0 ≡ get_or qs p 0
+  term_at a b =
       let e : start + (p - start) ≡ p = omega arith in
       get_or-take (end - start) (drop start qs) (p - start) 0 (omega arith) ∙ get_or-drop start qs (p - start) 0 ∙ ap (λ (k : ℕ). get_or qs k 0) e
 
   abbrev adding : Bool → List ℕ
-  adding t = cond (t && isConstant (get_or qs p 0)) (get_or qs p 0 ∷ []) []
+  adding t = cond (t && is_constant (get_or qs p 0)) (get_or qs p 0 ∷ []) []
 
-  pub among_next : constantsAmong (take (p + 1 - start) terms) ≡ constantsAmong (take (p - start) terms) ++ adding (leb start p && ltb p end)
-  unfolding constantsAmong
+  pub among_next : constants_among (take (p + 1 - start) terms) ≡ constants_among (take (p - start) terms) ++ adding (leb start p && ltb p end)
+  unfolding constants_among
   among_next = go (leb start p) refl (ltb p end) refl
     where
-      same : (n m : ℕ) → take n terms ≡ take m terms → constantsAmong (take n terms) ≡ constantsAmong (take m terms) ++ []
-      same n m e = ap constantsAmong e ∙ sym (append-nil (constantsAmong (take m terms)))
+      same : (n m : ℕ) → take n terms ≡ take m terms → constants_among (take n terms) ≡ constants_among (take m terms) ++ []
+      same n m e = ap constants_among e ∙ sym (append-nil (constants_among (take m terms)))
 
-      go : (a : Bool) → leb start p ≡ a → (b : Bool) → ltb p end ≡ b → constantsAmong (take (p + 1 - start) terms) ≡ constantsAmong (take (p - start) terms) ++ adding (a && b)
+      go : (a : Bool) → leb start p ≡ a → (b : Bool) → ltb p end ≡ b → constants_among (take (p + 1 - start) terms) ≡ constants_among (take (p - start) terms) ++ adding (a && b)
       go true e true f =
           let low = leb-true start p e in
           let high = ltb-true p end f in
           let next : p + 1 - start ≡ p - start + 1 = omega arith in
-          ap (λ (n : ℕ). constantsAmong (take n terms)) next ∙ among_one terms (p - start) (omega (arith, terms-long)) ∙
-          ap (λ (v : ℕ). constantsAmong (take (p - start) terms) ++ cond (isConstant v) (v ∷ []) []) (term-at low high)
+          ap (λ (n : ℕ). constants_among (take n terms)) next ∙ among_one terms (p - start) (omega (arith, terms-long)) ∙
+          ap (λ (v : ℕ). constants_among (take (p - start) terms) ++ cond (is_constant v) (v ∷ []) []) (term_at low high)
       go true e false f =
           let low = leb-true start p e in
           let high = ltb-false p end f in
@@ -157,12 +157,12 @@ module _ (qs : List ℕ) (start end p : ℕ) (ordered : start ≤ end) (within :
           let low = leb-false start p e in
           same (p + 1 - start) (p - start) (ap (λ (n : ℕ). take n terms) (let z : p + 1 - start ≡ p - start = omega arith in z))
 
-  pub among_first : p ≤ start → constantsAmong (take (p - start) terms) ≡ []
-  unfolding constantsAmong
-  among_first l = ap (λ (n : ℕ). constantsAmong (take n terms)) (let z : p - start ≡ 0 = omega arith in z)
+  pub among_first : p ≤ start → constants_among (take (p - start) terms) ≡ []
+  unfolding constants_among
+  among_first l = ap (λ (n : ℕ). constants_among (take n terms)) (let z : p - start ≡ 0 = omega arith in z)
 
-  pub among-last : end ≤ p → constantsAmong (take (p - start) terms) ≡ constantsAmong terms
-  among-last l = ap constantsAmong (take_all (p - start) terms (omega (arith, terms-long)))
+  pub among_last : end ≤ p → constants_among (take (p - start) terms) ≡ constants_among terms
+  among_last l = ap constants_among (take_all (p - start) terms (omega (arith, terms-long)))
 
 -- what a pass is given stays
 pub asking-kept : {ws qs before heads named after : List ℕ} {p r : ℕ} → Asking ws qs before heads → Passed ws qs before p named after r → Asking ws qs after heads
@@ -171,11 +171,11 @@ asking-kept a f = record { size = f.size ∙ a.size; short = a.short; few = a.fe
 -- the words of a node up to word p were walked, and then word p
 pub node-step :
     {ws qs before known : List ℕ} {first p : ℕ} (start end : ℕ) → start ≤ end → end ≤ length qs → p < length qs →
-    Passed ws qs before first (constantsAmong (take (p - start) (take (end - start) (drop start qs)))) known p →
+    Passed ws qs before first (constants_among (take (p - start) (take (end - start) (drop start qs)))) known p →
     (term : Bool) → term ≡ (leb start p && ltb p end) →
-    (new : Bool) → new ≡ (term && (isConstant (get_or qs p 0) && not (listed (get_or qs p 0) (stoodBefore known (ws ++ qs) (length ws + p))))) →
+    (new : Bool) → new ≡ (term && (is_constant (get_or qs p 0) && not (listed (get_or qs p 0) (stood_before known (ws ++ qs) (length ws + p))))) →
     (after : List ℕ) → Flagged known (length ws + p) (not new) after →
-    Passed ws qs before first (constantsAmong (take (p + 1 - start) (take (end - start) (drop start qs)))) after (p + 1)
+    Passed ws qs before first (constants_among (take (p + 1 - start) (take (end - start) (drop start qs)))) after (p + 1)
 node-step {ws} {qs} {before} {known} {first} {p} start end ordered within inside so_far term is new e after f =
     let word = passed-word ws qs known p inside term so_far.later after (rw e at f) in
     rw (among_next qs start end p ordered within) (passed_then so_far (rw is at word))
@@ -184,7 +184,7 @@ node-step {ws} {qs} {before} {known} {first} {p} start end ordered within inside
 passes-long : (ars earlier : List ℕ) (left : ℕ) (ws : List ℕ) → length (passes ars earlier left ws) ≡ length ws
 unfolding passes
 passes-long ars earlier left [] = refl
-passes-long ars earlier zero (w ∷ ws) = ap suc (passes-long ars earlier (arityOf ars w) ws)
+passes-long ars earlier zero (w ∷ ws) = ap suc (passes-long ars earlier (arity_of ars w) ws)
 passes-long ars earlier (suc left) (w ∷ ws) = ap suc (passes-long ars (earlier ++ w ∷ []) left ws)
 
 pub none-behind : (ars ws : List ℕ) (q : ℕ) → length ws ≤ q → get_or (passes ars [] 0 ws) q false ≡ false
@@ -196,4 +196,4 @@ pub passed-whole :
 unfolding unpassed
 passed-whole {ws} {qs} {before} {after} {named} f =
     sym (ap (unpassed after 0) (take_all (length ws + length qs) (ws ++ qs) (omega (arith, length-append ws qs)))) ∙ f.walks ∙
-    ap (λ (l : List ℕ). listing l named) (stood-parts before ws qs 0 ∙ append-nil (unpassed before 0 ws))
+    ap (λ (l : List ℕ). listing l named) (stood_parts before ws qs 0 ∙ append-nil (unpassed before 0 ws))

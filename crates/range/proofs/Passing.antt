@@ -9,13 +9,13 @@ use lib.Dec.{ltb, eqb}
 use lib.ListN.{length, get_or, take, drop, replicate}
 use lib.Seq.{drop-drop, drop-length, get_or-drop, take-length}
 use Rattle.calculus.specs.Listed.{listed}
-use Rattle.calculus.proofs.Lists.{drop-step}
-use Rattle.instance.specs.Header.{arityOf}
-use Rattle.instance.specs.Rows.{wordsWellFormed}
-use Rattle.instance.proofs.Rows.{at_row, at-cell}
-use Rattle.known.specs.Known.{flagsFrom, flagAt, unpassed}
-use Rattle.range.specs.Cache.{headCount, Cached}
-use Rattle.range.specs.Flagged.{Flagged, stoodBefore}
+use Rattle.calculus.proofs.Lists.{drop_step}
+use Rattle.instance.specs.Header.{arity_of}
+use Rattle.instance.specs.Rows.{words_well_formed}
+use Rattle.instance.proofs.Rows.{at_row, at_cell}
+use Rattle.known.specs.Known.{flags_from, flag_at, unpassed}
+use Rattle.range.specs.Cache.{head_count, Cached}
+use Rattle.range.specs.Flagged.{Flagged, stood_before}
 use Rattle.range.specs.Walked.{passes}
 use Rattle.range.proofs.Cache.{cached-starts, cached-relation}
 use Rattle.range.proofs.Places.{stood-next}
@@ -26,17 +26,17 @@ module _ {known after : List ℕ} {i : ℕ} {b : Bool} {rest : List Bool} (flags
   first : get_or flags i false ≡ b
   first = let z : i + 0 ≡ i = omega arith in ap (λ (k : ℕ). get_or flags k false) (sym z) ∙ sym (get_or-drop i flags 0 false) ∙ ap (λ (l : List Bool). get_or l 0 false) e
 
-  rest-next : drop (i + 1) flags ≡ rest
-  rest-next = sym (drop-drop 1 i flags) ∙ ap (drop 1) e
+  rest_next : drop (i + 1) flags ≡ rest
+  rest_next = sym (drop-drop 1 i flags) ∙ ap (drop 1) e
 
-  past_next : ((q : ℕ) → q < i → flagAt known q ≡ get_or flags q false) → (q : ℕ) → q < i + 1 → flagAt after q ≡ get_or flags q false
+  past_next : ((q : ℕ) → q < i → flag_at known q ≡ get_or flags q false) → (q : ℕ) → q < i + 1 → flag_at after q ≡ get_or flags q false
   past_next past q l = go (eqb q i) refl
     where
-      go : (t : Bool) → eqb q i ≡ t → flagAt after q ≡ get_or flags q false
-      go true p = let is : q ≡ i = eqb-true q i p in ap (flagAt after) is ∙ f.here ∙ sym first ∙ ap (λ (k : ℕ). get_or flags k false) (sym is)
+      go : (t : Bool) → eqb q i ≡ t → flag_at after q ≡ get_or flags q false
+      go true p = let is : q ≡ i = eqb-true q i p in ap (flag_at after) is ∙ f.here ∙ sym first ∙ ap (λ (k : ℕ). get_or flags k false) (sym is)
       go false p = let ne = eqb-false q i p in f.other q ne ∙ past q (omega (arith, ne))
 
-  later-next : ((q : ℕ) → i ≤ q → flagAt known q ≡ false) → (q : ℕ) → i + 1 ≤ q → flagAt after q ≡ false
+  later-next : ((q : ℕ) → i ≤ q → flag_at known q ≡ false) → (q : ℕ) → i + 1 ≤ q → flag_at after q ≡ false
   later-next later q l = f.other q (λ h. omega (arith, h, l)) ∙ later q (omega arith)
 
 -- The first i words were walked, and `left` cells of a row are still to come. `earlier` holds every cell that stood; the flags leave of equal cells
@@ -44,23 +44,23 @@ module _ {known after : List ℕ} {i : ℕ} {b : Bool} {rest : List Bool} (flags
 pub record Passing (n : ℕ) (ars ws before known heads : List ℕ) (left i : ℕ) : Type 0 where
   pub earlier : List ℕ
   pub inside : i ≤ length ws
-  pub well-formed : wordsWellFormed n ars left (drop i ws) ≡ true
+  pub well_formed : words_well_formed n ars left (drop i ws) ≡ true
   pub size : length known ≡ length before
-  pub kept : take flagsFrom known ≡ take flagsFrom before
-  pub same : SameCells (stoodBefore known ws i) earlier
-  pub cached : Cached heads ws (stoodBefore known ws i) i
-  pub past : (q : ℕ) → q < i → flagAt known q ≡ get_or (passes ars [] 0 ws) q false
-  pub later : (q : ℕ) → i ≤ q → flagAt known q ≡ false
+  pub kept : take flags_from known ≡ take flags_from before
+  pub same : SameCells (stood_before known ws i) earlier
+  pub cached : Cached heads ws (stood_before known ws i) i
+  pub past : (q : ℕ) → q < i → flag_at known q ≡ get_or (passes ars [] 0 ws) q false
+  pub later : (q : ℕ) → i ≤ q → flag_at known q ≡ false
   pub rest : drop i (passes ars [] 0 ws) ≡ passes ars earlier left (drop i ws)
 
 pub passing-starts :
-    (n : ℕ) (ars ws known : List ℕ) → wordsWellFormed n ars 0 ws ≡ true → ((q : ℕ) → flagAt known q ≡ false) →
-    Passing n ars ws known known (replicate headCount 0) 0 0
+    (n : ℕ) (ars ws known : List ℕ) → words_well_formed n ars 0 ws ≡ true → ((q : ℕ) → flag_at known q ≡ false) →
+    Passing n ars ws known known (replicate head_count 0) 0 0
 unfolding unpassed
 passing-starts n ars ws known e none = record {
   earlier = [];
   inside = omega arith;
-  well-formed = e;
+  well_formed = e;
   size = refl;
   kept = refl;
   same = λ d. refl;
@@ -80,40 +80,40 @@ module _ {n : ℕ} {ars ws before known heads : List ℕ} {left i : ℕ} (s : Pa
   abbrev all : List Bool
   all = passes ars [] 0 ws
 
-  here : wordsWellFormed n ars left (w ∷ ws') ≡ true
-  here = rw (drop-step ws i l) at s.well-formed
+  here : words_well_formed n ars left (w ∷ ws') ≡ true
+  here = rw (drop_step ws i l) at s.well_formed
 
   next : drop i all ≡ passes ars s.earlier left (w ∷ ws')
-  next = s.rest ∙ ap (passes ars s.earlier left) (drop-step ws i l)
+  next = s.rest ∙ ap (passes ars s.earlier left) (drop_step ws i l)
 
   pub passing-relation : left ≡ 0 → w < n
   passing-relation e = ltb-true w n (at_row n ars w ws' (rw e at here)).0
 
   -- a relation's number is passed over
-  pub passing-row : left ≡ 0 → (after : List ℕ) → Flagged known i true after → Passing n ars ws before after heads (arityOf ars w) (i + 1)
+  pub passing-row : left ≡ 0 → (after : List ℕ) → Flagged known i true after → Passing n ars ws before after heads (arity_of ars w) (i + 1)
   unfolding passes
   passing-row e after f =
-      let more : drop i all ≡ true ∷ passes ars s.earlier (arityOf ars w) ws' = rw e at next in
+      let more : drop i all ≡ true ∷ passes ars s.earlier (arity_of ars w) ws' = rw e at next in
       record {
         earlier = s.earlier;
         inside = omega arith;
-        well-formed = (at_row n ars w ws' (rw e at here)).1;
+        well_formed = (at_row n ars w ws' (rw e at here)).1;
         size = f.size ∙ s.size;
         kept = f.kept ∙ s.kept;
         same = λ d. ap (listed d) (stood-next ws l f) ∙ s.same d;
         cached = cached-relation l s.cached f;
         past = past_next all f more s.past;
         later = later-next all f more s.later;
-        rest = rest-next all f more;
+        rest = rest_next all f more;
       }
 
   -- a cell is passed over if it stood earlier
   pub passing-cell :
-      (k : ℕ) → left ≡ suc k → (after heads' : List ℕ) → Flagged known i (listed w (stoodBefore known ws i)) after →
-      Cached heads' ws (stoodBefore after ws (i + 1)) (i + 1) → Passing n ars ws before after heads' k (i + 1)
+      (k : ℕ) → left ≡ suc k → (after heads' : List ℕ) → Flagged known i (listed w (stood_before known ws i)) after →
+      Cached heads' ws (stood_before after ws (i + 1)) (i + 1) → Passing n ars ws before after heads' k (i + 1)
   unfolding passes
   passing-cell k e after heads' f cache =
-      let vs = stoodBefore known ws i in
+      let vs = stood_before known ws i in
       let cells : drop i all ≡ listed w s.earlier ∷ passes ars (s.earlier ++ w ∷ []) k ws' = rw e at next in
       let more : drop i all ≡ listed w vs ∷ passes ars (s.earlier ++ w ∷ []) k ws' =
       cells ∙ ap (λ (b : Bool). b ∷ passes ars (s.earlier ++ w ∷ []) k ws') (sym (s.same w))
@@ -121,14 +121,14 @@ module _ {n : ℕ} {ars ws before known heads : List ℕ} {left i : ℕ} (s : Pa
       record {
         earlier = s.earlier ++ w ∷ [];
         inside = omega arith;
-        well-formed = (at-cell n ars k w ws' (rw e at here)).1;
+        well_formed = (at_cell n ars k w ws' (rw e at here)).1;
         size = f.size ∙ s.size;
         kept = f.kept ∙ s.kept;
         same = λ d. ap (listed d) (stood-next ws l f) ∙ same_more vs s.earlier w s.same (listed w vs) refl d;
         cached = cache;
         past = past_next all f more s.past;
         later = later-next all f more s.later;
-        rest = rest-next all f more;
+        rest = rest_next all f more;
       }
 
 -- at the end the heads are those of all cells
@@ -142,14 +142,14 @@ passing-cached {ws = ws} {known = known} {heads = heads} {i = i} s l =
 -- at the end the flags are those of the walk, and none stands after the words
 pub passing-ends :
     {n : ℕ} {ars ws before known heads : List ℕ} {left i : ℕ} → Passing n ars ws before known heads left i → length ws ≤ i →
-    (p : ℕ) → flagAt known p ≡ get_or (passes ars [] 0 ws) p false
+    (p : ℕ) → flag_at known p ≡ get_or (passes ars [] 0 ws) p false
 unfolding passes
 passing-ends {ars = ars} {ws} {before} {known} {heads} {left} {i} s l p = go (ltb p i) refl
   where
     none : drop i (passes ars [] 0 ws) ≡ []
     none = let e : i ≡ length ws = omega (arith, s.inside) in s.rest ∙ ap (passes ars s.earlier left) (ap (λ (k : ℕ). drop k ws) e ∙ drop-length ws)
 
-    go : (b : Bool) → ltb p i ≡ b → flagAt known p ≡ get_or (passes ars [] 0 ws) p false
+    go : (b : Bool) → ltb p i ≡ b → flag_at known p ≡ get_or (passes ars [] 0 ws) p false
     go true e = s.past p (ltb-true p i e)
     go false e =
         let m = ltb-false p i e in

@@ -12,98 +12,98 @@ use lib.ListN.{length, get_or, set, take, drop, length-set, drop_of_length-le}
 use lib.Seq.{take-suc, take-set-le, get_or-set_same, get_or-set_other, length-take-le}
 use Rattle.calculus.specs.Bit.{bit_at}
 use Rattle.calculus.specs.Listed.{listed}
-use Rattle.calculus.proofs.Bits.{bit-set}
-use Rattle.known.specs.Known.{flagsFrom, flagAt, unpassed}
-use Rattle.calculus.proofs.Lists.{drop-step}
-use Rattle.range.specs.Flagged.{Flagged, stoodBefore}
+use Rattle.calculus.proofs.Bits.{bit_set}
+use Rattle.known.specs.Known.{flags_from, flag_at, unpassed}
+use Rattle.calculus.proofs.Lists.{drop_step}
+use Rattle.range.specs.Flagged.{Flagged, stood_before}
 
 -- a flag is set
-module _ (known : List ℕ) (p : ℕ) (l : flagsFrom + p / 32 < length known) where
+module _ (known : List ℕ) (p : ℕ) (l : flags_from + p / 32 < length known) where
   abbrev word : ℕ
-  word = bit_or (get_or known (flagsFrom + p / 32) 0) (2 ^ (p % 32))
+  word = bit_or (get_or known (flags_from + p / 32) 0) (2 ^ (p % 32))
 
   abbrev flagged : List ℕ
-  flagged = set known (flagsFrom + p / 32) word
+  flagged = set known (flags_from + p / 32) word
 
-  set_other : (q : ℕ) → (q ≡ p → ⊥) → (b : Bool) → eqb (flagsFrom + q / 32) (flagsFrom + p / 32) ≡ b → flagAt flagged q ≡ flagAt known q
+  set_other : (q : ℕ) → (q ≡ p → ⊥) → (b : Bool) → eqb (flags_from + q / 32) (flags_from + p / 32) ≡ b → flag_at flagged q ≡ flag_at known q
   set_other q ne true e =
-      let same : flagsFrom + q / 32 ≡ flagsFrom + p / 32 = eqb-true _ _ e in
+      let same : flags_from + q / 32 ≡ flags_from + p / 32 = eqb-true _ _ e in
       let differ : (q % 32 ≡ p % 32 → ⊥) = λ h. ne (omega (arith, same, h)) in
       rw same
-      (ap (λ (x : ℕ). bit_at x (q % 32)) (get_or-set_same known (flagsFrom + p / 32) word 0 l) ∙
-      bit-set (get_or known (flagsFrom + p / 32) 0) (p % 32) (q % 32) ∙
-      ap (λ (b : Bool). b || bit_at (get_or known (flagsFrom + p / 32) 0) (q % 32)) (ne_eqb _ _ differ))
-  set_other q ne false e = ap (λ (x : ℕ). bit_at x (q % 32)) (get_or-set_other known (flagsFrom + p / 32) (flagsFrom + q / 32) word 0 (eqb-false _ _ e))
+      (ap (λ (x : ℕ). bit_at x (q % 32)) (get_or-set_same known (flags_from + p / 32) word 0 l) ∙
+      bit_set (get_or known (flags_from + p / 32) 0) (p % 32) (q % 32) ∙
+      ap (λ (b : Bool). b || bit_at (get_or known (flags_from + p / 32) 0) (q % 32)) (ne_eqb _ _ differ))
+  set_other q ne false e = ap (λ (x : ℕ). bit_at x (q % 32)) (get_or-set_other known (flags_from + p / 32) (flags_from + q / 32) word 0 (eqb-false _ _ e))
 
-  pub set-flag : Flagged known p true flagged
-  set-flag = record {
-    size = length-set known (flagsFrom + p / 32) word;
-    kept = take-set-le flagsFrom known (flagsFrom + p / 32) word (omega arith);
+  pub set_flag : Flagged known p true flagged
+  set_flag = record {
+    size = length-set known (flags_from + p / 32) word;
+    kept = take-set-le flags_from known (flags_from + p / 32) word (omega arith);
     here =
-        ap (λ (x : ℕ). bit_at x (p % 32)) (get_or-set_same known (flagsFrom + p / 32) word 0 l) ∙
-        bit-set (get_or known (flagsFrom + p / 32) 0) (p % 32) (p % 32) ∙
-        ap (λ (b : Bool). b || bit_at (get_or known (flagsFrom + p / 32) 0) (p % 32)) (eq-eqb (p % 32) (p % 32) refl);
-    other = λ q ne. set_other q ne (eqb (flagsFrom + q / 32) (flagsFrom + p / 32)) refl;
+        ap (λ (x : ℕ). bit_at x (p % 32)) (get_or-set_same known (flags_from + p / 32) word 0 l) ∙
+        bit_set (get_or known (flags_from + p / 32) 0) (p % 32) (p % 32) ∙
+        ap (λ (b : Bool). b || bit_at (get_or known (flags_from + p / 32) 0) (p % 32)) (eq-eqb (p % 32) (p % 32) refl);
+    other = λ q ne. set_other q ne (eqb (flags_from + q / 32) (flags_from + p / 32)) refl;
   }
 
 -- what is not passed over depends on the flags of its own places alone
-pub unpassed-same : (known after ws : List ℕ) (p : ℕ) → ((q : ℕ) → q < p + length ws → flagAt after q ≡ flagAt known q) → unpassed after p ws ≡ unpassed known p ws
+pub unpassed-same : (known after ws : List ℕ) (p : ℕ) → ((q : ℕ) → q < p + length ws → flag_at after q ≡ flag_at known q) → unpassed after p ws ≡ unpassed known p ws
 unfolding unpassed
 unpassed-same known after [] p same = refl
 unpassed-same known after (w ∷ ws) p same = rw (same p (omega arith), unpassed-same known after ws (suc p) (λ q l. same q (omega arith))) refl
 
-unpassed-snoc : (known ws : List ℕ) (w p : ℕ) → unpassed known p (ws ++ w ∷ []) ≡ unpassed known p ws ++ cond (flagAt known (p + length ws)) [] (w ∷ [])
+unpassed_snoc : (known ws : List ℕ) (w p : ℕ) → unpassed known p (ws ++ w ∷ []) ≡ unpassed known p ws ++ cond (flag_at known (p + length ws)) [] (w ∷ [])
 unfolding unpassed
-unpassed-snoc known [] w p = let e : p + 0 ≡ p = omega arith in rw e refl
-unpassed-snoc known (x ∷ ws) w p =
+unpassed_snoc known [] w p = let e : p + 0 ≡ p = omega arith in rw e refl
+unpassed_snoc known (x ∷ ws) w p =
     let e : p + suc (length ws) ≡ suc p + length ws = omega arith in
-    rw e (go (flagAt known p) (unpassed-snoc known ws w (suc p)))
+    rw e (go (flag_at known p) (unpassed_snoc known ws w (suc p)))
   where
     go :
-        (b : Bool) → unpassed known (suc p) (ws ++ w ∷ []) ≡ unpassed known (suc p) ws ++ cond (flagAt known (suc p + length ws)) [] (w ∷ []) →
+        (b : Bool) → unpassed known (suc p) (ws ++ w ∷ []) ≡ unpassed known (suc p) ws ++ cond (flag_at known (suc p + length ws)) [] (w ∷ []) →
         cond b (unpassed known (suc p) (ws ++ w ∷ [])) (x ∷ unpassed known (suc p) (ws ++ w ∷ [])) ≡
-        cond b (unpassed known (suc p) ws) (x ∷ unpassed known (suc p) ws) ++ cond (flagAt known (suc p + length ws)) [] (w ∷ [])
+        cond b (unpassed known (suc p) ws) (x ∷ unpassed known (suc p) ws) ++ cond (flag_at known (suc p + length ws)) [] (w ∷ [])
     go true ih = ih
     go false ih = ap (λ (l : List ℕ). x ∷ l) ih
 
 -- the cells that stood before place i + 1
 pub stood-next :
     {known after : List ℕ} {i : ℕ} {b : Bool} (ws : List ℕ) → i < length ws → Flagged known i b after →
-    stoodBefore after ws (i + 1) ≡ cond b (stoodBefore known ws i) (stoodBefore known ws i ++ get_or ws i 0 ∷ [])
+    stood_before after ws (i + 1) ≡ cond b (stood_before known ws i) (stood_before known ws i ++ get_or ws i 0 ∷ [])
 stood-next {known} {after} {i} {b} ws l f =
     let long : length (take i ws) ≡ i = length-take-le i ws (omega arith) in
     let at : 0 + length (take i ws) ≡ i = omega (arith, long) in
-    ap (λ (k : ℕ). unpassed after 0 (take k ws)) (add-one i) ∙ ap (unpassed after 0) (take-suc ws i 0 l) ∙ unpassed-snoc after (take i ws) (get_or ws i 0) 0 ∙
+    ap (λ (k : ℕ). unpassed after 0 (take k ws)) (add-one i) ∙ ap (unpassed after 0) (take-suc ws i 0 l) ∙ unpassed_snoc after (take i ws) (get_or ws i 0) 0 ∙
     rw (at, unpassed-same known after (take i ws) 0 (λ q m. f.other q (λ e. omega (arith, e, m, long))), f.here) (go b)
   where
-    go : (t : Bool) → stoodBefore known ws i ++ cond t [] (get_or ws i 0 ∷ []) ≡ cond t (stoodBefore known ws i) (stoodBefore known ws i ++ get_or ws i 0 ∷ [])
-    go true = append-nil (stoodBefore known ws i)
+    go : (t : Bool) → stood_before known ws i ++ cond t [] (get_or ws i 0 ∷ []) ≡ cond t (stood_before known ws i) (stood_before known ws i ++ get_or ws i 0 ∷ [])
+    go true = append-nil (stood_before known ws i)
     go false = refl
 
 -- a scan for a cell among the words that are not passed over, at word j; the first word has place b
 module _ (known : List ℕ) (b : ℕ) (ws : List ℕ) (cell j : ℕ) where
-  at-word : j < length ws → unpassed known (b + j) (drop j ws) ≡ cond (flagAt known (b + j)) (unpassed known (b + (j + 1)) (drop (j + 1) ws)) (get_or ws j 0 ∷ unpassed known (b + (j + 1)) (drop (j + 1) ws))
+  at_word : j < length ws → unpassed known (b + j) (drop j ws) ≡ cond (flag_at known (b + j)) (unpassed known (b + (j + 1)) (drop (j + 1) ws)) (get_or ws j 0 ∷ unpassed known (b + (j + 1)) (drop (j + 1) ws))
   unfolding unpassed
-  at-word l =
+  at_word l =
       let e : suc (b + j) ≡ b + (j + 1) = omega arith in
-      ap (unpassed known (b + j)) (drop-step ws j l) ∙ rw e refl
+      ap (unpassed known (b + j)) (drop_step ws j l) ∙ rw e refl
 
-  pub scan-end : length ws ≤ j → listed cell (unpassed known (b + j) (drop j ws)) ≡ false
+  pub scan_end : length ws ≤ j → listed cell (unpassed known (b + j) (drop j ws)) ≡ false
   unfolding listed unpassed
-  scan-end l = ap (λ (vs : List ℕ). listed cell (unpassed known (b + j) vs)) (drop_of_length-le ws {i = j} l)
+  scan_end l = ap (λ (vs : List ℕ). listed cell (unpassed known (b + j) vs)) (drop_of_length-le ws {i = j} l)
 
   module _ (l : j < length ws) where
-    pub scan-passed : flagAt known (b + j) ≡ true → listed cell (unpassed known (b + j) (drop j ws)) ≡ listed cell (unpassed known (b + (j + 1)) (drop (j + 1) ws))
-    scan-passed e = ap (listed cell) (at-word l) ∙ rw e refl
+    pub scan_passed : flag_at known (b + j) ≡ true → listed cell (unpassed known (b + j) (drop j ws)) ≡ listed cell (unpassed known (b + (j + 1)) (drop (j + 1) ws))
+    scan_passed e = ap (listed cell) (at_word l) ∙ rw e refl
 
-    pub scan-here : get_or ws j 0 ≡ cell → flagAt known (b + j) ≡ false → listed cell (unpassed known (b + j) (drop j ws)) ≡ true
+    pub scan_here : get_or ws j 0 ≡ cell → flag_at known (b + j) ≡ false → listed cell (unpassed known (b + j) (drop j ws)) ≡ true
     unfolding listed
-    scan-here is e = ap (listed cell) (at-word l) ∙ rw (e, eq-eqb (get_or ws j 0) cell is) refl
+    scan_here is e = ap (listed cell) (at_word l) ∙ rw (e, eq-eqb (get_or ws j 0) cell is) refl
 
-    pub scan-other : (get_or ws j 0 ≡ cell → ⊥) → listed cell (unpassed known (b + j) (drop j ws)) ≡ listed cell (unpassed known (b + (j + 1)) (drop (j + 1) ws))
+    pub scan_other : (get_or ws j 0 ≡ cell → ⊥) → listed cell (unpassed known (b + j) (drop j ws)) ≡ listed cell (unpassed known (b + (j + 1)) (drop (j + 1) ws))
     unfolding listed
-    scan-other ne = go (flagAt known (b + j)) refl
+    scan_other ne = go (flag_at known (b + j)) refl
       where
-        go : (t : Bool) → flagAt known (b + j) ≡ t → listed cell (unpassed known (b + j) (drop j ws)) ≡ listed cell (unpassed known (b + (j + 1)) (drop (j + 1) ws))
-        go true e = scan-passed e
-        go false e = ap (listed cell) (at-word l) ∙ rw (e, ne_eqb (get_or ws j 0) cell ne) refl
+        go : (t : Bool) → flag_at known (b + j) ≡ t → listed cell (unpassed known (b + j) (drop j ws)) ≡ listed cell (unpassed known (b + (j + 1)) (drop (j + 1) ws))
+        go true e = scan_passed e
+        go false e = ap (listed cell) (at_word l) ∙ rw (e, ne_eqb (get_or ws j 0) cell ne) refl

@@ -7,23 +7,23 @@ use native.Mathlib.Omega.{arith}
 use borrow.Author.Tests.{eqb-true}
 use lib.Dec.{eqb}
 use lib.ListN.{get_or, take}
-use Rattle.calculus.specs.Domain.{listing, rangeOver}
+use Rattle.calculus.specs.Domain.{listing, range_over}
 use Rattle.calculus.specs.Listed.{listed}
 use Rattle.calculus.specs.Row.{Row, cells_of}
 use Rattle.calculus.proofs.Listing.{listing-append, listing-distinct}
-use Rattle.instance.specs.Header.{arityOf}
+use Rattle.instance.specs.Header.{arity_of}
 use Rattle.instance.specs.Rows.{rows_from}
-use Rattle.known.specs.Known.{flagAt, unpassed}
-use Rattle.range.specs.Walked.{walked, walkedRange, passes}
+use Rattle.known.specs.Known.{flag_at, unpassed}
+use Rattle.range.specs.Walked.{walked, walked_range, passes}
 
 -- two lists of the same cells
 abbrev pub SameCells : List ℕ → List ℕ → Type 0
 SameCells xs ys = (d : ℕ) → listed d xs ≡ listed d ys
 
-pub listed-snoc : (d c : ℕ) (xs : List ℕ) → listed d (xs ++ c ∷ []) ≡ (eqb c d || listed d xs)
+pub listed_snoc : (d c : ℕ) (xs : List ℕ) → listed d (xs ++ c ∷ []) ≡ (eqb c d || listed d xs)
 unfolding listed
-listed-snoc d c [] = refl
-listed-snoc d c (x ∷ xs) = ap (λ (b : Bool). eqb x d || b) (listed-snoc d c xs) ∙ go (eqb x d) (eqb c d)
+listed_snoc d c [] = refl
+listed_snoc d c (x ∷ xs) = ap (λ (b : Bool). eqb x d || b) (listed_snoc d c xs) ∙ go (eqb x d) (eqb c d)
   where
     go : (a b : Bool) → (a || (b || listed d xs)) ≡ (b || (a || listed d xs))
     go true true = refl
@@ -32,8 +32,8 @@ listed-snoc d c (x ∷ xs) = ap (λ (b : Bool). eqb x d || b) (listed-snoc d c x
 
 -- a further cell, which one list takes in only if it is new there
 pub same_more : (xs ys : List ℕ) (c : ℕ) → SameCells xs ys → (b : Bool) → listed c xs ≡ b → SameCells (cond b xs (xs ++ c ∷ [])) (ys ++ c ∷ [])
-same_more xs ys c same false e d = listed-snoc d c xs ∙ ap (λ (b : Bool). eqb c d || b) (same d) ∙ sym (listed-snoc d c ys)
-same_more xs ys c same true e d = go (eqb c d) refl ∙ sym (listed-snoc d c ys)
+same_more xs ys c same false e d = listed_snoc d c xs ∙ ap (λ (b : Bool). eqb c d || b) (same d) ∙ sym (listed_snoc d c ys)
+same_more xs ys c same true e d = go (eqb c d) refl ∙ sym (listed_snoc d c ys)
   where
     go : (b : Bool) → eqb c d ≡ b → listed d xs ≡ (b || listed d ys)
     go true p = ap (λ (x : ℕ). listed x xs) (sym (eqb-true c d p)) ∙ e
@@ -55,8 +55,8 @@ walked-listing : (cs : List ℕ) → listing [] cs ≡ walked [] cs
 walked-listing cs = listing-walked [] [] cs (λ d. refl)
 
 -- what a walk does not pass over is the range
-pub walked-range : (named : List ℕ) (rs : List Row) → walkedRange named rs ≡ rangeOver named rs
-walked-range named rs = sym (walked-listing (cells_of rs ++ named)) ∙ listing-distinct (cells_of rs ++ named)
+pub walked_range_lem : (named : List ℕ) (rs : List Row) → walked_range named rs ≡ range_over named rs
+walked_range_lem named rs = sym (walked-listing (cells_of rs ++ named)) ∙ listing-distinct (cells_of rs ++ named)
 
 -- a walk that goes on lists what is new
 pub walked_more : (cs ds : List ℕ) → listing (walked [] cs) ds ≡ walked [] (cs ++ ds)
@@ -64,7 +64,7 @@ walked_more cs ds = ap (λ (l : List ℕ). listing l ds) (sym (walked-listing cs
 
 -- from place p on, with `left` cells of a row still to come
 walk_from :
-    (ars known earlier : List ℕ) (left p : ℕ) (ws : List ℕ) → ((q : ℕ) → flagAt known (p + q) ≡ get_or (passes ars earlier left ws) q false) →
+    (ars known earlier : List ℕ) (left p : ℕ) (ws : List ℕ) → ((q : ℕ) → flag_at known (p + q) ≡ get_or (passes ars earlier left ws) q false) →
     unpassed known p ws ≡ walked earlier (take left ws ++ cells_of (rows_from ars left ws))
 unfolding unpassed walked passes rows_from cells_of
 walk_from ars known earlier zero p [] flags = refl
@@ -72,7 +72,7 @@ walk_from ars known earlier (suc left) p [] flags = refl
 walk_from ars known earlier zero p (w ∷ ws) flags =
     let first : p + 0 ≡ p = omega arith in
     rw (rw first at (flags 0))
-    (walk_from ars known earlier (arityOf ars w) (suc p) ws (λ q. let e : p + suc q ≡ suc p + q = omega arith in rw e at (flags (suc q))))
+    (walk_from ars known earlier (arity_of ars w) (suc p) ws (λ q. let e : p + suc q ≡ suc p + q = omega arith in rw e at (flags (suc q))))
 walk_from ars known earlier (suc left) p (w ∷ ws) flags =
     let first : p + 0 ≡ p = omega arith in
     rw (
@@ -82,6 +82,6 @@ walk_from ars known earlier (suc left) p (w ∷ ws) flags =
 
 -- what the flags leave of the words is what the walk over the rows finds
 pub unpassed-walked :
-    (ars ws known : List ℕ) → ((p : ℕ) → flagAt known p ≡ get_or (passes ars [] 0 ws) p false) → unpassed known 0 ws ≡ walked [] (cells_of (rows_from ars 0 ws))
+    (ars ws known : List ℕ) → ((p : ℕ) → flag_at known p ≡ get_or (passes ars [] 0 ws) p false) → unpassed known 0 ws ≡ walked [] (cells_of (rows_from ars 0 ws))
 unpassed-walked ars ws known flags =
-    walk_from ars known [] 0 0 ws (λ q. let e : 0 + q ≡ q = omega arith in ap (flagAt known) e ∙ flags q)
+    walk_from ars known [] 0 0 ws (λ q. let e : 0 + q ≡ q = omega arith in ap (flag_at known) e ∙ flags q)

@@ -1,15 +1,15 @@
 // Passing over each word of the question that is no inked term, and each inked term that stood earlier, in the instance
 // or in the question.
 ghost use Rattle.std.specs.Prelude.{◌≡◌, false, ◌&&◌, not, ◌++◌, ℕ, ◌+◌, ◌-◌, ◌*◌, ◌≤◌, ◌<◌, leb, ltb, length, take, drop, get_or};
-ghost use Rattle.calculus.specs.Cell.{isConstant};
+ghost use Rattle.calculus.specs.Cell.{is_constant};
 ghost use Rattle.calculus.specs.Listed.{listed};
 ghost use Rattle.instance.specs.InstanceWellFormed.{InstanceOf};
 ghost use Rattle.instance.specs.Rows.{rows_from};
-ghost use Rattle.known.specs.Known.{knownWords, maxQueryWords, flagsFrom, aritiesIn, flagAt, unpassed};
-ghost use Rattle.query.specs.Words.{nodeWords};
-ghost use Rattle.query.specs.Named.{constantsAmong, named_in, HasTerms};
-ghost use Rattle.range.specs.Flagged.{stoodBefore, Asking, Passed};
-ghost use Rattle.range.specs.Walked.{walkedRange};
+ghost use Rattle.known.specs.Known.{known_words, max_query_words, flags_from, arities_in, flag_at, unpassed};
+ghost use Rattle.query.specs.Words.{node_words};
+ghost use Rattle.query.specs.Named.{constants_among, named_in, HasTerms};
+ghost use Rattle.range.specs.Flagged.{stood_before, Asking, Passed};
+ghost use Rattle.range.specs.Walked.{walked_range};
 
 use super::pass::{pass, pass_cells, stood, stood_earlier};
 use calculus::cell::CONSTANTS;
@@ -27,8 +27,8 @@ fn is_new(
     term: bool,
 ) -> bool
     requires { Asking words.now query.now known.now heads.now × (place < length query.now) }
-    ensures { result ≡ (term && (isConstant (get_or query.now place 0)
-        && not (listed (get_or query.now place 0) (stoodBefore known.now
+    ensures { result ≡ (term && (is_constant (get_or query.now place 0)
+        && not (listed (get_or query.now place 0) (stood_before known.now
         (words.now ++ query.now) (length words.now + place))))) }
 {
     if !term {
@@ -67,12 +67,12 @@ fn pass_node(
     end: usize,
 )
     requires asking { Asking words.now query.now known.old heads.now
-        × ((q : ℕ) → length words.now + first ≤ q → flagAt known.old q ≡ false) }
-    requires first_le_start { (first ≤ start) × (start ≤ end) × (end ≤ first + nodeWords)
-        × (first + nodeWords ≤ length query.now) }
+        × ((q : ℕ) → length words.now + first ≤ q → flag_at known.old q ≡ false) }
+    requires first_le_start { (first ≤ start) × (start ≤ end) × (end ≤ first + node_words)
+        × (first + node_words ≤ length query.now) }
     ensures { Passed words.now query.now known.old first
-        (constantsAmong (take (end - start) (drop start query.now))) known.new
-        (first + nodeWords) }
+        (constants_among (take (end - start) (drop start query.now))) known.new
+        (first + node_words) }
 {
     let mut place = first;
     while place < first + NODE_WORDS {
@@ -93,7 +93,7 @@ fn pass_terms(
     heads: &[u16; 512],
 )
     requires { Asking words.now query.now known.old heads.now
-        × ((q : ℕ) → length words.now ≤ q → flagAt known.old q ≡ false) × HasTerms arities.now query.now }
+        × ((q : ℕ) → length words.now ≤ q → flag_at known.old q ≡ false) × HasTerms arities.now query.now }
     ensures { Passed words.now query.now known.old 0
         (named_in arities.now query.now) known.new (length query.now) }
 {
@@ -109,13 +109,13 @@ fn pass_terms(
 // Sets the flag of each place that a walk over the instance's words and then the question's passes over. The promise
 // speaks of the values that are left and their order, not of which place of equal ones is left.
 pub fn pass_over(words: &[u32], query: &[u32], arities: &[u32; 8], known: &mut [u32; 170])
-    requires instance_of { InstanceOf (aritiesIn known.old) words.now × HasTerms arities.now query.now
-        × (aritiesIn known.old ≡ arities.now) × (length query.now ≤ maxQueryWords) }
-    requires known_len { (length known.old ≡ knownWords) × ((p : ℕ) → flagAt known.old p ≡ false) }
-    ensures kept { (length known.new ≡ knownWords)
-        × (take flagsFrom known.new ≡ take flagsFrom known.old) }
+    requires instance_of { InstanceOf (arities_in known.old) words.now × HasTerms arities.now query.now
+        × (arities_in known.old ≡ arities.now) × (length query.now ≤ max_query_words) }
+    requires known_len { (length known.old ≡ known_words) × ((p : ℕ) → flag_at known.old p ≡ false) }
+    ensures kept { (length known.new ≡ known_words)
+        × (take flags_from known.new ≡ take flags_from known.old) }
     ensures walked { unpassed known.new 0 (words.now ++ query.now)
-        ≡ walkedRange (named_in arities.now query.now)
+        ≡ walked_range (named_in arities.now query.now)
         (rows_from arities.now 0 words.now) }
 {
     let mut heads = [0u16; 512];

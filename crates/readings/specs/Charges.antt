@@ -14,8 +14,8 @@ abbrev pairs : List ℕ
 pairs = 0 ∷ 5 ∷ 6 ∷ 0 ∷ 5 ∷ m1 ∷ 0 ∷ 5 ∷ 7 ∷ []
 
 -- "every x in relation 0 or in relation 1"
-abbrev everyValue : List (List ℕ)
-everyValue = (7 ∷ 0 ∷ 1 ∷ []) ∷ (5 ∷ 2 ∷ 3 ∷ []) ∷ (1 ∷ 0 ∷ x ∷ []) ∷ (1 ∷ 1 ∷ x ∷ []) ∷ []
+abbrev every_value : List (List ℕ)
+every_value = (7 ∷ 0 ∷ 1 ∷ []) ∷ (5 ∷ 2 ∷ 3 ∷ []) ∷ (1 ∷ 0 ∷ x ∷ []) ∷ (1 ∷ 1 ∷ x ∷ []) ∷ []
 
 abbrev within : ℕ → Case → Case
 within budget c = record { header = c.header; words = c.words; query = c.query; candidate = c.candidate; fills = c.fills; budget = budget }
@@ -46,7 +46,7 @@ charges =
     -- rows count as a whole: (5, 6) agrees with (5, 7) in a column, and (5, m1) unifies with it
     ∷ asks (case (2 ∷ []) pairs ((1 ∷ 0 ∷ x ∷ 7 ∷ []) ∷ []) (5 ∷ []) []) True 4
     -- 2 for 5, 6 + 2 for 7, 3 for 6, 4 for m1 and 6 for 9
-    ∷ asks (case (1 ∷ 1 ∷ []) words everyValue [] []) True 23
+    ∷ asks (case (1 ∷ 1 ∷ []) words every_value [] []) True 23
     -- a budget that covers the first row alone
     ∷ asks (within 2 (stand words 0 5 [])) True 2
     ∷ []

@@ -7,60 +7,60 @@ use native.Mathlib.Omega.{arith}
 use borrow.Author.Tests.{le-leb, lt-leb}
 use lib.ListN.{length}
 use Rattle.calculus.specs.declared.truth.Truth.{Truth}
-use Rattle.calculus.specs.Refusal.{output-too-short}
+use Rattle.calculus.specs.Refusal.{output_too_short}
 use Rattle.calculus.specs.Eval.{Outcome}
-use Rattle.calculus.specs.Model.{Fill, afterFills, run}
-use Rattle.instance.specs.Header.{maxColumns}
+use Rattle.calculus.specs.Model.{Fill, after_fills, run}
+use Rattle.instance.specs.Header.{max_columns}
 use Rattle.instance.specs.Sound.{sound}
-use Rattle.instance.specs.Run.{filledWords, modelOf}
-use Rattle.instance.proofs.Run.{fills-follow-model}
+use Rattle.instance.specs.Run.{filled_words, model_of}
+use Rattle.instance.proofs.Run.{fills_follow_model}
 use Rattle.query.proofs.Passed as passed
 use Rattle.answer.specs.declared.asked.Asked.{Asked}
 use Rattle.answer.specs.declared.asked.Asked.TheVariants as asked
 use Rattle.answer.specs.Ask.{ask}
-use Rattle.answer.specs.Ways.{lent_by, leftBy}
-use Rattle.answer.proofs.Told.{Of, tells-verdict, ask-outcome}
-use Rattle.answer.proofs.RerunLaws.{verdict-asked, not-refused, demand-three}
+use Rattle.answer.specs.Ways.{lent_by, left_by}
+use Rattle.answer.proofs.Told.{Of, tells_verdict, ask_outcome}
+use Rattle.answer.proofs.RerunLaws.{verdict-asked, not_refused, demand_three}
 use Rattle.rerun.specs.declared.reran.Reran.{Reran}
 use Rattle.rerun.specs.declared.reran.Reran.TheVariants.{Refused}
-use Rattle.rerun.specs.Fills.{Filled, filledWith, fillLeaves, fillsTold, accountsTold, fedAll, stored}
-use Rattle.rerun.specs.Rerun.{bothRuns, first_of, second_of, Given, wanted, start, end, modelWords, runA, runB, hasAnswers, begun, reran}
-use Rattle.rerun.specs.Rerun.{reranWords, reranCandidate, reranAnswers, reranLog, reranUsed, reranBuffer, reranBuffer2, Claim, TellsRuns, Reruns}
+use Rattle.rerun.specs.Fills.{Filled, filled_with, fill_leaves, fills_told, accounts_told, fed_all, stored}
+use Rattle.rerun.specs.Rerun.{both_runs, first_of, second_of, Given, wanted, start, end, model_words, run_a, run_b, has_answers, begun, reran}
+use Rattle.rerun.specs.Rerun.{reran_words, reran_candidate, reran_answers, reran_log, reran_used, reran_buffer, reran_buffer2, Claim, TellsRuns, Reruns}
 use Rattle.rerun.proofs.ModelLaws.{Kept, fed-run, model-kept, words-kept}
 
-pub first-both : (t : Truth) (n : ℕ) (b : Asked) → first_of (bothRuns (asked.Verdict t n) b) ≡ asked.Verdict t n
-first-both t n (asked.Verdict u k) = refl
-first-both t n (asked.Refused r) = refl
+pub first_both : (t : Truth) (n : ℕ) (b : Asked) → first_of (both_runs (asked.Verdict t n) b) ≡ asked.Verdict t n
+first_both t n (asked.Verdict u k) = refl
+first_both t n (asked.Refused r) = refl
 
-second-both : (t : Truth) (n : ℕ) (b : Asked) → second_of (bothRuns (asked.Verdict t n) b) ≡ b
-second-both t n (asked.Verdict u k) = refl
-second-both t n (asked.Refused r) = refl
+second_both : (t : Truth) (n : ℕ) (b : Asked) → second_of (both_runs (asked.Verdict t n) b) ≡ b
+second_both t n (asked.Verdict u k) = refl
+second_both t n (asked.Refused r) = refl
 
 -- a verdict in a rerun's answer is that of the run's outcome
-first-of : {o : Outcome} (b : Bool) (p q : Asked) → Of o p → Of o (first_of (cond b (bothRuns p q) (Refused output-too-short)))
-first-of true (asked.Verdict u k) (asked.Verdict v l) of t n e = of t n e
-first-of true (asked.Verdict u k) (asked.Refused r) of t n e = of t n e
-first-of true (asked.Refused r) q of t n e = absurd (not-refused e)
-first-of false p q of t n e = absurd (not-refused e)
+first_of_lem : {o : Outcome} (b : Bool) (p q : Asked) → Of o p → Of o (first_of (cond b (both_runs p q) (Refused output_too_short)))
+first_of_lem true (asked.Verdict u k) (asked.Verdict v l) of t n e = of t n e
+first_of_lem true (asked.Verdict u k) (asked.Refused r) of t n e = of t n e
+first_of_lem true (asked.Refused r) q of t n e = absurd (not_refused e)
+first_of_lem false p q of t n e = absurd (not_refused e)
 
-second-of : {o : Outcome} (b : Bool) (p q : Asked) → Of o q → Of o (second_of (cond b (bothRuns p q) (Refused output-too-short)))
-second-of true (asked.Verdict u k) (asked.Verdict v l) of t n e = of t n e
-second-of true (asked.Verdict u k) (asked.Refused r) of t n e = absurd (not-refused e)
-second-of true (asked.Refused r) q of t n e = absurd (not-refused e)
-second-of false p q of t n e = absurd (not-refused e)
+second_of_lem : {o : Outcome} (b : Bool) (p q : Asked) → Of o q → Of o (second_of (cond b (both_runs p q) (Refused output_too_short)))
+second_of_lem true (asked.Verdict u k) (asked.Verdict v l) of t n e = of t n e
+second_of_lem true (asked.Verdict u k) (asked.Refused r) of t n e = absurd (not_refused e)
+second_of_lem true (asked.Refused r) q of t n e = absurd (not_refused e)
+second_of_lem false p q of t n e = absurd (not_refused e)
 
 module _ (g : Given) (ws : List ℕ) where
   -- if the answer is the definition's, it has the outcomes of both runs
   told : {r : Reran} → r ≡ reran g ws → TellsRuns g ws r
   unfolding reran
   told e = record {
-    first = tells-verdict _ (ap first_of e) (first-of (hasAnswers g ws) (runA g ws) (runB g ws) (ask-outcome g.header ws g.query g.candidate (lent_by g.way g.buffer) g.budget));
-    second = tells-verdict _ (ap second_of e) (second-of (hasAnswers g ws) (runA g ws) (runB g ws) (ask-outcome g.header _ g.query _ (lent_by g.way g.buffer2) g.budget2));
+    first = tells_verdict _ (ap first_of e) (first_of_lem (has_answers g ws) (run_a g ws) (run_b g ws) (ask_outcome g.header ws g.query g.candidate (lent_by g.way g.buffer) g.budget));
+    second = tells_verdict _ (ap second_of e) (second_of_lem (has_answers g ws) (run_a g ws) (run_b g ws) (ask_outcome g.header _ g.query _ (lent_by g.way g.buffer2) g.budget2));
   }
 
   pub no_place : length g.answers < length g.fills →
-      Reruns g ws (Refused output-too-short) ws g.candidate g.buffer g.answers g.log g.used g.buffer2
-  unfolding begun reran reranWords reranCandidate reranAnswers reranLog reranUsed reranBuffer reranBuffer2
+      Reruns g ws (Refused output_too_short) ws g.candidate g.buffer g.answers g.log g.used g.buffer2
+  unfolding begun reran reran_words reran_candidate reran_answers reran_log reran_used reran_buffer reran_buffer2
   no_place l =
       let e = lt-leb (length g.fills) (length g.answers) l in
       record {
@@ -77,10 +77,10 @@ module _ (g : Given) (ws : List ℕ) where
       }
 
   pub refused :
-      length g.fills ≤ length g.answers → (r : ℕ) → asked.Refused r ≡ runA g ws →
-      (buffer : List ℕ) → buffer ≡ leftBy g.way g.header ws g.query g.candidate g.buffer →
+      length g.fills ≤ length g.answers → (r : ℕ) → asked.Refused r ≡ run_a g ws →
+      (buffer : List ℕ) → buffer ≡ left_by g.way g.header ws g.query g.candidate g.buffer →
       Reruns g ws (Refused r) ws g.candidate buffer g.answers g.log g.used g.buffer2
-  unfolding begun reran reranWords reranCandidate reranAnswers reranLog reranUsed reranBuffer reranBuffer2
+  unfolding begun reran reran_words reran_candidate reran_answers reran_log reran_used reran_buffer reran_buffer2
   refused l r e buffer is-listed =
       let p = le-leb (length g.fills) (length g.answers) l in
       let q = sym e in
@@ -93,77 +93,77 @@ module _ (g : Given) (ws : List ℕ) where
         log = rw (p, q) refl;
         used = rw (p, q) refl;
         buffer2 = rw (p, q) refl;
-        claim = λ l' m b t n v. absurd (not-refused (e ∙ v));
+        claim = λ l' m b t n v. absurd (not_refused (e ∙ v));
         told = told (rw (p, q) refl);
       }
 
   -- a question that got a verdict passed its check
-  pub few-cells : (t : Truth) (n : ℕ) → asked.Verdict t n ≡ runA g ws → length g.candidate ≤ maxColumns
+  pub few-cells : (t : Truth) (n : ℕ) → asked.Verdict t n ≡ run_a g ws → length g.candidate ≤ max_columns
   few-cells t n e =
       let a = (verdict-asked g.header ws g.query g.candidate (lent_by g.way g.buffer) g.budget t n (sym e)).0 in
       passed.few-cells g.header.relations g.header.arities g.query g.candidate a.right a.scopes a.passes
 
   -- both runs, run B on what the fills left
   module _
-      (l : length g.fills ≤ length g.answers) (t : Truth) (n : ℕ) (e : asked.Verdict t n ≡ runA g ws)
+      (l : length g.fills ≤ length g.answers) (t : Truth) (n : ℕ) (e : asked.Verdict t n ≡ run_a g ws)
       (buffer ws' candidate' out' log' : List ℕ) (used' : ℕ) (buffer2 : List ℕ) (b : Asked)
-      (is-buffer : buffer ≡ leftBy g.way g.header ws g.query g.candidate g.buffer)
-      (is-left : filledWith ws' candidate' log' used' ≡ afterFills (fillLeaves g.header) (wanted g ws) (filledWith ws g.candidate g.log g.used))
-      (is-stored : out' ≡ stored (fillsTold g.header (wanted g ws) (filledWith ws g.candidate g.log g.used)) g.answers)
+      (is-buffer : buffer ≡ left_by g.way g.header ws g.query g.candidate g.buffer)
+      (is-left : filled_with ws' candidate' log' used' ≡ after_fills (fill_leaves g.header) (wanted g ws) (filled_with ws g.candidate g.log g.used))
+      (is-stored : out' ≡ stored (fills_told g.header (wanted g ws) (filled_with ws g.candidate g.log g.used)) g.answers)
       (is-asked : b ≡ ask g.header ws' g.query candidate' (lent_by g.way g.buffer2) g.budget2)
-      (is-buffer2 : buffer2 ≡ leftBy g.way g.header ws' g.query candidate' g.buffer2)
+      (is-buffer2 : buffer2 ≡ left_by g.way g.header ws' g.query candidate' g.buffer2)
     where
       abbrev before : Filled
-      before = filledWith ws g.candidate g.log g.used
+      before = filled_with ws g.candidate g.log g.used
 
-      is-sound : sound g.header ws ≡ true
-      is-sound = (verdict-asked g.header ws g.query g.candidate (lent_by g.way g.buffer) g.budget t n (sym e)).0.is-sound
+      is_sound : sound g.header ws ≡ true
+      is_sound = (verdict-asked g.header ws g.query g.candidate (lent_by g.way g.buffer) g.budget t n (sym e)).0.is_sound
 
-      kept : (fillsTold g.header (wanted g ws) before ≡ accountsTold (wanted g ws) (start g ws)) × Kept g.header ws (afterFills (fillLeaves g.header) (wanted g ws) before) (end g ws)
-      kept = model-kept g.header ws g.candidate g.log g.used (wanted g ws) is-sound
+      kept : (fills_told g.header (wanted g ws) before ≡ accounts_told (wanted g ws) (start g ws)) × Kept g.header ws (after_fills (fill_leaves g.header) (wanted g ws) before) (end g ws)
+      kept = model-kept g.header ws g.candidate g.log g.used (wanted g ws) is_sound
 
-      model-words : ws' ≡ modelWords g ws
-      model-words = ap (λ (s : Filled). s.words) is-left ∙ words-kept g.header ws g.candidate g.log g.used (wanted g ws) is-sound
+      model_words_lem : ws' ≡ model_words g ws
+      model_words_lem = ap (λ (s : Filled). s.words) is-left ∙ words-kept g.header ws g.candidate g.log g.used (wanted g ws) is_sound
 
       model-candidate : candidate' ≡ (end g ws).model.candidate
       model-candidate = ap (λ (s : Filled). s.candidate) is-left ∙ kept.1.candidate
 
-      is_b : b ≡ runB g ws
-      is_b = rw (← model-words, ← model-candidate) is-asked
+      is_b : b ≡ run_b g ws
+      is_b = rw (← model_words_lem, ← model-candidate) is-asked
 
       abbrev fs : List Fill
-      fs = fedAll (wanted g ws) (start g ws)
+      fs = fed_all (wanted g ws) (start g ws)
 
       -- the model is the one that is fed the fills, and so demand 3 holds of it
-      model-fed : (end g ws).model ≡ run fs (modelOf g.header ws g.candidate)
+      model-fed : (end g ws).model ≡ run fs (model_of g.header ws g.candidate)
       model-fed = fed-run (wanted g ws) (start g ws)
 
-      words-fed : ws' ≡ filledWords g.header fs ws
-      words-fed = model-words ∙ rw model-fed (sym (fills-follow-model g.header fs ws g.candidate is-sound).words)
+      words-fed : ws' ≡ filled_words g.header fs ws
+      words-fed = model_words_lem ∙ rw model-fed (sym (fills_follow_model g.header fs ws g.candidate is_sound).words)
 
-      claimed : Claim g ws (bothRuns (asked.Verdict t n) b)
+      claimed : Claim g ws (both_runs (asked.Verdict t n) b)
       claimed l' longer larger u k v =
-          let d = demand-three g.header ws g.query g.candidate (lent_by g.way g.buffer) g.budget fs (lent_by g.way g.buffer2) g.budget2 longer larger u k v in
-          let is-second : b ≡ ask g.header (filledWords g.header fs ws) g.query (run fs (modelOf g.header ws g.candidate)).candidate (lent_by g.way g.buffer2) g.budget2 =
+          let d = demand_three g.header ws g.query g.candidate (lent_by g.way g.buffer) g.budget fs (lent_by g.way g.buffer2) g.budget2 longer larger u k v in
+          let is-second : b ≡ ask g.header (filled_words g.header fs ws) g.query (run fs (model_of g.header ws g.candidate)).candidate (lent_by g.way g.buffer2) g.budget2 =
           rw (is-asked, words-fed, model-candidate, model-fed) refl
           in
-          (first-both t n b ∙ e ∙ v, rw (second-both t n b, is-second) d)
+          (first_both t n b ∙ e ∙ v, rw (second_both t n b, is-second) d)
 
-      pub both-asked : Reruns g ws (bothRuns (asked.Verdict t n) b) ws' candidate' buffer out' log' used' buffer2
-      unfolding begun reran reranWords reranCandidate reranAnswers reranLog reranUsed reranBuffer reranBuffer2
-      both-asked =
+      pub both_asked : Reruns g ws (both_runs (asked.Verdict t n) b) ws' candidate' buffer out' log' used' buffer2
+      unfolding begun reran reran_words reran_candidate reran_answers reran_log reran_used reran_buffer reran_buffer2
+      both_asked =
           let p = le-leb (length g.fills) (length g.answers) l in
           let q = sym e in
-          let is : bothRuns (asked.Verdict t n) b ≡ bothRuns (asked.Verdict t n) (runB g ws) = ap (bothRuns (asked.Verdict t n)) is_b in
+          let is : both_runs (asked.Verdict t n) b ≡ both_runs (asked.Verdict t n) (run_b g ws) = ap (both_runs (asked.Verdict t n)) is_b in
           record {
             answer = rw (p, q) is;
-            words = rw (p, q) model-words;
+            words = rw (p, q) model_words_lem;
             candidate = rw (p, q) model-candidate;
             buffer = rw p is-buffer;
             answers = rw (p, q) (is-stored ∙ ap (λ (x : List (List ℕ)). stored x g.answers) kept.0);
             log = rw (p, q) (ap (λ (s : Filled). s.log) is-left ∙ kept.1.log);
             used = rw (p, q) (ap (λ (s : Filled). s.used) is-left ∙ kept.1.used);
-            buffer2 = rw (p, q) (rw (← model-words, ← model-candidate) is-buffer2);
+            buffer2 = rw (p, q) (rw (← model_words_lem, ← model-candidate) is-buffer2);
             claim = claimed;
             told = told (rw (p, q) is);
           }

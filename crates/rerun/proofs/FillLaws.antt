@@ -8,60 +8,60 @@ use lib.ListN.{length, take, drop, get_or, length-append, length-drop, take-appe
 use lib.Seq.{drop-cons, drop-drop, take_at, drop_at, length-take-le}
 use Rattle.calculus.specs.declared.answer.Answer.TheVariants.{Done}
 use Rattle.calculus.specs.Cell.{null}
-use Rattle.calculus.specs.Model.{Fill, afterFills, fillAnswers}
-use Rattle.calculus.proofs.Counts.{countOf-le}
+use Rattle.calculus.specs.Model.{Fill, after_fills, fill_answers}
+use Rattle.calculus.proofs.Counts.{count_of_le}
 use Rattle.instance.specs.declared.header.Header.{Header}
-use Rattle.instance.specs.Header.{maxWords}
-use Rattle.instance.specs.Run.{fillAnswer}
+use Rattle.instance.specs.Header.{max_words}
+use Rattle.instance.specs.Run.{fill_answer}
 use Rattle.instance.proofs.Accepted.{substitute-accepted}
 use Rattle.instance.proofs.Fills.{held-words}
-use Rattle.instance.proofs.Sound.{sound-gives}
-use Rattle.rerun.specs.Fills.{Wanted, wanted, wantedOf, Filled, filledWith, fillTold, fillLeaves, answerWords, fillsTold, concatenated, stored}
+use Rattle.instance.proofs.Sound.{sound_gives}
+use Rattle.rerun.specs.Fills.{Wanted, wanted, wanted_of, Filled, filled_with, fill_told, fill_leaves, answer_words, fills_told, concatenated, stored}
 
 -- a fill counts at most as many cells as an instance has words
-pub count-few : (h : Header) (f : Fill) (ws : List ℕ) (k : ℕ) → fillAnswer h f ws ≡ Done k → k ≤ maxWords
+pub count-few : (h : Header) (f : Fill) (ws : List ℕ) (k : ℕ) → fill_answer h f ws ≡ Done k → k ≤ max_words
 count-few h f ws k e =
     let a = substitute-accepted h ws f.log f.mark f.cell k e in
-    let g = sound-gives h ws a.is-sound in
-    omega (arith, a.count, held-words h ws a.is-sound f.mark, countOf-le (null f.mark) (take h.used ws), g.in_use, g.few)
+    let g = sound_gives h ws a.is_sound in
+    omega (arith, a.count, held-words h ws a.is_sound f.mark, count_of_le (null f.mark) (take h.used ws), g.in_use, g.few)
 
 -- what fills change, part by part
 pub same-filled :
     {words words' candidate candidate' log log' : List ℕ} {used used' : ℕ} → words ≡ words' → candidate ≡ candidate' → log ≡ log' → used ≡ used' →
-    filledWith words candidate log used ≡ filledWith words' candidate' log' used'
+    filled_with words candidate log used ≡ filled_with words' candidate' log' used'
 same-filled p q r s = rw (p, q, r, s) refl
 
 -- the fill at index i
-abbrev pub wantedAt : List ℕ → ℕ → Wanted
-wantedAt fills i = wanted (get_or fills i 0) (get_or fills (i + 1) 0) (get_or fills (i + 2) 0)
+abbrev pub wanted_at : List ℕ → ℕ → Wanted
+wanted_at fills i = wanted (get_or fills i 0) (get_or fills (i + 1) 0) (get_or fills (i + 2) 0)
 
 -- at least three words are left, or fewer
-fill_here : (fills : List ℕ) (i : ℕ) → i + 2 < length fills → wantedOf (drop i fills) ≡ wantedAt fills i ∷ wantedOf (drop (i + 3) fills)
-unfolding wantedOf
+fill_here : (fills : List ℕ) (i : ℕ) → i + 2 < length fills → wanted_of (drop i fills) ≡ wanted_at fills i ∷ wanted_of (drop (i + 3) fills)
+unfolding wanted_of
 fill_here fills i l =
     let two : i + 2 ≡ suc (suc i) = omega arith in
     let three : i + 3 ≡ suc (suc (suc i)) = omega arith in
     rw (add-one i, two, three)
-    (ap wantedOf
+    (ap wanted_of
     (drop-cons fills i 0 (omega arith) ∙
     ap (λ (l : List ℕ). get_or fills i 0 ∷ l)
     (drop-cons fills (suc i) 0 (omega arith) ∙ ap (λ (l : List ℕ). get_or fills (suc i) 0 ∷ l) (drop-cons fills (suc (suc i)) 0 (omega arith)))))
 
-fills-short : (l : List ℕ) → length l ≤ 2 → wantedOf l ≡ []
-unfolding wantedOf
+fills-short : (l : List ℕ) → length l ≤ 2 → wanted_of l ≡ []
+unfolding wanted_of
 fills-short [] e = refl
 fills-short (m ∷ []) e = refl
 fills-short (m ∷ c ∷ []) e = refl
 fills-short (m ∷ c ∷ k ∷ l) e = absurd (omega arith)
 
-no-fill : (fills : List ℕ) (i : ℕ) → length fills ≤ i + 2 → wantedOf (drop i fills) ≡ []
-no-fill fills i l = fills-short (drop i fills) (omega (arith, length-drop i fills))
+no_fill : (fills : List ℕ) (i : ℕ) → length fills ≤ i + 2 → wanted_of (drop i fills) ≡ []
+no_fill fills i l = fills-short (drop i fills) (omega (arith, length-drop i fills))
 
 -- an answer of k words, stored before those that follow
 module _ (xs : List ℕ) (k : ℕ) (size : length xs ≡ k) where
-  stored-cons : (more : List (List ℕ)) (out : List ℕ) → stored (xs ∷ more) out ≡ xs ++ stored more (drop k out)
+  stored_cons : (more : List (List ℕ)) (out : List ℕ) → stored (xs ∷ more) out ≡ xs ++ stored more (drop k out)
   unfolding concatenated
-  stored-cons more out =
+  stored_cons more out =
       let n = length (concatenated more) in
       let sum : length (xs ++ concatenated more) ≡ k + n = omega (arith, length-append xs (concatenated more), size) in
       append_assoc xs (concatenated more) (drop (length (xs ++ concatenated more)) out) ∙
@@ -78,12 +78,12 @@ module _ (xs : List ℕ) (k : ℕ) (size : length xs ≡ k) where
       ap (λ (o : List ℕ). take (i + k) o ++ stored more (drop (i + k) o)) (e ∙ split) ∙
       ap₂ (λ (a b : List ℕ). a ++ stored more b) (take_at front back (i + k) long) (drop_at front back (i + k) long) ∙
       append_assoc (take i out) xs (stored more back) ∙
-      ap (λ (o : List ℕ). take i out ++ o) (sym (stored-cons more (drop i out)))
+      ap (λ (o : List ℕ). take i out ++ o) (sym (stored_cons more (drop i out)))
 
 -- the loop at index i: the fills that are left lead from here to the same end as all fills from the start
 pub record Going (h : Header) (fills : List ℕ) (s₀ : Filled) (out₀ : List ℕ) (s : Filled) (out : List ℕ) (i : ℕ) : Type 0 where
-  pub left : afterFills (fillLeaves h) (wantedOf (drop i fills)) s ≡ afterFills (fillLeaves h) (wantedOf fills) s₀
-  pub answers : take i out ++ stored (fillsTold h (wantedOf (drop i fills)) s) (drop i out) ≡ stored (fillsTold h (wantedOf fills) s₀) out₀
+  pub left : after_fills (fill_leaves h) (wanted_of (drop i fills)) s ≡ after_fills (fill_leaves h) (wanted_of fills) s₀
+  pub answers : take i out ++ stored (fills_told h (wanted_of (drop i fills)) s) (drop i out) ≡ stored (fills_told h (wanted_of fills) s₀) out₀
 
 module _ (h : Header) (fills : List ℕ) (s₀ : Filled) (out₀ : List ℕ) where
   pub begin : Going h fills s₀ out₀ s₀ out₀ 0
@@ -93,29 +93,29 @@ module _ (h : Header) (fills : List ℕ) (s₀ : Filled) (out₀ : List ℕ) whe
     -- one more fill
     pub step :
         i + 2 < length fills → i ≤ length out → (s' : Filled) (out' : List ℕ) →
-        s' ≡ fillLeaves h (wantedAt fills i) s →
-        out' ≡ take i out ++ (answerWords (wantedAt fills i) (fillTold h (wantedAt fills i) s) ++ drop 3 (drop i out)) →
+        s' ≡ fill_leaves h (wanted_at fills i) s →
+        out' ≡ take i out ++ (answer_words (wanted_at fills i) (fill_told h (wanted_at fills i) s) ++ drop 3 (drop i out)) →
         Going h fills s₀ out₀ s' out' (i + 3)
-    unfolding afterFills fillAnswers
+    unfolding after_fills fill_answers
     step l room s' out' es eo =
-        let w = wantedAt fills i in
-        let ws = wantedOf (drop (i + 3) fills) in
+        let w = wanted_at fills i in
+        let ws = wanted_of (drop (i + 3) fills) in
         let here = fill_here fills i l in
         record {
-          left = ap (afterFills (fillLeaves h) ws) es ∙ ap (λ (x : List Wanted). afterFills (fillLeaves h) x s) (sym here) ∙ g.left;
+          left = ap (after_fills (fill_leaves h) ws) es ∙ ap (λ (x : List Wanted). after_fills (fill_leaves h) x s) (sym here) ∙ g.left;
           answers =
-              ap (λ (x : Filled). take (i + 3) out' ++ stored (fillsTold h ws x) (drop (i + 3) out')) es ∙
-              stored_here (answerWords w (fillTold h w s)) 3 refl i (fillsTold h ws (fillLeaves h w s)) out out' room eo ∙
-              ap (λ (x : List Wanted). take i out ++ stored (fillsTold h x s) (drop i out)) (sym here) ∙ g.answers;
+              ap (λ (x : Filled). take (i + 3) out' ++ stored (fills_told h ws x) (drop (i + 3) out')) es ∙
+              stored_here (answer_words w (fill_told h w s)) 3 refl i (fills_told h ws (fill_leaves h w s)) out out' room eo ∙
+              ap (λ (x : List Wanted). take i out ++ stored (fills_told h x s) (drop i out)) (sym here) ∙ g.answers;
         }
 
     -- no fill is left
     pub finish :
         length fills ≤ i + 2 →
-        (s ≡ afterFills (fillLeaves h) (wantedOf fills) s₀) × (out ≡ stored (fillsTold h (wantedOf fills) s₀) out₀)
-    unfolding afterFills fillAnswers concatenated
+        (s ≡ after_fills (fill_leaves h) (wanted_of fills) s₀) × (out ≡ stored (fills_told h (wanted_of fills) s₀) out₀)
+    unfolding after_fills fill_answers concatenated
     finish l =
-        let none = no-fill fills i l in (
-          ap (λ (x : List Wanted). afterFills (fillLeaves h) x s) (sym none) ∙ g.left,
-          sym (take-append-drop i out) ∙ ap (λ (x : List Wanted). take i out ++ stored (fillsTold h x s) (drop i out)) (sym none) ∙ g.answers,
+        let none = no_fill fills i l in (
+          ap (λ (x : List Wanted). after_fills (fill_leaves h) x s) (sym none) ∙ g.left,
+          sym (take-append-drop i out) ∙ ap (λ (x : List Wanted). take i out ++ stored (fills_told h x s) (drop i out)) (sym none) ∙ g.answers,
         )

@@ -5,29 +5,29 @@ use Rattle.calculus.specs.declared.answer.Answer.{Answer}
 use Rattle.calculus.specs.declared.answer.Answer.TheVariants as answer
 use Rattle.calculus.specs.declared.truth.Truth.{Truth}
 use Rattle.calculus.specs.Answer.{after}
-use Rattle.calculus.specs.Refusal.{output-too-short}
-use Rattle.calculus.specs.Model.{afterFills, outcomeOf as outcome}
+use Rattle.calculus.specs.Refusal.{output_too_short}
+use Rattle.calculus.specs.Model.{after_fills, outcome_of as outcome}
 use Rattle.instance.specs.declared.header.Header.{Header}
 use Rattle.instance.specs.Rows.{words_of}
-use Rattle.instance.specs.Run.{modelOf}
+use Rattle.instance.specs.Run.{model_of}
 use Rattle.answer.specs.declared.asked.Asked.{Asked}
 use Rattle.answer.specs.declared.asked.Asked.TheVariants as asked
 use Rattle.answer.specs.Ask.{ask}
-use Rattle.answer.specs.Ways.{NoShorter, lent_by, leftBy}
+use Rattle.answer.specs.Ways.{NoShorter, lent_by, left_by}
 use Rattle.answer.specs.declared.way.Way.{Way}
-use Rattle.query.specs.Named.{queryOf}
+use Rattle.query.specs.Named.{query_of}
 use Rattle.answer.specs.Numbers.{TellsVerdict}
 use Rattle.answer.specs.Rerun.{Rerun}
 use Rattle.rerun.specs.declared.reran.Reran.{Reran}
 use Rattle.rerun.specs.declared.reran.Reran.TheVariants.{Verdicts, SecondRefused, Refused}
-use Rattle.rerun.specs.Fills.{Wanted, wantedOf, Account, accountNext, accountsTold, fedAll, stored}
+use Rattle.rerun.specs.Fills.{Wanted, wanted_of, Account, account_next, accounts_told, fed_all, stored}
 use Rattle.calculus.specs.Demand.{demand}
 
 -- the answers of both runs; run B is not asked if run A is refused
-abbrev pub bothRuns : Asked → Asked → Reran
-bothRuns (asked.Verdict a n) (asked.Verdict b k) = Verdicts a n b k
-bothRuns (asked.Verdict a n) (asked.Refused r) = SecondRefused a n r
-bothRuns (asked.Refused r) b = Refused r
+abbrev pub both_runs : Asked → Asked → Reran
+both_runs (asked.Verdict a n) (asked.Verdict b k) = Verdicts a n b k
+both_runs (asked.Verdict a n) (asked.Refused r) = SecondRefused a n r
+both_runs (asked.Refused r) b = Refused r
 
 -- What a rerun's answer says of run A and of run B; `answer/specs/Numbers.antt` gives each as the paper's numbers.
 abbrev pub first_of : Reran → Asked
@@ -41,9 +41,9 @@ second_of (SecondRefused a n r) = asked.Refused r
 second_of (Refused r) = asked.Refused r
 
 -- the fills are made only if run A got a verdict
-abbrev pub goesOn : Asked → Answer
-goesOn (asked.Verdict t n) = answer.Done 0
-goesOn (asked.Refused r) = answer.Refused r
+abbrev pub goes_on : Asked → Answer
+goes_on (asked.Verdict t n) = answer.Done 0
+goes_on (asked.Refused r) = answer.Refused r
 
 -- what a rerun is given besides the instance's words: both runs ask by the same way; run A's buffer and budget are `buffer` and `budget`, run B's are
 -- `buffer2` and `budget2`
@@ -79,83 +79,83 @@ given way h qs candidate buffer budget fills answers log used buffer2 budget2 = 
 
 module _ (g : Given) (ws : List ℕ) where
   abbrev pub wanted : List Wanted
-  wanted = wantedOf g.fills
+  wanted = wanted_of g.fills
 
   -- the model and its log before the fills, and after them
   abbrev pub start : Account
-  start = record { model = modelOf g.header ws g.candidate; log = g.log; used = g.used }
+  start = record { model = model_of g.header ws g.candidate; log = g.log; used = g.used }
 
   abbrev pub end : Account
-  end = afterFills accountNext wanted start
+  end = after_fills account_next wanted start
 
   -- "afterwards the words in use are the book's rows, all other words and the head are A's"
-  abbrev pub modelWords : List ℕ
-  modelWords = words_of end.model.rows ++ drop g.header.used ws
+  abbrev pub model_words : List ℕ
+  model_words = words_of end.model.rows ++ drop g.header.used ws
 
-  abbrev pub runA : Asked
-  runA = ask g.header ws g.query g.candidate (lent_by g.way g.buffer) g.budget
+  abbrev pub run_a : Asked
+  run_a = ask g.header ws g.query g.candidate (lent_by g.way g.buffer) g.budget
 
   -- "B asks with the book's candidate"
-  abbrev pub runB : Asked
-  runB = ask g.header modelWords g.query end.model.candidate (lent_by g.way g.buffer2) g.budget2
+  abbrev pub run_b : Asked
+  run_b = ask g.header model_words g.query end.model.candidate (lent_by g.way g.buffer2) g.budget2
 
   -- the slice for the answers is at least as long as the slice of the fills
-  abbrev pub hasAnswers : Bool
-  hasAnswers = leb (length g.fills) (length g.answers)
+  abbrev pub has_answers : Bool
+  has_answers = leb (length g.fills) (length g.answers)
 
   -- 44 before anything is asked, then the refusals of run A
   unfoldable pub begun : Answer
-  begun = demand hasAnswers (answer.Refused output-too-short) (goesOn runA)
+  begun = demand has_answers (answer.Refused output_too_short) (goes_on run_a)
 
   unfoldable pub reran : Reran
-  reran = cond hasAnswers (bothRuns runA runB) (Refused output-too-short)
+  reran = cond has_answers (both_runs run_a run_b) (Refused output_too_short)
 
   -- what is left of the instance's words, the candidate, the slice for the answers, the log with its words in use, and the buffers
-  unfoldable pub reranWords : List ℕ
-  reranWords = after begun modelWords ws
+  unfoldable pub reran_words : List ℕ
+  reran_words = after begun model_words ws
 
-  unfoldable pub reranCandidate : List ℕ
-  reranCandidate = after begun end.model.candidate g.candidate
+  unfoldable pub reran_candidate : List ℕ
+  reran_candidate = after begun end.model.candidate g.candidate
 
-  unfoldable pub reranAnswers : List ℕ
-  reranAnswers = after begun (stored (accountsTold wanted start) g.answers) g.answers
+  unfoldable pub reran_answers : List ℕ
+  reran_answers = after begun (stored (accounts_told wanted start) g.answers) g.answers
 
-  unfoldable pub reranLog : List ℕ
-  reranLog = after begun end.log g.log
+  unfoldable pub reran_log : List ℕ
+  reran_log = after begun end.log g.log
 
-  unfoldable pub reranUsed : ℕ
-  reranUsed = after begun end.used g.used
+  unfoldable pub reran_used : ℕ
+  reran_used = after begun end.used g.used
 
-  unfoldable pub reranBuffer : List ℕ
-  reranBuffer = cond hasAnswers (leftBy g.way g.header ws g.query g.candidate g.buffer) g.buffer
+  unfoldable pub reran_buffer : List ℕ
+  reran_buffer = cond has_answers (left_by g.way g.header ws g.query g.candidate g.buffer) g.buffer
 
-  unfoldable pub reranBuffer2 : List ℕ
-  reranBuffer2 = after begun (leftBy g.way g.header modelWords g.query end.model.candidate g.buffer2) g.buffer2
+  unfoldable pub reran_buffer2 : List ℕ
+  reran_buffer2 = after begun (left_by g.way g.header model_words g.query end.model.candidate g.buffer2) g.buffer2
 
   -- demand 3 for the answer, if there is room for the fills' answers, run B's buffer and budget are no smaller than run A's, and run A gets a verdict:
-  -- r has it, and B is not refused, keeps it if it is true or false, costs no more, and is the verdict of two-valued logic if no null is left
+  -- r has it, and B is not refused, keeps it if it is true or false, costs no more, and is the verdict of two_valued logic if no null is left
   abbrev pub Claim : Reran → Type 0
   Claim r =
       length g.fills ≤ length g.answers → NoShorter (lent_by g.way g.buffer) (lent_by g.way g.buffer2) → g.budget ≤ g.budget2 →
-      (t : Truth) (n : ℕ) → runA ≡ asked.Verdict t n →
-      (first_of r ≡ asked.Verdict t n) × Rerun g.header ws g.query g.candidate (fedAll wanted start) t n (second_of r)
+      (t : Truth) (n : ℕ) → run_a ≡ asked.Verdict t n →
+      (first_of r ≡ asked.Verdict t n) × Rerun g.header ws g.query g.candidate (fed_all wanted start) t n (second_of r)
 
   -- the answer in the paper's numbers: that of run A, and that of run B on what the fills left
   pub record TellsRuns (r : Reran) : Type 0 where
     pub first : TellsVerdict (first_of r) (first_of reran)
-        (outcome start.model (queryOf g.header.arities g.query))
+        (outcome start.model (query_of g.header.arities g.query))
     pub second : TellsVerdict (second_of r) (second_of reran)
-        (outcome (modelOf g.header modelWords end.model.candidate) (queryOf g.header.arities g.query))
+        (outcome (model_of g.header model_words end.model.candidate) (query_of g.header.arities g.query))
 
   -- what a rerun returns, and what it leaves of everything that it was lent
   pub record Reruns (r : Reran) (ws' candidate' buffer' answers' log' : List ℕ) (used' : ℕ) (buffer2' : List ℕ) : Type 0 where
     pub answer : r ≡ reran
-    pub words : ws' ≡ reranWords
-    pub candidate : candidate' ≡ reranCandidate
-    pub buffer : buffer' ≡ reranBuffer
-    pub answers : answers' ≡ reranAnswers
-    pub log : log' ≡ reranLog
-    pub used : used' ≡ reranUsed
-    pub buffer2 : buffer2' ≡ reranBuffer2
+    pub words : ws' ≡ reran_words
+    pub candidate : candidate' ≡ reran_candidate
+    pub buffer : buffer' ≡ reran_buffer
+    pub answers : answers' ≡ reran_answers
+    pub log : log' ≡ reran_log
+    pub used : used' ≡ reran_used
+    pub buffer2 : buffer2' ≡ reran_buffer2
     pub claim : Claim r
     pub told : TellsRuns r

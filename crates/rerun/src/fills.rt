@@ -1,11 +1,11 @@
 // The fills of a run, each made in the instance and in the candidate.
 ghost use Rattle.std.specs.Prelude.{◌≡◌, ℕ, ◌≤◌, ◌++◌, length, drop};
 ghost use Rattle.calculus.specs.declared.answer.Answer.TheVariants.{Done};
-ghost use Rattle.calculus.specs.Model.{afterFills};
-ghost use Rattle.instance.specs.Header.{maxWords};
-ghost use Rattle.instance.specs.Run.{fillAnswer, fillWords};
+ghost use Rattle.calculus.specs.Model.{after_fills};
+ghost use Rattle.instance.specs.Header.{max_words};
+ghost use Rattle.instance.specs.Run.{fill_answer, fill_words};
 ghost use Rattle.instance.specs.Sound.{rows};
-ghost use Rattle.rerun.specs.Fills.{wanted, wantedOf, fed, logLeft, usedLeft, filledWith, fillTold, fillLeaves, answerWords, fillsTold, stored};
+ghost use Rattle.rerun.specs.Fills.{wanted, wanted_of, fed, log_left, used_left, filled_with, fill_told, fill_leaves, answer_words, fills_told, stored};
 
 use calculus::answer::Answer;
 use instance::header::Header;
@@ -23,10 +23,10 @@ fn fill_instance(
     cell: u32,
     logs: u32,
 ) -> Logged
-    ensures answer { result.answer ≡ fillAnswer header (fed (wanted mark cell logs) log.old used) instance.old }
-    ensures words { instance.new ≡ fillWords header (fed (wanted mark cell logs) log.old used) instance.old }
-    ensures log { log.new ≡ logLeft (wanted mark cell logs) (fillAnswer header (fed (wanted mark cell logs) log.old used) instance.old) (rows header instance.old) log.old used }
-    ensures used { result.log ≡ usedLeft (wanted mark cell logs) (fillAnswer header (fed (wanted mark cell logs) log.old used) instance.old) (rows header instance.old) used }
+    ensures answer { result.answer ≡ fill_answer header (fed (wanted mark cell logs) log.old used) instance.old }
+    ensures words { instance.new ≡ fill_words header (fed (wanted mark cell logs) log.old used) instance.old }
+    ensures log { log.new ≡ log_left (wanted mark cell logs) (fill_answer header (fed (wanted mark cell logs) log.old used) instance.old) (rows header instance.old) log.old used }
+    ensures used { result.log ≡ used_left (wanted mark cell logs) (fill_answer header (fed (wanted mark cell logs) log.old used) instance.old) (rows header instance.old) used }
 {
     if logs == 0 {
         let answer = substitute(header, instance, mark, cell);
@@ -46,10 +46,10 @@ fn fill(
     cell: u32,
     logs: u32,
 ) -> Logged
-    requires { length candidate.old ≤ maxWords }
-    ensures answer { result.answer ≡ fillTold header (wanted mark cell logs) (filledWith instance.old candidate.old log.old used) }
-    ensures left { filledWith instance.new candidate.new log.new result.log ≡ fillLeaves header (wanted mark cell logs) (filledWith instance.old candidate.old log.old used) }
-    ensures few { (k : ℕ) → result.answer ≡ Done k → k ≤ maxWords }
+    requires { length candidate.old ≤ max_words }
+    ensures answer { result.answer ≡ fill_told header (wanted mark cell logs) (filled_with instance.old candidate.old log.old used) }
+    ensures left { filled_with instance.new candidate.new log.new result.log ≡ fill_leaves header (wanted mark cell logs) (filled_with instance.old candidate.old log.old used) }
+    ensures few { (k : ℕ) → result.answer ≡ Done k → k ≤ max_words }
 {
     let made = fill_instance(header, instance, log, used, mark, cell, logs);
     let answer = made.answer;
@@ -61,8 +61,8 @@ fn fill(
 
 // Writes the answer of a fill to the first three words of a slice.
 fn store(answers: &mut [u32], answer: Answer, mark: u32, cell: u32, logs: u32)
-    requires { (3 ≤ length answers.old) × ((k : ℕ) → answer ≡ Done k → k ≤ maxWords) }
-    ensures { answers.new ≡ answerWords (wanted mark cell logs) answer ++ drop 3 answers.old }
+    requires { (3 ≤ length answers.old) × ((k : ℕ) → answer ≡ Done k → k ≤ max_words) }
+    ensures { answers.new ≡ answer_words (wanted mark cell logs) answer ++ drop 3 answers.old }
 {
     match answer {
         Answer::Done(count) => {
@@ -88,9 +88,9 @@ pub fn fill_all(
     fills: &[u32],
     answers: &mut [u32],
 ) -> usize
-    requires { (length candidate.old ≤ maxWords) × (length fills.now ≤ length answers.old) }
-    ensures left { filledWith instance.new candidate.new log.new result ≡ afterFills (fillLeaves header) (wantedOf fills.now) (filledWith instance.old candidate.old log.old used) }
-    ensures answers { answers.new ≡ stored (fillsTold header (wantedOf fills.now) (filledWith instance.old candidate.old log.old used)) answers.old }
+    requires { (length candidate.old ≤ max_words) × (length fills.now ≤ length answers.old) }
+    ensures left { filled_with instance.new candidate.new log.new result ≡ after_fills (fill_leaves header) (wanted_of fills.now) (filled_with instance.old candidate.old log.old used) }
+    ensures answers { answers.new ≡ stored (fills_told header (wanted_of fills.now) (filled_with instance.old candidate.old log.old used)) answers.old }
 {
     let mut last = used;
     let mut i = 0;

@@ -11,7 +11,7 @@ use Rattle.calculus.specs.Cell.{null, put}
 use Rattle.calculus.specs.Fill.{count_of}
 use Rattle.calculus.proofs.Cells.{put-null, put_other}
 use Rattle.calculus.proofs.Counts.{countOf-drop-step}
-use Rattle.instance.proofs.Passes.{upto, upto-none, upto_all, upto-here, upto-set, upto-kept}
+use Rattle.instance.proofs.Passes.{upto, upto_none, upto_all, upto_here, upto_set, upto_kept}
 
 pub record Filling (m c : ℕ) (was words : List ℕ) (count i : ℕ) : Type 0 where
   pub within : i ≤ length was
@@ -22,12 +22,12 @@ pub record Filling (m c : ℕ) (was words : List ℕ) (count i : ℕ) : Type 0 w
 
 module _ (m c : ℕ) (was : List ℕ) where
   pub filling-starts : Filling m c was was 0 0
-  filling-starts = record { within = omega arith; few = omega arith; long = refl; filled = sym (upto-none (put m c) was); counted = omega arith }
+  filling-starts = record { within = omega arith; few = omega arith; long = refl; filled = sym (upto_none (put m c) was); counted = omega arith }
 
   -- the word at index i
   module _ {words : List ℕ} {count i : ℕ} (l : i < length was) (f : Filling m c was words count i) where
     pub filling-here : get_or words i 0 ≡ get_or was i 0
-    filling-here = ap (λ (ws : List ℕ). get_or ws i 0) f.filled ∙ upto-here (put m c) i was
+    filling-here = ap (λ (ws : List ℕ). get_or ws i 0) f.filled ∙ upto_here (put m c) i was
 
     -- the null is replaced and counted
     pub filling-null : get_or words i 0 ≡ null m → Filling m c was (set words i c) (count + 1) (i + 1)
@@ -40,7 +40,7 @@ module _ (m c : ℕ) (was : List ℕ) where
           filled =
               ap (λ (ws : List ℕ). set ws i c) f.filled
               ∙ ap (set (upto (put m c) i was) i) (sym (put-null m c (get_or was i 0) is))
-              ∙ upto-set (put m c) i was l;
+              ∙ upto_set (put m c) i was l;
           counted = omega (arith, f.counted, simp (eq-eqb _ _ is) at (countOf-drop-step (null m) was i l));
         }
 
@@ -52,13 +52,13 @@ module _ (m c : ℕ) (was : List ℕ) where
           within = omega arith;
           few = omega (arith, f.few);
           long = f.long;
-          filled = f.filled ∙ upto-kept (put m c) i was l (put_other m c _ not);
+          filled = f.filled ∙ upto_kept (put m c) i was l (put_other m c _ not);
           counted = omega (arith, f.counted, simp (ne_eqb _ _ not) at (countOf-drop-step (null m) was i l));
         }
 
-  pub filling-ends : {words : List ℕ} {count i : ℕ} → length was ≤ i → Filling m c was words count i → (count ≡ count_of (null m) was) × (words ≡ map (put m c) was)
+  pub filling_ends : {words : List ℕ} {count i : ℕ} → length was ≤ i → Filling m c was words count i → (count ≡ count_of (null m) was) × (words ≡ map (put m c) was)
   unfolding count_of
-  filling-ends {i = i} l f =
+  filling_ends {i = i} l f =
       let e : i ≡ length was = omega arith in
       let none : count_of (null m) (drop i was) ≡ 0 = rw (e, drop-length) in
       (omega (arith, f.counted), f.filled ∙ rw e (upto_all (put m c) was))

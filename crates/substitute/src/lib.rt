@@ -1,11 +1,11 @@
 // A fill: replaces a null by a cell, in every cell that holds the null.
 ghost use Rattle.std.specs.Prelude.{◌≡◌, ◌≤◌, map, length};
 ghost use Rattle.calculus.specs.Cell.{null, nulls, put};
-ghost use Rattle.instance.specs.Header.{maxWords};
+ghost use Rattle.instance.specs.Header.{max_words};
 ghost use Rattle.calculus.specs.Answer.{Tells};
 ghost use Rattle.calculus.specs.Fill.{unlogged, count_of, held};
 ghost use Rattle.instance.specs.Sound.{rows};
-ghost use Rattle.instance.specs.Substitute.{fillable, substituted, substitutedWords};
+ghost use Rattle.instance.specs.Substitute.{fillable, substituted, substituted_words};
 
 use calculus::answer::Answer;
 use calculus::cell::{CONSTANTS, NULLS, is_cell};
@@ -34,7 +34,7 @@ pub fn test_fill(header: Header, instance: &[u32], mark: u32, cell: u32) -> Answ
 
 // A relation's number is below every null, so the pass need not tell relation numbers from cells.
 pub fn replace(words: &mut [u32], mark: u32, cell: u32) -> u32
-    requires { (mark ≤ nulls) × (length words.old ≤ maxWords) }
+    requires { (mark ≤ nulls) × (length words.old ≤ max_words) }
     ensures count { result ≡ count_of (null mark) words.old }
     ensures words { words.new ≡ map (put mark cell) words.old }
 {
@@ -54,7 +54,7 @@ pub fn replace(words: &mut [u32], mark: u32, cell: u32) -> u32
 // A fill without a log.
 pub fn substitute(header: Header, instance: &mut [u32], mark: u32, cell: u32) -> Answer
     ensures answer { result ≡ substituted header instance.old unlogged mark cell }
-    ensures words { instance.new ≡ substitutedWords header instance.old unlogged mark cell }
+    ensures words { instance.new ≡ substituted_words header instance.old unlogged mark cell }
     ensures told { Tells result (substituted header instance.old unlogged mark cell) (held mark (rows header instance.old)) }
 {
     let tested = test_fill(header, instance, mark, cell);

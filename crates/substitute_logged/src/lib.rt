@@ -2,12 +2,12 @@
 ghost use Rattle.std.specs.Prelude.{◌≡◌, ◌≤◌, [], ◌∷◌, ◌++◌, map, length};
 ghost use Rattle.calculus.specs.Answer.{Tells};
 ghost use Rattle.calculus.specs.Cell.{null, nulls, put};
-ghost use Rattle.calculus.specs.Fill.{count_of, entryLength, held};
+ghost use Rattle.calculus.specs.Fill.{count_of, entry_length, held};
 ghost use Rattle.calculus.specs.Overwrite.{overwrite};
-ghost use Rattle.instance.specs.Header.{maxWords};
+ghost use Rattle.instance.specs.Header.{max_words};
 ghost use Rattle.instance.specs.Sound.{rows};
-ghost use Rattle.log.specs.Places.{placesIn};
-ghost use Rattle.log.specs.Log.{logged, loggedWords, loggedLog, loggedUsed};
+ghost use Rattle.log.specs.Places.{places_in};
+ghost use Rattle.log.specs.Log.{logged, logged_words, logged_log, logged_used};
 
 use calculus::answer::Answer;
 use calculus::cell::CONSTANTS;
@@ -18,7 +18,7 @@ use substitute::test_fill;
 
 // How often a null occurs in words. A relation's number is below every null, so the pass need not tell relation numbers from cells.
 fn held(words: &[u32], mark: u32) -> u32
-    requires { (mark ≤ nulls) × (length words.now ≤ maxWords) }
+    requires { (mark ≤ nulls) × (length words.now ≤ max_words) }
     ensures { result ≡ count_of (null mark) words.now }
 {
     let null = CONSTANTS + mark;
@@ -35,9 +35,9 @@ fn held(words: &[u32], mark: u32) -> u32
 
 // Fills, and writes the entry at the start of a part of the log: each place as it is filled, then the mark and the number of places.
 fn note(words: &mut [u32], part: &mut [u32], mark: u32, cell: u32)
-    requires { (mark ≤ nulls) × (length words.old ≤ maxWords) × (entryLength (count_of (null mark) words.old) ≤ length part.old) }
+    requires { (mark ≤ nulls) × (length words.old ≤ max_words) × (entry_length (count_of (null mark) words.old) ≤ length part.old) }
     ensures words { words.new ≡ map (put mark cell) words.old }
-    ensures part { part.new ≡ overwrite (placesIn (null mark) 0 words.old ++ mark ∷ count_of (null mark) words.old ∷ []) part.old }
+    ensures part { part.new ≡ overwrite (places_in (null mark) 0 words.old ++ mark ∷ count_of (null mark) words.old ∷ []) part.old }
 {
     let null = CONSTANTS + mark;
     let mut count = 0;
@@ -66,9 +66,9 @@ pub fn substitute_logged(
     cell: u32,
 ) -> Logged
     ensures answer { result.answer ≡ logged header instance.old log.old used mark cell }
-    ensures words { instance.new ≡ loggedWords header instance.old log.old used mark cell }
-    ensures log { log.new ≡ loggedLog header instance.old log.old used mark cell }
-    ensures used { result.log ≡ loggedUsed header instance.old log.old used mark cell }
+    ensures words { instance.new ≡ logged_words header instance.old log.old used mark cell }
+    ensures log { log.new ≡ logged_log header instance.old log.old used mark cell }
+    ensures used { result.log ≡ logged_used header instance.old log.old used mark cell }
     ensures told { Tells result.answer (logged header instance.old log.old used mark cell) (held mark (rows header instance.old)) }
 {
     let answer = test_fill(header, instance, mark, cell);

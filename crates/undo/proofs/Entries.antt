@@ -8,28 +8,28 @@ use borrow.Author.Tests.{lt-leb}
 use lib.ListN.{take, drop}
 use Rattle.calculus.specs.declared.answer.Answer.{Answer}
 use Rattle.calculus.specs.Answer.{Tells}
-use Rattle.calculus.specs.Fill.{entryLength}
+use Rattle.calculus.specs.Fill.{entry_length}
 use Rattle.calculus.proofs.Answers.{tells}
 use Rattle.instance.specs.declared.header.Header.{Header}
-use Rattle.log.specs.Log.{lastCount, lastPlaces, entryWellFormed, undone}
-use Rattle.log.proofs.Accepted.{undo-accepted}
+use Rattle.log.specs.Log.{last_count, last_places, entry_well_formed, undone}
+use Rattle.log.proofs.Accepted.{undo_accepted}
 
 -- the places stand before the mark, as many as the count n says
 pub places-lent :
-    (log : List ℕ) (used n : ℕ) → n ≡ lastCount log used → entryLength (lastCount log used) ≤ used →
-    take (used - 2 - (used - 2 - n)) (drop (used - 2 - n) log) ≡ lastPlaces log used
+    (log : List ℕ) (used n : ℕ) → n ≡ last_count log used → entry_length (last_count log used) ≤ used →
+    take (used - 2 - (used - 2 - n)) (drop (used - 2 - n) log) ≡ last_places log used
 places-lent log used n e l =
-    let size : used - 2 - (used - 2 - n) ≡ lastCount log used = omega arith in
-    let start : used - 2 - n ≡ used - entryLength (lastCount log used) = omega arith in
+    let size : used - 2 - (used - 2 - n) ≡ last_count log used = omega arith in
+    let start : used - 2 - n ≡ used - entry_length (last_count log used) = omega arith in
     ap₂ (λ (k i : ℕ). take k (drop i log)) size start
 
 module _ (h : Header) (ws log : List ℕ) (used : ℕ) where
   -- "the words in use .. fall short of the latest note"
-  pub entry-short : used < entryLength (lastCount log used) → entryWellFormed h ws log used ≡ false
-  unfolding entryWellFormed
-  entry-short l = simp (lt-leb (entryLength (lastCount log used)) used l, and-false)
+  pub entry-short : used < entry_length (last_count log used) → entry_well_formed h ws log used ≡ false
+  unfolding entry_well_formed
+  entry-short l = simp (lt-leb (entry_length (last_count log used)) used l, and-false)
 
   pub undo-told :
       {r : Answer} {P Q : Type 0} → (r ≡ undone h ws log used) × (P × Q) →
-      (r ≡ undone h ws log used) × (P × (Q × Tells r (undone h ws log used) (lastCount log used)))
-  undo-told p = (p.0, (p.1.0, (p.1.1, tells (lastCount log used) p.0 (λ k d. (undo-accepted h ws log used k d).count))))
+      (r ≡ undone h ws log used) × (P × (Q × Tells r (undone h ws log used) (last_count log used)))
+  undo-told p = (p.0, (p.1.0, (p.1.1, tells (last_count log used) p.0 (λ k d. (undo_accepted h ws log used k d).count))))

@@ -4,8 +4,8 @@ ghost use Rattle.calculus.specs.Answer.{Tells};
 ghost use Rattle.instance.specs.InstanceWellFormed.{InstanceWellFormed};
 ghost use Rattle.instance.specs.Rows.{rows_from};
 ghost use Rattle.instance.specs.Sound.{sound};
-ghost use Rattle.log.specs.Places.{arePlaces, put_at};
-ghost use Rattle.log.specs.Log.{lastCount, entryWellFormed, undone, undoneWords, undoneUsed};
+ghost use Rattle.log.specs.Places.{are_places, put_at};
+ghost use Rattle.log.specs.Log.{last_count, entry_well_formed, undone, undone_words, undone_used};
 ghost use Rattle.undo.specs.RowStart.{RowStart, RowOf};
 
 use calculus::answer::Answer;
@@ -37,7 +37,7 @@ fn row_of(words: &[u32], arities: &[u32; 8], relations: u32, from: usize, place:
 // pass; a place before that row is sought from the first row.
 fn are_places(words: &[u32], arities: &[u32; 8], relations: u32, places: &[u32]) -> bool
     requires { InstanceWellFormed relations arities.now words.now }
-    ensures { result ≡ arePlaces (rows_from arities.now 0 words.now) places.now }
+    ensures { result ≡ are_places (rows_from arities.now 0 words.now) places.now }
 {
     let mut row = 0;
     let mut i = 0;
@@ -61,7 +61,7 @@ fn are_places(words: &[u32], arities: &[u32; 8], relations: u32, places: &[u32])
 // Whether the latest entry is well formed. The tests before each read show that it is within the log.
 fn entry_well_formed(header: Header, instance: &[u32], log: &[u32], used: usize) -> bool
     requires { sound header instance.now ≡ true }
-    ensures { result ≡ entryWellFormed header instance.now log.now used }
+    ensures { result ≡ entry_well_formed header instance.now log.now used }
 {
     if log.len() < used {
         return false;
@@ -123,9 +123,9 @@ fn put_all(words: &mut [u32], places: &[u32], x: u32)
 // Puts the latest entry's null back into the cells that it was filled in, and takes the entry out of the words in use; the log's words stay.
 pub fn undo(header: Header, instance: &mut [u32], log: &[u32], used: usize) -> Logged
     ensures answer { result.answer ≡ undone header instance.old log.now used }
-    ensures words { instance.new ≡ undoneWords header instance.old log.now used }
-    ensures used { result.log ≡ undoneUsed header instance.old log.now used }
-    ensures told { Tells result.answer (undone header instance.old log.now used) (lastCount log.now used) }
+    ensures words { instance.new ≡ undone_words header instance.old log.now used }
+    ensures used { result.log ≡ undone_used header instance.old log.now used }
+    ensures told { Tells result.answer (undone header instance.old log.now used) (last_count log.now used) }
 {
     let answer = test_undo(header, instance, log, used);
     let Answer::Done(count) = answer else {

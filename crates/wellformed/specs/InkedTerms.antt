@@ -4,27 +4,27 @@ use Rattle.std.specs.Prelude.{ℕ, zero, suc, ◌≤◌, ◌≡◌, Bool, true, 
 use Rattle.query.specs.Named.{named_in}
 use Rattle.wellformed.specs.WellFormed.{Role, kind, relation, term, child, variable, unnamed, nodes, word, role}
 
-abbrev pub isTermRole : Role → Bool
-isTermRole term = true
-isTermRole kind = false
-isTermRole relation = false
-isTermRole child = false
-isTermRole variable = false
-isTermRole unnamed = false
+abbrev pub is_term_role : Role → Bool
+is_term_role term = true
+is_term_role kind = false
+is_term_role relation = false
+is_term_role child = false
+is_term_role variable = false
+is_term_role unnamed = false
 
 module _ (ars qs : List ℕ) where
   -- of k words from word j of node i, those that are read as a term and are inked values
-  unfoldable pub inkedWords : ℕ → ℕ → ℕ → List ℕ
-  inkedWords i j zero = []
-  inkedWords i j (suc k) =
-      cond (isTermRole (role ars qs i j) && ltb (word qs i j) 1000000) (word qs i j ∷ inkedWords i (suc j) k)
-      (inkedWords i (suc j) k)
+  unfoldable pub inked_words : ℕ → ℕ → ℕ → List ℕ
+  inked_words i j zero = []
+  inked_words i j (suc k) =
+      cond (is_term_role (role ars qs i j) && ltb (word qs i j) 1000000) (word qs i j ∷ inked_words i (suc j) k)
+      (inked_words i (suc j) k)
 
   -- those of k nodes from node i, each of 8 words
-  unfoldable pub inkedNodes : ℕ → ℕ → List ℕ
-  inkedNodes i zero = []
-  inkedNodes i (suc k) = inkedWords i 0 8 ++ inkedNodes (suc i) k
+  unfoldable pub inked_nodes : ℕ → ℕ → List ℕ
+  inked_nodes i zero = []
+  inked_nodes i (suc k) = inked_words i 0 8 ++ inked_nodes (suc i) k
 
 -- for sheets of at most six columns
 abbrev pub NamedWords : Type 0
-NamedWords = (ars qs : List ℕ) → ((r : ℕ) → get_or ars r 0 ≤ 6) → named_in ars qs ≡ inkedNodes ars qs 0 (nodes qs)
+NamedWords = (ars qs : List ℕ) → ((r : ℕ) → get_or ars r 0 ≤ 6) → named_in ars qs ≡ inked_nodes ars qs 0 (nodes qs)

@@ -5,10 +5,10 @@ use mathlib.Core.Bool.{true}
 use native.Mathlib.Omega.{arith}
 use borrow.Author.Tests.{not-true, not-false}
 use lib.ListN.{length}
-use Rattle.instance.specs.Header.{headerWith}
-use Rattle.instance.specs.Room.{hasRoom}
+use Rattle.instance.specs.Header.{header_with}
+use Rattle.instance.specs.Room.{has_room}
 use Rattle.decode.proofs.Opening.{Opened, head_opened}
-use Rattle.decode.proofs.Decoding.{CardRead, card-read, down, head-turned, records-turned, left_over, exhausted, too_small, may_write, all_hold, sum_fits}
+use Rattle.decode.proofs.Decoding.{CardRead, card-read, down, head_turned, records_turned, left_over, exhausted, too_small, may_write, all_hold, sum_fits}
 use Rattle.decode.proofs.Told.{decode-told}
 use borrow.Author.Rules.{rules}
 use Rattle.decode.proofs.decode.Statement.{statement}
@@ -22,11 +22,11 @@ module _ (c : tie.After-known-told) where
   abbrev start : tie.Start
   start = head.before.before.before
 
-  headed : Opened start.args.card.now head.read-head.result.relations head.read-head.result.arities c.before.opened.given.0.0
-  headed = head_opened _ head.read-head.result _ head.read-head.ensures.0 c.before.opened.given.1
+  headed : Opened start.args.card.now head.read_head_lem.result.relations head.read_head_lem.result.arities c.before.opened.given.0.0
+  headed = head_opened _ head.read_head_lem.result _ head.read_head_lem.ensures.0 c.before.opened.given.1
 
   counted : c.before.opened.given.0.0 < 256 ^ 2
-  counted = head.read-head.ensures.1 _ c.before.opened.given.1
+  counted = head.read_head_lem.ensures.1 _ c.before.opened.given.1
 
 -- once all records are read
 module _ (c : tie.After-known-told3) where
@@ -34,7 +34,7 @@ module _ (c : tie.After-known-told3) where
   opened = c.before.before.before.before.before
 
   carded :
-      CardRead (start opened).args.card.now (start opened).args.instance.now (head opened).read-head.result.relations (head opened).read-head.result.arities
+      CardRead (start opened).args.card.now (start opened).args.instance.now (head opened).read_head_lem.result.relations (head opened).read_head_lem.result.arities
       opened.before.opened.given.0.0 (headed opened) c.before.needed.given.0.0
   carded = card-read _ _ _ _ _ (headed opened) _ (sym c.before.before.before.measure.ensures.0 ∙ c.before.needed.given.1)
 
@@ -43,7 +43,7 @@ module _ (c : tie.Else3) where
   abbrev all : tie.After-known-told3
   all = c.before.before.before.before.before.before.before
 
-  room : hasRoom all.before.needed.given.0.0.words (length (start (opened all)).args.instance.now) ≡ true
+  room : has_room all.before.needed.given.0.0.words (length (start (opened all)).args.instance.now) ≡ true
   room = sym c.before.has_room.ensures ∙ not-false c.before.has_room.result c.if3.false
 
 read-head-requires : tie.Need-read-head-requires
@@ -63,7 +63,7 @@ returns c =
     let head = c.before.before.before.before.before in
     decode-told _ _
     (down _ head.before.before.before.args.instance.now c.before.before.opened2.given.0.0 c.refused.ensures.0 c.refused.ensures.1.0
-    (head-turned _ _ _ (ap (λ r. r.answer) (sym head.read-head.ensures.0) ∙ c.before.before.opened2.given.1)))
+    (head_turned _ _ _ (ap (λ r. r.answer) (sym head.read_head_lem.ensures.0) ∙ c.before.before.opened2.given.1)))
     c.refused.ensures.1.1
 
 cast-start : tie.Need-overflow-cast-start
@@ -75,7 +75,7 @@ add_start c = search rules
 measure-requires : tie.Need-measure-requires
 measure-requires c κs =
     let h = headed c.before in
-    (h.long, (h.few, (h.arities-well-formed, counted c.before)))
+    (h.long, (h.few, (h.arities_well_formed_lem, counted c.before)))
 
 enum-known-needed : tie.Need-enum-known-needed
 enum-known-needed c = search rules
@@ -92,7 +92,7 @@ returns-2 c =
     let opened = measured.before.before in
     decode-told _ _
     (down _ (start opened).args.instance.now c.before.before.needed2.given.0.0 c.refused2.ensures.0 c.refused2.ensures.1.0
-    (records-turned _ _ _ _ _ (headed opened) _ (sym measured.measure.ensures.0 ∙ c.before.before.needed2.given.1)))
+    (records_turned _ _ _ _ _ (headed opened) _ (sym measured.measure.ensures.0 ∙ c.before.before.needed2.given.1)))
     c.refused2.ensures.1.1
 
 refused-requires-3 : tie.Need-refused-requires-3
@@ -156,7 +156,7 @@ returns-6 c =
     let r = written.before.before.before.before in
     decode-told _ _
     (rw (all_hold _ _ _ _ _ _ _ (carded (all r)) r.before.before.before.before.before.if1.false r.before.before.before.if2.false (room r))
-    (c.stored.ensures.0, (c.stored.ensures.1.0 ∙ ap (headerWith _ _ _) written.write-rows.ensures.0, written.write-rows.ensures.1)))
+    (c.stored.ensures.0, (c.stored.ensures.1.0 ∙ ap (header_with _ _ _) written.write-rows.ensures.0, written.write-rows.ensures.1)))
     c.stored.ensures.1.1
 
 pub decode-spec : {M : Type 1} → statement M

@@ -5,10 +5,10 @@ use mathlib.Core.List.{List, [], ◌++◌}
 use native.Mathlib.Omega.{arith}
 use lib.ListN.{length, take, drop, get_or}
 use Rattle.calculus.specs.Row.{Row, cells_of}
-use Rattle.instance.specs.Header.{arityOf, maxRelations}
+use Rattle.instance.specs.Header.{arity_of, max_relations}
 use Rattle.instance.specs.InstanceWellFormed.{InstanceOf}
 use Rattle.instance.specs.Rows.{rows_from}
-use Rattle.instance.proofs.Walk.{WalkIn, walk-in, AtRow, row_here, rows_end, relation-few, row-lent}
+use Rattle.instance.proofs.Walk.{WalkIn, walk_in, AtRow, row_here, rows_end, relation-few, row_lent}
 use Rattle.domain.specs.Chains.{Chained}
 use Rattle.domain.proofs.Listing.{Naming, naming-starts, naming-room, naming-node, naming-all}
 use Rattle.domain.proofs.list_cells.Statement.{statement}
@@ -22,8 +22,8 @@ invariant-loop words arities buffer₀ heads₀ n₀ i₀ buffer heads n i =
 abbrev decreases-loop : tie.decreases-loop
 decreases-loop words arities buffer₀ heads₀ n₀ i₀ buffer heads n i = length words - i
 
-loop-holds : tie.Need-loop-init invariant-loop decreases-loop
-loop-holds c = (walk-in _ _ c.before.before.requires.0.0, omega arith, c.before.before.requires.0.1, naming-starts _ _ 0)
+loop_holds : tie.Need-loop-init invariant-loop decreases-loop
+loop_holds c = (walk_in _ _ c.before.before.requires.0.0, omega arith, c.before.before.requires.0.1, naming-starts _ _ 0)
 
 -- the row at index i
 module _ (c : tie.In-loop invariant-loop decreases-loop) where
@@ -43,7 +43,7 @@ module _ (c : tie.In-loop invariant-loop decreases-loop) where
   i = c.before.loop.i
 
   abbrev a : ℕ
-  a = arityOf ars (get_or ws i 0)
+  a = arity_of ars (get_or ws i 0)
 
   abbrev row : Row
   row = record { relation = get_or ws i 0; cells = take a (drop (i + 1) ws) }
@@ -51,8 +51,8 @@ module _ (c : tie.In-loop invariant-loop decreases-loop) where
   here : AtRow given.relations ars ws i
   here = row_here given.relations ars ws i (omega arith) c.before.loop.invariant.0.1
 
-  few : get_or ws i 0 < maxRelations
-  few = relation-few given.relations ars ws (get_or ws i 0) given.well-formed here.relation
+  few : get_or ws i 0 < max_relations
+  few = relation-few given.relations ars ws (get_or ws i 0) given.well_formed here.relation
 
   sum : i + 1 + a ≡ i + (1 + a)
   sum = omega arith
@@ -60,9 +60,9 @@ module _ (c : tie.In-loop invariant-loop decreases-loop) where
   abbrev rest : List ℕ
   rest = cells_of (rows_from ars 0 (drop (i + (1 + a)) ws))
 
-  to-come : Naming (cells_of (rows_from ars 0 ws)) start.args.buffer.now 0 c.before.loop.buffer c.before.loop.n (row.cells ++ rest)
+  to_come : Naming (cells_of (rows_from ars 0 ws)) start.args.buffer.now 0 c.before.loop.buffer c.before.loop.n (row.cells ++ rest)
   unfolding cells_of
-  to-come = rw here.rows at c.before.loop.invariant.3
+  to_come = rw here.rows at c.before.loop.invariant.3
 
 add-first : tie.Need-overflow-add-first invariant-loop decreases-loop
 add-first c = omega arith
@@ -104,9 +104,9 @@ add-cells-requires : tie.Need-add-cells-requires invariant-loop decreases-loop
 add-cells-requires c κs =
     let b = c.before.before.before.before.before in
     let h = here b in
-    rw (row-lent (ws b) (i b) (a b)) (
-      omega (arith, naming-room (row b).cells (rest b) (to-come b), (to-come b).added.long, (start b).requires.1),
-      omega (arith, h.size, h.next.within, (start b).requires.0.0.well-formed.few),
+    rw (row_lent (ws b) (i b) (a b)) (
+      omega (arith, naming-room (row b).cells (rest b) (to_come b), (to_come b).added.long, (start b).requires.1),
+      omega (arith, h.size, h.next.within, (start b).requires.0.0.well_formed.few),
       h.cells,
       b.before.loop.invariant.2,
     )
@@ -117,8 +117,8 @@ loop-less c = omega arith
 loop-again : tie.Need-loop-preserved invariant-loop decreases-loop
 loop-again c =
     let b = c.before.before.before.before.before.before.before.before in
-    let added = rw (row-lent (ws b) (i b) (a b)) at c.before.before.add-cells.ensures.1 in
-    rw (sum b) ((given b, (here b).next), omega (arith, added.most, (here b).size), c.before.before.add-cells.ensures.0, naming-node (row b).cells (rest b) (to-come b) added)
+    let added = rw (row_lent (ws b) (i b) (a b)) at c.before.before.add-cells.ensures.1 in
+    rw (sum b) ((given b, (here b).next), omega (arith, added.most, (here b).size), c.before.before.add-cells.ensures.0, naming-node (row b).cells (rest b) (to_come b) added)
 
 all_listed :
     (c : tie.After-loop invariant-loop decreases-loop) →
@@ -143,7 +143,7 @@ list-cells-spec =
     (tie.spec
     invariant-loop
     decreases-loop
-    loop-holds
+    loop_holds
     add-first
     mul_next
     shared-slice-read-next

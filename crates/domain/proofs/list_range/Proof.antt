@@ -9,9 +9,9 @@ use lib.Seq.{length-take-le, length_front}
 use Rattle.calculus.specs.Row.{cells_of}
 use Rattle.instance.specs.Rows.{rows_from}
 use Rattle.query.specs.Named.{named_in}
-use Rattle.domain.specs.Chains.{wordValue, Added}
-use Rattle.domain.proofs.Chains.{chained-starts, added_then}
-use Rattle.domain.proofs.Listing.{added-fits, added-number, added-ends}
+use Rattle.domain.specs.Chains.{word_value, Added}
+use Rattle.domain.proofs.Chains.{chained_starts, added_then}
+use Rattle.domain.proofs.Listing.{added_fits, added_number, added_ends}
 use Rattle.domain.proofs.list_range.Statement.{statement}
 use Rattle.domain.proofs.list_range.Tie as tie
 
@@ -19,7 +19,7 @@ list-cells-requires : tie.Need-list-cells-requires
 list-cells-requires c κs =
     let start = c.before.before.before.before.before in
     let ars = start.args.arities.now in
-    ((start.requires.0.0, chained-starts _), omega (arith, start.requires.1.0, length-append (cells_of (rows_from ars 0 start.args.words.now)) (named_in ars start.args.query.now)))
+    ((start.requires.0.0, chained_starts _), omega (arith, start.requires.1.0, length-append (cells_of (rows_from ars 0 start.args.words.now)) (named_in ars start.args.query.now)))
 
 add-named-requires : tie.Need-add-named-requires
 add-named-requires c κs =
@@ -46,10 +46,10 @@ module _ (c : tie.After-add-named) where
   room = start.pre.1.0
 
 slice-relend-prefix-unlink : tie.Need-slice-relend-prefix-unlink
-slice-relend-prefix-unlink c = let b = c.before.before in added-fits (added b) (room b)
+slice-relend-prefix-unlink c = let b = c.before.before in added_fits (added b) (room b)
 
 slice-aggregate-unlink : tie.Need-slice-aggregate-unlink
-slice-aggregate-unlink c = let b = c.before.before.before in sym (length-take-le _ _ (added-fits (added b) (room b)))
+slice-aggregate-unlink c = let b = c.before.before.before in sym (length-take-le _ _ (added_fits (added b) (room b)))
 
 unlink-requires : tie.Need-unlink-requires
 unlink-requires c κs = search rules
@@ -57,14 +57,14 @@ unlink-requires c κs = search rules
 same_length : tie.Need-same-length
 same_length c =
     let b = c.before.before.before.before.before.before in
-    let l = ap length c.before.before.unlink.ensures ∙ length-map (take b.add-named.result b.add-named.new.0) wordValue in
+    let l = ap length c.before.before.unlink.ensures ∙ length-map (take b.add-named.result b.add-named.new.0) word_value in
     length_front b.add-named.new.0 c.before.before.unlink.new.0 b.add-named.result l ∙ (added b).long
 
 returns : tie.Need-returns
 returns c =
     let b = c.before.before.before.before.before.before in (
-      added-number (added b) (room b),
-      ap (λ (l : List ℕ). l ++ drop b.add-named.result b.add-named.new.0) c.before.before.unlink.ensures ∙ added-ends (added b) (room b),
+      added_number (added b) (room b),
+      ap (λ (l : List ℕ). l ++ drop b.add-named.result b.add-named.new.0) c.before.before.unlink.ensures ∙ added_ends (added b) (room b),
     )
 
 pub list-range-spec : {M : Type 1} → statement M

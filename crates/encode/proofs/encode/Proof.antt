@@ -8,12 +8,12 @@ use native.Mathlib.Omega.{arith}
 use borrow.Author.Rules.{rules}
 use lib.ListN.{length, length-take, length-drop}
 use Rattle.instance.specs.declared.header.Header.{Header}
-use Rattle.instance.specs.Header.{maxRelations}
+use Rattle.instance.specs.Header.{max_relations}
 use Rattle.instance.specs.Sound.{sound, rows}
 use Rattle.instance.proofs.Rows.{headed}
-use Rattle.instance.proofs.Sound.{scanned-sound, scanned-unsound, scanned-rows, Sound, sound-gives}
-use Rattle.card.specs.Encode.{cardBytes}
-use Rattle.encode.proofs.RecordSteps.{more-well-formed}
+use Rattle.instance.proofs.Sound.{scanned-sound, scanned-unsound, scanned-rows, Sound, sound_gives}
+use Rattle.card.specs.Encode.{card_bytes}
+use Rattle.encode.proofs.RecordSteps.{more_well_formed}
 use Rattle.encode.proofs.Encoding.{all-written, record-size, card-size, refused-unsound, refused-short, done, encode-told}
 use Rattle.encode.proofs.encode.Statement.{statement}
 use Rattle.encode.proofs.encode.Tie as tie
@@ -34,23 +34,23 @@ module _ (c : tie.After-struct-known) where
   abbrev count : ℕ
   count = c.before.before.before.count.given.0.0
 
-  is-sound : sound h ws ≡ true
-  is-sound = scanned-sound h ws count (sym c.before.before.before.before.before.scan.ensures.0 ∙ c.before.before.before.count.given.1)
+  is_sound : sound h ws ≡ true
+  is_sound = scanned-sound h ws count (sym c.before.before.before.before.before.scan.ensures.0 ∙ c.before.before.before.count.given.1)
 
-  is-count : length (rows h ws) ≡ count
-  is-count = scanned-rows h ws count (sym c.before.before.before.before.before.scan.ensures.0 ∙ c.before.before.before.count.given.1)
+  is_count_lem : length (rows h ws) ≡ count
+  is_count_lem = scanned-rows h ws count (sym c.before.before.before.before.before.scan.ensures.0 ∙ c.before.before.before.count.given.1)
 
   abbrev given : Sound h ws
-  given = sound-gives h ws is-sound
+  given = sound_gives h ws is_sound
 
-  eight : length h.arities ≡ maxRelations
+  eight : length h.arities ≡ max_relations
   eight = search rules
 
   abbrev size : ℕ
   size = h.relations + 3 + (3 * h.used - count)
 
-  is-size : length (cardBytes h (rows h ws)) ≡ size
-  is-size = rw is-count at (card-size h ws is-sound eight)
+  is-size : length (card_bytes h (rows h ws)) ≡ size
+  is-size = rw is_count_lem at (card-size h ws is_sound eight)
 
 -- after the head was written
 abbrev begun : tie.After-write-head → tie.After-struct-known
@@ -84,13 +84,13 @@ cast-size : tie.Need-overflow-cast-size
 cast-size c = search rules
 
 sub-size : tie.Need-overflow-sub-size
-sub-size c = omega (arith, record-size (h c) (ws c) (is-sound c) (eight c), is-count c)
+sub-size c = omega (arith, record-size (h c) (ws c) (is_sound c) (eight c), is_count_lem c)
 
 add-size : tie.Need-overflow-add-size
 add-size c = search rules
 
 returns-2 : tie.Need-returns-2
-returns-2 c = encode-told _ _ _ (refused-short _ _ _ (is-sound c.before) (omega (arith, is-size c.before)))
+returns-2 c = encode-told _ _ _ (refused-short _ _ _ (is_sound c.before) (omega (arith, is-size c.before)))
 
 write-head-requires : tie.Need-write-head-requires
 write-head-requires c κs =
@@ -117,9 +117,9 @@ write-records-requires c κs =
     let g = given b in (
       g.headed.narrow,
       (
-        more-well-formed (h b).relations maxRelations (h b).arities g.headed.few 0 _ g.well-formed.words,
+        more_well_formed (h b).relations max_relations (h b).arities g.headed.few 0 _ g.well_formed.words,
         simp (length-take, length-drop)
-            (omega (arith, record-size (h b) (ws b) (is-sound b) (eight b), is-count b, w.write-head.auto.0, w.before.before.before.if1.false)),
+            (omega (arith, record-size (h b) (ws b) (is_sound b) (eight b), is_count_lem b, w.write-head.auto.0, w.before.before.before.if1.false)),
       ),
     )
 
@@ -136,12 +136,12 @@ unfolding rows
 returns-3 c =
     let w = c.before.before.before.before.before.before.before.before in
     let b = begun w in
-    let room : length (cardBytes (h b) (rows (h b) (ws b))) ≤ length (out b) = rw (is-size b) w.before.before.before.if1.false in
-    let d = done (h b) (ws b) (out b) (is-sound b) room in
+    let room : length (card_bytes (h b) (rows (h b) (ws b))) ≤ length (out b) = rw (is-size b) w.before.before.before.if1.false in
+    let d = done (h b) (ws b) (out b) (is_sound b) room in
     let records = c.before.before.write-records in
     encode-told (h b) (ws b) (out b) (
       rw (is-size b) at d.0,
-      all-written (h b) (ws b) (is-sound b) (eight b) (out b) w.write-head.new.0 records.new.0 (count b) (is-count b) room w.write-head.ensures records.ensures ∙ d.1,
+      all-written (h b) (ws b) (is_sound b) (eight b) (out b) w.write-head.new.0 records.new.0 (count b) (is_count_lem b) room w.write-head.ensures records.ensures ∙ d.1,
     )
 
 pub encode-spec : {M : Type 1} → statement M

@@ -6,8 +6,8 @@ use native.Mathlib.Omega.{arith}
 use lib.ListN.{length, take, drop, get_or, set, length-set, length-take, length-append}
 use lib.Seq.{drop-set-lt, length-take-le, get_or-take, drop-length}
 use Rattle.instance.proofs.Rows.{headed}
-use Rattle.calculus.proofs.Lists.{drop-step}
-use Rattle.calculus.proofs.Stores.{Written, written_begin, written-store, written-anew, written-finish}
+use Rattle.calculus.proofs.Lists.{drop_step}
+use Rattle.calculus.proofs.Stores.{Written, written_begin, written_store, written_anew, written_finish}
 use Rattle.encode.proofs.write_head.Statement.{statement}
 use Rattle.encode.proofs.write_head.Tie as tie
 
@@ -32,7 +32,7 @@ module _ (c : tie.Start invariant-loop decreases-loop) where
   starts : Written (whole c.args.relations c.args.arities.now c.args.count) (take c.args.relations c.args.arities.now ++ counted c.args.count)
       c.args.out.now (set c.args.out.now 0 c.args.relations) 1
   starts =
-      written-store 1 refl
+      written_store 1 refl
       (written_begin (whole c.args.relations c.args.arities.now c.args.count) c.args.out.now
       (simp (length-append, length-take) (omega arith)))
 
@@ -40,7 +40,7 @@ module _ (c : tie.Start invariant-loop decreases-loop) where
 next : (n i : ℕ) (ars vs : List ℕ) → i < n → n ≤ length ars → drop i (take n ars) ++ vs ≡ get_or ars i 0 ∷ drop (i + 1) (take n ars) ++ vs
 next n i ars vs l long =
     let within : i < length (take n ars) = simp length-take (omega arith) in
-    rw (drop-step (take n ars) i within, get_or-take n ars i 0 l)
+    rw (drop_step (take n ars) i within, get_or-take n ars i 0 l)
 
 -- the whole head, before the bytes that keep their content
 closing : (n count : ℕ) (ars out : List ℕ) → n ≤ length ars
@@ -64,8 +64,8 @@ cast-out c = omega (arith, few c)
 slice-write-out : tie.Need-slice-write-out invariant-loop decreases-loop
 slice-write-out c = omega arith
 
-loop-holds : tie.Need-loop-init invariant-loop decreases-loop
-loop-holds c = (omega arith, written-anew (starts c))
+loop_holds : tie.Need-loop-init invariant-loop decreases-loop
+loop_holds c = (omega arith, written_anew (starts c))
 
 mul-out : tie.Need-overflow-mul-out invariant-loop decreases-loop
 mul-out c = omega (arith, few c.before.before)
@@ -89,7 +89,7 @@ loop-less : tie.Need-loop-smaller invariant-loop decreases-loop
 loop-less c = omega arith
 
 loop-again : tie.Need-loop-preserved invariant-loop decreases-loop
-loop-again c = (omega arith, written-store _ refl (goes_on c.before))
+loop-again c = (omega arith, written_store _ refl (goes_on c.before))
 
 module _ (c : tie.After-loop invariant-loop decreases-loop) where
   ends : Written (whole c.before.before.args.relations c.before.before.args.arities.now c.before.before.args.count) (counted c.before.before.args.count)
@@ -126,8 +126,8 @@ same_length c = simp length-set (c.before.loop.invariant.1.same ∙ length-set c
 returns : tie.Need-returns invariant-loop decreases-loop
 returns c =
     let n = c.before.before.args.relations in
-    let w = written-store (n + 3) (omega arith) (written-store (n + 2) (omega arith) (ends c)) in
-    written-finish w ∙ closing n c.before.before.args.count c.before.before.args.arities.now c.before.before.args.out.now (omega (arith, few c.before.before))
+    let w = written_store (n + 3) (omega arith) (written_store (n + 2) (omega arith) (ends c)) in
+    written_finish w ∙ closing n c.before.before.args.count c.before.before.args.arities.now c.before.before.args.out.now (omega (arith, few c.before.before))
 
 pub write-head-spec : {M : Type 1} → statement M
 write-head-spec =
@@ -137,7 +137,7 @@ write-head-spec =
     decreases-loop
     cast-out
     slice-write-out
-    loop-holds
+    loop_holds
     mul-out
     element-copy-out-out
     cast-out-2

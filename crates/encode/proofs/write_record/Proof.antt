@@ -5,17 +5,17 @@ use mathlib.Core.List.{List, ◌∷◌, ◌++◌, []}
 use native.Mathlib.Omega.{arith}
 use lib.ListN.{length, drop, get_or, length-set, set}
 use lib.Seq.{drop-length, drop-set-lt}
-use Rattle.calculus.proofs.Stores.{Written, written_begin, written-store, written-finish, written-anew}
-use Rattle.card.specs.Encode.{fieldBytes, fieldsBytes, fullMap}
-use Rattle.encode.proofs.RecordSteps.{fields-size, fields-rest, full-maps}
+use Rattle.calculus.proofs.Stores.{Written, written_begin, written_store, written_finish, written_anew}
+use Rattle.card.specs.Encode.{field_bytes, fields_bytes, full_map}
+use Rattle.encode.proofs.RecordSteps.{fields-size, fields_rest, full_maps}
 use Rattle.encode.proofs.write_record.Statement.{statement}
 use Rattle.encode.proofs.write_record.Tie as tie
 
 abbrev whole : ℕ → List ℕ → List ℕ
-whole relation cells = relation ∷ fullMap (length cells) ∷ fieldsBytes cells
+whole relation cells = relation ∷ full_map (length cells) ∷ fields_bytes cells
 
 abbrev invariant-loop : tie.invariant-loop
-invariant-loop out₀ relation cells at₀ i₀ out at i = (i ≤ length cells) × (at ≡ 2 + 3 * i) × Written (whole relation cells) (fieldsBytes (drop i cells)) out₀ out at
+invariant-loop out₀ relation cells at₀ i₀ out at i = (i ≤ length cells) × (at ≡ 2 + 3 * i) × Written (whole relation cells) (fields_bytes (drop i cells)) out₀ out at
 
 abbrev decreases-loop : tie.decreases-loop
 decreases-loop out₀ relation cells at₀ i₀ out at i = length cells - i
@@ -25,16 +25,16 @@ module _ (c : tie.Start invariant-loop decreases-loop) where
   abbrev cs : List ℕ
   cs = c.args.cells.now
 
-  abbrev map-byte : ℕ
-  map-byte = get_or (0 ∷ 1 ∷ 3 ∷ 7 ∷ 15 ∷ 31 ∷ 63 ∷ []) (length cs) 0
+  abbrev map_byte : ℕ
+  map_byte = get_or (0 ∷ 1 ∷ 3 ∷ 7 ∷ 15 ∷ 31 ∷ 63 ∷ []) (length cs) 0
 
   abbrev started : List ℕ
-  started = set (set c.args.out.now 0 c.args.relation) 1 map-byte
+  started = set (set c.args.out.now 0 c.args.relation) 1 map_byte
 
-  starts : Written (whole c.args.relation cs) (fieldsBytes cs) c.args.out.now started 2
+  starts : Written (whole c.args.relation cs) (fields_bytes cs) c.args.out.now started 2
   starts =
-      rw (full-maps (length cs) c.requires.1)
-      (written-store 2 refl (written-store 1 refl (written_begin (whole c.args.relation cs) c.args.out.now (omega (arith, fields-size cs, c.requires.2)))))
+      rw (full_maps (length cs) c.requires.1)
+      (written_store 2 refl (written_store 1 refl (written_begin (whole c.args.relation cs) c.args.out.now (omega (arith, fields-size cs, c.requires.2)))))
 
 -- the cell at index i
 module _ (c : tie.In-loop invariant-loop decreases-loop) where
@@ -43,8 +43,8 @@ module _ (c : tie.In-loop invariant-loop decreases-loop) where
 
   goes_on :
       Written (whole start.args.relation (cs start))
-      (fieldBytes (get_or (cs start) c.before.loop.i 0) ++ fieldsBytes (drop (c.before.loop.i + 1) (cs start))) (started start) c.before.loop.out c.before.loop.at
-  goes_on = rw (fields-rest (cs start) c.before.loop.i (omega arith)) at c.before.loop.invariant.2
+      (field_bytes (get_or (cs start) c.before.loop.i 0) ++ fields_bytes (drop (c.before.loop.i + 1) (cs start))) (started start) c.before.loop.out c.before.loop.at
+  goes_on = rw (fields_rest (cs start) c.before.loop.i (omega arith)) at c.before.loop.invariant.2
 
 cast-out : tie.Need-overflow-cast-out invariant-loop decreases-loop
 cast-out c = omega arith
@@ -58,8 +58,8 @@ array-read-out c = omega arith
 slice-write-out-2 : tie.Need-slice-write-out-2 invariant-loop decreases-loop
 slice-write-out-2 c = simp length-set (omega (arith, c.requires.2))
 
-loop-holds : tie.Need-loop-init invariant-loop decreases-loop
-loop-holds c = (omega arith, omega arith, written-anew (starts c))
+loop_holds : tie.Need-loop-init invariant-loop decreases-loop
+loop_holds c = (omega arith, omega arith, written_anew (starts c))
 
 mul-c : tie.Need-overflow-mul-c invariant-loop decreases-loop
 mul-c c = omega arith
@@ -101,22 +101,22 @@ loop-less : tie.Need-loop-smaller invariant-loop decreases-loop
 loop-less c = omega arith
 
 loop-again : tie.Need-loop-preserved invariant-loop decreases-loop
-loop-again c = (omega arith, omega arith, written-store _ (omega arith) (written-store _ (omega arith) (written-store _ refl (goes_on c.before))))
+loop-again c = (omega arith, omega arith, written_store _ (omega arith) (written_store _ (omega arith) (written_store _ refl (goes_on c.before))))
 
 same_length : tie.Need-same-length invariant-loop decreases-loop
 same_length c = c.before.loop.invariant.2.same ∙ (starts c.before.before).same
 
 returns : tie.Need-returns invariant-loop decreases-loop
-unfolding fieldsBytes
+unfolding fields_bytes
 returns c =
     let s = c.before.before in
     let all = whole s.args.relation (cs s) in
     let e : c.before.loop.i ≡ length (cs s) = omega arith in
     let out = s.args.out.now in
     let kept : drop (length all) (started s) ≡ drop (length all) out =
-    drop-set-lt (length all) (set out 0 s.args.relation) 1 (map-byte s) (omega arith) ∙ drop-set-lt (length all) out 0 s.args.relation (omega arith)
+    drop-set-lt (length all) (set out 0 s.args.relation) 1 (map_byte s) (omega arith) ∙ drop-set-lt (length all) out 0 s.args.relation (omega arith)
     in
-    written-finish (rw (e, drop-length) at c.before.loop.invariant.2) ∙ ap (λ (l : List ℕ). all ++ l) kept
+    written_finish (rw (e, drop-length) at c.before.loop.invariant.2) ∙ ap (λ (l : List ℕ). all ++ l) kept
 
 pub write-record-spec : {M : Type 1} → statement M
 write-record-spec =
@@ -128,7 +128,7 @@ write-record-spec =
     slice-write-out
     array-read-out
     slice-write-out-2
-    loop-holds
+    loop_holds
     mul-c
     shared-slice-read-c
     cast-out-2

@@ -6,26 +6,26 @@ use native.Mathlib.Omega.{arith}
 use borrow.Author.Rules.{rules}
 use lib.ListN.{length, take, drop, get_or, length-append, length-drop}
 use Rattle.calculus.specs.Row.{Row}
-use Rattle.calculus.proofs.Stores.{Written, written_begin, written-part, written-finish}
-use Rattle.instance.specs.Header.{arityOf, maxRelations, maxColumns}
+use Rattle.calculus.proofs.Stores.{Written, written_begin, written_part, written_finish}
+use Rattle.instance.specs.Header.{arity_of, max_relations, max_columns}
 use Rattle.instance.specs.Rows.{rows_from}
-use Rattle.instance.proofs.Walk.{Walk, walk-starts, AtRow, row_here, rows_end, row-lent}
-use Rattle.card.specs.Encode.{recordBytes, recordsBytes}
+use Rattle.instance.proofs.Walk.{Walk, walk_starts, AtRow, row_here, rows_end, row_lent}
+use Rattle.card.specs.Encode.{record_bytes, records_bytes}
 use Rattle.encode.proofs.RecordSteps.{fields-size}
 use Rattle.encode.proofs.write_records.Statement.{statement}
 use Rattle.encode.proofs.write_records.Tie as tie
-use Rattle.instance.proofs.Parts.{part_to_end, put-to-end}
+use Rattle.instance.proofs.Parts.{part_to_end, put_to_end}
 
 abbrev invariant-loop : tie.invariant-loop
 invariant-loop out₀ arities words at₀ i₀ out at i =
-    Walk maxRelations arities words i
-    × Written (recordsBytes (rows_from arities 0 words)) (recordsBytes (rows_from arities 0 (drop i words))) out₀ out at
+    Walk max_relations arities words i
+    × Written (records_bytes (rows_from arities 0 words)) (records_bytes (rows_from arities 0 (drop i words))) out₀ out at
 
 abbrev decreases-loop : tie.decreases-loop
 decreases-loop out₀ arities words at₀ i₀ out at i = length words - i
 
-loop-holds : tie.Need-loop-init invariant-loop decreases-loop
-loop-holds c = (walk-starts _ _ _ c.before.before.requires.1.0, written_begin _ _ c.before.before.requires.1.1)
+loop_holds : tie.Need-loop-init invariant-loop decreases-loop
+loop_holds c = (walk_starts _ _ _ c.before.before.requires.1.0, written_begin _ _ c.before.before.requires.1.1)
 
 -- the row at index i
 module _ (c : tie.In-loop invariant-loop decreases-loop) where
@@ -42,29 +42,29 @@ module _ (c : tie.In-loop invariant-loop decreases-loop) where
   i = c.before.loop.i
 
   abbrev a : ℕ
-  a = arityOf ars (get_or ws i 0)
+  a = arity_of ars (get_or ws i 0)
 
   abbrev row : Row
   row = record { relation = get_or ws i 0; cells = take a (drop (i + 1) ws) }
 
-  here : AtRow maxRelations ars ws i
-  here = row_here maxRelations ars ws i (omega arith) c.before.loop.invariant.0
+  here : AtRow max_relations ars ws i
+  here = row_here max_relations ars ws i (omega arith) c.before.loop.invariant.0
 
-  size : length (recordBytes row) ≡ 2 + 3 * a
+  size : length (record_bytes row) ≡ 2 + 3 * a
   size = omega (arith, fields-size row.cells, here.size)
 
-  to-come :
-      Written (recordsBytes (rows_from ars 0 ws)) (recordBytes row ++ recordsBytes (rows_from ars 0 (drop (i + (1 + a)) ws)))
+  to_come :
+      Written (records_bytes (rows_from ars 0 ws)) (record_bytes row ++ records_bytes (rows_from ars 0 (drop (i + (1 + a)) ws)))
       start.args.out.now c.before.loop.out c.before.loop.at
-  unfolding recordsBytes
-  to-come = rw here.rows at c.before.loop.invariant.1
+  unfolding records_bytes
+  to_come = rw here.rows at c.before.loop.invariant.1
 
   -- the record fits
-  width : a ≤ maxColumns
+  width : a ≤ max_columns
   width = start.pre.0 (get_or ws i 0)
 
   fits : c.before.loop.at + (2 + 3 * a) ≤ length c.before.loop.out
-  fits = omega (arith, size, to-come.room, to-come.same, length-append (recordBytes row) (recordsBytes (rows_from ars 0 (drop (i + (1 + a)) ws))))
+  fits = omega (arith, size, to_come.room, to_come.same, length-append (record_bytes row) (records_bytes (rows_from ars 0 (drop (i + (1 + a)) ws))))
 
 mul-relation : tie.Need-overflow-mul-relation invariant-loop decreases-loop
 mul-relation c = omega arith
@@ -91,10 +91,10 @@ add-next : tie.Need-overflow-add-next invariant-loop decreases-loop
 add-next c = omega (arith, (here c.before.before).next.within)
 
 sub-write-record : tie.Need-overflow-sub-write-record invariant-loop decreases-loop
-sub-write-record c = omega (arith, to-come c.before.before)
+sub-write-record c = omega (arith, to_come c.before.before)
 
 part-write-record-start : tie.Need-slice-bounds-write-record-start invariant-loop decreases-loop
-part-write-record-start c = omega (arith, to-come c.before.before)
+part-write-record-start c = omega (arith, to_come c.before.before)
 
 part-write-record-end : tie.Need-slice-bounds-write-record-end invariant-loop decreases-loop
 part-write-record-end c = search rules
@@ -117,7 +117,7 @@ write-record-requires c κs =
     let h = here b in
     let out = b.before.loop.out in
     let at = b.before.loop.at in
-    rw (row-lent (ws b) (i b) (a b), part_to_end out at) (
+    rw (row_lent (ws b) (i b) (a b), part_to_end out at) (
       h.relation,
       omega (arith, h.size, width b),
       omega (arith, h.size, fits b, length-drop at out),
@@ -144,20 +144,20 @@ loop-again c =
     let out = b.before.loop.out in
     let at = b.before.loop.at in
     let sum : i b + 1 + a b ≡ i b + (1 + a b) = omega arith in
-    let next : at + (2 + 3 * (i b + 1 + a b - (i b + 1))) ≡ at + length (recordBytes (row b)) = omega (arith, size b) in
-    let part = rw (row-lent (ws b) (i b) (a b), part_to_end out at) at c.before.before.write-record.ensures in
-    rw (next, sum, put-to-end out at _ (omega (arith, fits b)), part) ((here b).next, written-part (recordBytes (row b)) (to-come b))
+    let next : at + (2 + 3 * (i b + 1 + a b - (i b + 1))) ≡ at + length (record_bytes (row b)) = omega (arith, size b) in
+    let part = rw (row_lent (ws b) (i b) (a b), part_to_end out at) at c.before.before.write-record.ensures in
+    rw (next, sum, put_to_end out at _ (omega (arith, fits b)), part) ((here b).next, written_part (record_bytes (row b)) (to_come b))
 
 same_length : tie.Need-same-length invariant-loop decreases-loop
 same_length c = c.before.loop.invariant.1.same
 
 returns : tie.Need-returns invariant-loop decreases-loop
-unfolding recordsBytes
+unfolding records_bytes
 returns c =
     let start = c.before.before.before.before in
     let ws = start.args.words.now in
     let e : c.before.loop.i ≡ length ws = omega (arith, c.before.loop.invariant.0.within) in
-    written-finish (rw (rows_end start.args.arities.now ws _ e) at c.before.loop.invariant.1)
+    written_finish (rw (rows_end start.args.arities.now ws _ e) at c.before.loop.invariant.1)
 
 pub write-records-spec : {M : Type 1} → statement M
 write-records-spec =
@@ -165,7 +165,7 @@ write-records-spec =
     (tie.spec
     invariant-loop
     decreases-loop
-    loop-holds
+    loop_holds
     mul-relation
     shared-slice-read-relation
     add-first

@@ -2,20 +2,20 @@
 use mathlib.Core.Path.{sym, ap, ◌∙◌}
 use Rattle.answer.specs.declared.asked.Asked.{Asked}
 use Rattle.answer.specs.declared.asked.Asked.TheVariants.{Refused}
-use Rattle.answer.specs.Ask.{list, ask, askedBuffer}
-use Rattle.answer.specs.Numbers.{askedNumber, verdictOf, costOf}
-use Rattle.exports.specs.Calls.{askAnswer, askBuffer}
-use Rattle.exports.proofs.Headed.{kept-no, left}
+use Rattle.answer.specs.Ask.{list, ask, asked_buffer}
+use Rattle.answer.specs.Numbers.{asked_number, verdict_of, cost_of}
+use Rattle.exports.specs.Calls.{ask_answer, ask_buffer}
+use Rattle.exports.proofs.Headed.{kept_no, left}
 use borrow.Author.Rules.{rules}
 use Rattle.exports.proofs.plotask_ask.Statement.{statement}
 use Rattle.exports.proofs.plotask_ask.Tie as tie
 
 returns : tie.Need-returns
-unfolding askAnswer askBuffer
+unfolding ask_answer ask_buffer
 returns c =
     let args = c.before.before.before.before.before.before.args in
-    let a = sym (kept-no args.header.now c.if1.true _ (Refused 41)) in
-    (ap askedNumber a, (sym (kept-no args.header.now c.if1.true _ _), (ap (λ (x : Asked). verdictOf x args.truth.now) a, ap (λ (x : Asked). costOf x args.cost.now) a)))
+    let a = sym (kept_no args.header.now c.if1.true _ (Refused 41)) in
+    (ap asked_number a, (sym (kept_no args.header.now c.if1.true _ _), (ap (λ (x : Asked). verdict_of x args.truth.now) a, ap (λ (x : Asked). cost_of x args.cost.now) a)))
 
 read-header-requires : tie.Need-read-header-requires
 read-header-requires c κs = search rules
@@ -36,7 +36,7 @@ same_length : tie.Need-same-length
 same_length c = search rules
 
 returns-2 : tie.Need-returns-2
-unfolding askAnswer askBuffer
+unfolding ask_answer ask_buffer
 returns-2 c =
     let read = c.before.before.before.before.before.before.before.before.before in
     let tested = read.before in
@@ -46,12 +46,12 @@ returns-2 c =
     let is = read.read-header.ensures in
     let made = c.before.before.before.before.before.before.before.ask.ensures in
     let a = left hs long is (λ h. ask h args.instance.now args.query.now args.candidate.now (list args.buffer.now) args.budget) (Refused 41) made.0 in (
-      c.asked-number.ensures ∙ ap askedNumber a,
+      c.asked-number.ensures ∙ ap asked_number a,
       (
-        left hs long is (λ h. askedBuffer h args.instance.now args.query.now args.candidate.now args.buffer.now) _ made.1.0,
+        left hs long is (λ h. asked_buffer h args.instance.now args.query.now args.candidate.now args.buffer.now) _ made.1.0,
         (
-          c.before.before.before.verdict.ensures ∙ ap (λ (x : Asked). verdictOf x args.truth.now) a,
-          c.before.cost-of.ensures ∙ ap (λ (x : Asked). costOf x args.cost.now) a,
+          c.before.before.before.verdict.ensures ∙ ap (λ (x : Asked). verdict_of x args.truth.now) a,
+          c.before.cost-of.ensures ∙ ap (λ (x : Asked). cost_of x args.cost.now) a,
         ),
       ),
     )

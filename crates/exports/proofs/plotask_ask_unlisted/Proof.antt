@@ -3,19 +3,19 @@ use mathlib.Core.Path.{sym, ap, ◌∙◌}
 use Rattle.answer.specs.declared.asked.Asked.{Asked}
 use Rattle.answer.specs.declared.asked.Asked.TheVariants.{Refused}
 use Rattle.answer.specs.Ask.{none, ask}
-use Rattle.answer.specs.Numbers.{askedNumber, verdictOf, costOf}
-use Rattle.exports.specs.Calls.{askAnswer}
-use Rattle.exports.proofs.Headed.{kept-no, left}
+use Rattle.answer.specs.Numbers.{asked_number, verdict_of, cost_of}
+use Rattle.exports.specs.Calls.{ask_answer}
+use Rattle.exports.proofs.Headed.{kept_no, left}
 use borrow.Author.Rules.{rules}
 use Rattle.exports.proofs.plotask_ask_unlisted.Statement.{statement}
 use Rattle.exports.proofs.plotask_ask_unlisted.Tie as tie
 
 returns : tie.Need-returns
-unfolding askAnswer
+unfolding ask_answer
 returns c =
     let args = c.before.before.before.before.before.args in
-    let a = sym (kept-no args.header.now c.if1.true _ (Refused 41)) in
-    (ap askedNumber a, (ap (λ (x : Asked). verdictOf x args.truth.now) a, ap (λ (x : Asked). costOf x args.cost.now) a))
+    let a = sym (kept_no args.header.now c.if1.true _ (Refused 41)) in
+    (ap asked_number a, (ap (λ (x : Asked). verdict_of x args.truth.now) a, ap (λ (x : Asked). cost_of x args.cost.now) a))
 
 read-header-requires : tie.Need-read-header-requires
 read-header-requires c κs = search rules
@@ -33,7 +33,7 @@ asked-number-requires : tie.Need-asked-number-requires
 asked-number-requires c κs = search rules
 
 returns-2 : tie.Need-returns-2
-unfolding askAnswer
+unfolding ask_answer
 returns-2 c =
     let read = c.before.before.before.before.before.before in
     let tested = read.before in
@@ -44,10 +44,10 @@ returns-2 c =
     left hs tested.if1.false read.read-header.ensures (λ h. ask h args.instance.now args.query.now args.candidate.now none args.budget) (Refused 41)
     made.0
     in (
-      c.asked-number.ensures ∙ ap askedNumber a,
+      c.asked-number.ensures ∙ ap asked_number a,
       (
-        c.before.before.before.verdict.ensures ∙ ap (λ (x : Asked). verdictOf x args.truth.now) a,
-        c.before.cost-of.ensures ∙ ap (λ (x : Asked). costOf x args.cost.now) a,
+        c.before.before.before.verdict.ensures ∙ ap (λ (x : Asked). verdict_of x args.truth.now) a,
+        c.before.cost-of.ensures ∙ ap (λ (x : Asked). cost_of x args.cost.now) a,
       ),
     )
 

@@ -1,16 +1,16 @@
 -- `exports::plotask_encode` meets its contract: 41 if the header slice is not as long as a header, otherwise the library's call. Assumes nothing.
-use Rattle.card.specs.Encode.{encoded, encodedBytes}
-use Rattle.exports.proofs.Headed.{left, counted-no, counted-yes}
-use Rattle.exports.specs.Calls.{encodeAnswer, encodeBytes}
+use Rattle.card.specs.Encode.{encoded, encoded_bytes}
+use Rattle.exports.proofs.Headed.{left, counted_no, counted-yes}
+use Rattle.exports.specs.Calls.{encode_answer, encode_bytes}
 use borrow.Author.Rules.{rules}
 use Rattle.exports.proofs.plotask_encode.Statement.{statement}
 use Rattle.exports.proofs.plotask_encode.Tie as tie
 
 returns : tie.Need-returns
-unfolding encodeAnswer encodeBytes
+unfolding encode_answer encode_bytes
 returns c =
     let args = c.before.before.before.before.args in
-    counted-no args.header.now (λ h. encoded h args.instance.now args.card.now) (λ h. encodedBytes h args.instance.now args.card.now) _ args.count.now c.if1.true
+    counted_no args.header.now (λ h. encoded h args.instance.now args.card.now) (λ h. encoded_bytes h args.instance.now args.card.now) _ args.count.now c.if1.true
 
 read-header-requires : tie.Need-read-header-requires
 read-header-requires c κs = search rules
@@ -28,12 +28,12 @@ same_length : tie.Need-same-length
 same_length c = search rules
 
 returns-2 : tie.Need-returns-2
-unfolding encodeAnswer encodeBytes
+unfolding encode_answer encode_bytes
 returns-2 c =
     let tested = c.before.before.before.before.before.before.before.before in
     let args = tested.before.before.before.before.args in
     let made = c.before.before.before.before.before.encode.ensures in
-    counted-yes args.header.now (λ h. encoded h args.instance.now args.card.now) (λ h. encodedBytes h args.instance.now args.card.now) _ args.count.now tested.if1.false c.before.before.before.before.before.before.before.read-header.ensures made.0 made.1.0
+    counted-yes args.header.now (λ h. encoded h args.instance.now args.card.now) (λ h. encoded_bytes h args.instance.now args.card.now) _ args.count.now tested.if1.false c.before.before.before.before.before.before.before.read-header.ensures made.0 made.1.0
     c.number.ensures c.before.value.ensures
 
 pub plotask-encode-spec : {M : Type 1} → statement M

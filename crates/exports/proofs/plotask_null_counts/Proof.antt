@@ -1,16 +1,16 @@
 -- `exports::plotask_null_counts` meets its contract: 41 if the header slice is not as long as a header, otherwise the library's call. Assumes nothing.
-use Rattle.instance.specs.NullCounts.{counted, countedWords}
-use Rattle.exports.proofs.Headed.{left, counted-no, counted-yes}
-use Rattle.exports.specs.Calls.{countsAnswer, countsWords}
+use Rattle.instance.specs.NullCounts.{counted, counted_words}
+use Rattle.exports.proofs.Headed.{left, counted_no, counted-yes}
+use Rattle.exports.specs.Calls.{counts_answer, counts_words}
 use borrow.Author.Rules.{rules}
 use Rattle.exports.proofs.plotask_null_counts.Statement.{statement}
 use Rattle.exports.proofs.plotask_null_counts.Tie as tie
 
 returns : tie.Need-returns
-unfolding countsAnswer countsWords
+unfolding counts_answer counts_words
 returns c =
     let args = c.before.before.before.before.args in
-    counted-no args.header.now (λ h. counted h args.instance.now args.counts.now) (λ h. countedWords h args.instance.now args.counts.now) _ args.count.now c.if1.true
+    counted_no args.header.now (λ h. counted h args.instance.now args.counts.now) (λ h. counted_words h args.instance.now args.counts.now) _ args.count.now c.if1.true
 
 read-header-requires : tie.Need-read-header-requires
 read-header-requires c κs = search rules
@@ -28,12 +28,12 @@ same_length : tie.Need-same-length
 same_length c = search rules
 
 returns-2 : tie.Need-returns-2
-unfolding countsAnswer countsWords
+unfolding counts_answer counts_words
 returns-2 c =
     let tested = c.before.before.before.before.before.before.before.before in
     let args = tested.before.before.before.before.args in
     let made = c.before.before.before.before.before.null-counts.ensures in
-    counted-yes args.header.now (λ h. counted h args.instance.now args.counts.now) (λ h. countedWords h args.instance.now args.counts.now) _ args.count.now tested.if1.false c.before.before.before.before.before.before.before.read-header.ensures made.0 made.1.0
+    counted-yes args.header.now (λ h. counted h args.instance.now args.counts.now) (λ h. counted_words h args.instance.now args.counts.now) _ args.count.now tested.if1.false c.before.before.before.before.before.before.before.read-header.ensures made.0 made.1.0
     c.number.ensures c.before.value.ensures
 
 pub plotask-null-counts-spec : {M : Type 1} → statement M

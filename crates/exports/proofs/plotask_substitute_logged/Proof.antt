@@ -2,21 +2,21 @@
 use mathlib.Core.Path.{sym, ap, ◌∙◌}
 use Rattle.calculus.specs.declared.answer.Answer.{Answer}
 use Rattle.calculus.specs.Answer.{number_of, value_of}
-use Rattle.log.specs.Log.{logged, loggedWords, loggedLog, loggedUsed}
-use Rattle.exports.specs.Calls.{logAnswer, logWords, logLog, logUsed}
-use Rattle.exports.proofs.Headed.{headed-no, kept-no, answered, left}
+use Rattle.log.specs.Log.{logged, logged_words, logged_log, logged_used}
+use Rattle.exports.specs.Calls.{log_answer, log_words, log_log, log_used}
+use Rattle.exports.proofs.Headed.{headed_no, kept_no, answered, left}
 use borrow.Author.Rules.{rules}
 use Rattle.exports.proofs.plotask_substitute_logged.Statement.{statement}
 use Rattle.exports.proofs.plotask_substitute_logged.Tie as tie
 
 returns : tie.Need-returns
-unfolding logAnswer logWords logLog logUsed
+unfolding log_answer log_words log_log log_used
 returns c =
     let args = c.before.before.before.before.args in
     let hs = args.header.now in
     let no = c.if1.true in
-    let a = headed-no hs no _ in
-    (sym (ap number_of a), (sym (kept-no hs no _ _), (sym (kept-no hs no _ _), (sym (kept-no hs no _ _), sym (ap (λ (x : Answer). value_of x args.count.now) a)))))
+    let a = headed_no hs no _ in
+    (sym (ap number_of a), (sym (kept_no hs no _ _), (sym (kept_no hs no _ _), (sym (kept_no hs no _ _), sym (ap (λ (x : Answer). value_of x args.count.now) a)))))
 
 read-header-requires : tie.Need-read-header-requires
 read-header-requires c κs = search rules
@@ -37,7 +37,7 @@ same-length-2 : tie.Need-same-length-2
 same-length-2 c = search rules
 
 returns-2 : tie.Need-returns-2
-unfolding logAnswer logWords logLog logUsed
+unfolding log_answer log_words log_log log_used
 returns-2 c =
     let call = c.before.before.before.before.before.before.before in
     let read = call.before.before.before.before in
@@ -48,7 +48,7 @@ returns-2 c =
     let is = read.read-header.ensures in
     let made = call.substitute-logged.ensures in
     let a = answered hs long is (λ h. logged h args.instance.now args.log.now args.used.now args.mark args.cell) made.0 in
-    (c.number.ensures ∙ ap number_of a, (left hs long is (λ h. loggedWords h args.instance.now args.log.now args.used.now args.mark args.cell) _ made.1.0, (left hs long is (λ h. loggedLog h args.instance.now args.log.now args.used.now args.mark args.cell) _ made.1.1.0, (left hs long is (λ h. loggedUsed h args.instance.now args.log.now args.used.now args.mark args.cell) _ made.1.1.1.0, c.before.value.ensures ∙ ap (λ (x : Answer). value_of x args.count.now) a))))
+    (c.number.ensures ∙ ap number_of a, (left hs long is (λ h. logged_words h args.instance.now args.log.now args.used.now args.mark args.cell) _ made.1.0, (left hs long is (λ h. logged_log h args.instance.now args.log.now args.used.now args.mark args.cell) _ made.1.1.0, (left hs long is (λ h. logged_used h args.instance.now args.log.now args.used.now args.mark args.cell) _ made.1.1.1.0, c.before.value.ensures ∙ ap (λ (x : Answer). value_of x args.count.now) a))))
 
 pub plotask-substitute-logged-spec : {M : Type 1} → statement M
 plotask-substitute-logged-spec =

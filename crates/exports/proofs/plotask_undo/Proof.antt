@@ -2,21 +2,21 @@
 use mathlib.Core.Path.{sym, ap, ◌∙◌}
 use Rattle.calculus.specs.declared.answer.Answer.{Answer}
 use Rattle.calculus.specs.Answer.{number_of, value_of}
-use Rattle.log.specs.Log.{undone, undoneWords, undoneUsed}
-use Rattle.exports.specs.Calls.{undoAnswer, undoWords, undoUsed}
-use Rattle.exports.proofs.Headed.{headed-no, kept-no, answered, left}
+use Rattle.log.specs.Log.{undone, undone_words, undone_used}
+use Rattle.exports.specs.Calls.{undo_answer, undo_words, undo_used}
+use Rattle.exports.proofs.Headed.{headed_no, kept_no, answered, left}
 use borrow.Author.Rules.{rules}
 use Rattle.exports.proofs.plotask_undo.Statement.{statement}
 use Rattle.exports.proofs.plotask_undo.Tie as tie
 
 returns : tie.Need-returns
-unfolding undoAnswer undoWords undoUsed
+unfolding undo_answer undo_words undo_used
 returns c =
     let args = c.before.before.before.before.args in
     let hs = args.header.now in
     let no = c.if1.true in
-    let a = headed-no hs no _ in
-    (sym (ap number_of a), (sym (kept-no hs no _ _), (sym (kept-no hs no _ _), sym (ap (λ (x : Answer). value_of x args.count.now) a))))
+    let a = headed_no hs no _ in
+    (sym (ap number_of a), (sym (kept_no hs no _ _), (sym (kept_no hs no _ _), sym (ap (λ (x : Answer). value_of x args.count.now) a))))
 
 read-header-requires : tie.Need-read-header-requires
 read-header-requires c κs = search rules
@@ -34,7 +34,7 @@ same_length : tie.Need-same-length
 same_length c = search rules
 
 returns-2 : tie.Need-returns-2
-unfolding undoAnswer undoWords undoUsed
+unfolding undo_answer undo_words undo_used
 returns-2 c =
     let call = c.before.before.before.before.before in
     let read = call.before.before.before in
@@ -45,7 +45,7 @@ returns-2 c =
     let is = read.read-header.ensures in
     let made = call.undo.ensures in
     let a = answered hs long is (λ h. undone h args.instance.now args.log.now args.used.now) made.0 in
-    (c.number.ensures ∙ ap number_of a, (left hs long is (λ h. undoneWords h args.instance.now args.log.now args.used.now) _ made.1.0, (left hs long is (λ h. undoneUsed h args.instance.now args.log.now args.used.now) _ made.1.1.0, c.before.value.ensures ∙ ap (λ (x : Answer). value_of x args.count.now) a)))
+    (c.number.ensures ∙ ap number_of a, (left hs long is (λ h. undone_words h args.instance.now args.log.now args.used.now) _ made.1.0, (left hs long is (λ h. undone_used h args.instance.now args.log.now args.used.now) _ made.1.1.0, c.before.value.ensures ∙ ap (λ (x : Answer). value_of x args.count.now) a)))
 
 pub plotask-undo-spec : {M : Type 1} → statement M
 plotask-undo-spec =

@@ -8,20 +8,20 @@ use borrow.Author.Tests.{lt-ltb, le-ltb, eq-eqb, ne_eqb, not-true, not-false, le
 use lib.ListN.{length}
 use Rattle.calculus.specs.declared.answer.Answer.TheVariants.{Done, Refused}
 use Rattle.calculus.specs.Demand.{demand}
-use Rattle.calculus.specs.Refusal.{not-a-cell, no_room}
+use Rattle.calculus.specs.Refusal.{not_a_cell, no_room}
 use Rattle.instance.specs.declared.header.Header.{Header}
-use Rattle.instance.specs.Rows.{areCells}
+use Rattle.instance.specs.Rows.{are_cells}
 use Rattle.instance.specs.Sound.{sound}
 use Rattle.instance.specs.Insert.{inserted, enterable}
-use Rattle.instance.specs.Room.{hasRoom}
+use Rattle.instance.specs.Room.{has_room}
 use Rattle.instance.proofs.Rows.{headed}
-use Rattle.instance.proofs.Sound.{scanned-sound, scanned-unsound, sound-gives}
+use Rattle.instance.proofs.Sound.{scanned-sound, scanned-unsound, sound_gives}
 use borrow.Author.Rules.{rules}
 use Rattle.insert.proofs.check_insert.Statement.{statement}
 use Rattle.insert.proofs.check_insert.Tie as tie
 use Rattle.calculus.proofs.Bools.{and_parts}
 use lib.Dec.{leb}
-use Rattle.instance.specs.Header.{maxWords}
+use Rattle.instance.specs.Header.{max_words}
 
 scan-requires : tie.Need-scan-requires
 scan-requires c κs = search rules
@@ -40,8 +40,8 @@ module _ (c : tie.After-enum-told) where
   abbrev ws : List ℕ
   ws = c.before.before.before.before.before.args.instance.now
 
-  is-sound : sound h ws ≡ true
-  is-sound = scanned-sound h ws _ (sym c.before.before.scan.ensures.0 ∙ c.enum_told.given.1)
+  is_sound : sound h ws ≡ true
+  is_sound = scanned-sound h ws _ (sym c.before.before.scan.ensures.0 ∙ c.enum_told.given.1)
 
 returns : tie.Need-returns
 unfolding inserted enterable
@@ -49,20 +49,20 @@ returns c = simp (scanned-unsound _ _ (sym c.before.before.scan.ensures.0 ∙ c.
 
 returns-2 : tie.Need-returns-2
 unfolding inserted enterable
-returns-2 c = simp (is-sound c.before.before, le-ltb _ _ c.if1.true)
+returns-2 c = simp (is_sound c.before.before, le-ltb _ _ c.if1.true)
 
 mul-if2 : tie.Need-overflow-mul-if2
 mul-if2 c = search rules
 
 array-read-if2 : tie.Need-array-read-if2
-array-read-if2 c = omega (arith, (sound-gives _ _ (is-sound c.before.before.before)).headed.few)
+array-read-if2 c = omega (arith, (sound_gives _ _ (is_sound c.before.before.before)).headed.few)
 
 cast-if2 : tie.Need-overflow-cast-if2
 cast-if2 c = search rules
 
 returns-3 : tie.Need-returns-3
 unfolding inserted enterable
-returns-3 c = simp (is-sound c.before.before.before.before, lt-ltb _ _ c.before.before.if1.false, ne_eqb _ _ c.if2.true)
+returns-3 c = simp (is_sound c.before.before.before.before, lt-ltb _ _ c.before.before.if1.false, ne_eqb _ _ c.if2.true)
 
 are-cells-requires : tie.Need-are-cells-requires
 are-cells-requires c κs = search rules
@@ -81,12 +81,12 @@ module _ (c : tie.After-are-cells) where
   abbrev needed : ℕ
   needed = (h told).used + (1 + length cells)
 
-  so_far : (b : Bool) → c.are-cells.result ≡ b
-      → inserted (h told) (ws told) relation cells ≡ demand b (Refused not-a-cell) (demand (hasRoom needed (length (ws told))) (Refused no_room) (Done needed))
+  so_far : (b : Bool) → c.are_cells_lem.result ≡ b
+      → inserted (h told) (ws told) relation cells ≡ demand b (Refused not_a_cell) (demand (has_room needed (length (ws told))) (Refused no_room) (Done needed))
   unfolding inserted enterable
   so_far b e =
-      let f : areCells cells ≡ b = sym c.are-cells.ensures ∙ e in
-      simp (is-sound told, lt-ltb _ _ c.before.before.before.if1.false, eq-eqb _ _ c.before.if2.false, f)
+      let f : are_cells cells ≡ b = sym c.are_cells_lem.ensures ∙ e in
+      simp (is_sound told, lt-ltb _ _ c.before.before.before.if1.false, eq-eqb _ _ c.before.if2.false, f)
 
 returns-4 : tie.Need-returns-4
 returns-4 c = sym (so_far c.before false (not-true _ c.if3.true))
@@ -111,8 +111,8 @@ returns-5 c =
 cast-t14 : tie.Need-overflow-cast-t14
 cast-t14 c =
     let a = c.before.before.before.before in
-    let room : hasRoom (needed a) (length (ws (told a))) ≡ true = sym c.before.has_room.ensures ∙ not-false _ c.if4.false in
-    omega (arith, leb-true (needed a) maxWords (and_parts (leb (needed a) maxWords) (leb (needed a) (length (ws (told a)))) room).0)
+    let room : has_room (needed a) (length (ws (told a))) ≡ true = sym c.before.has_room.ensures ∙ not-false _ c.if4.false in
+    omega (arith, leb-true (needed a) max_words (and_parts (leb (needed a) max_words) (leb (needed a) (length (ws (told a)))) room).0)
 
 returns-6 : tie.Need-returns-6
 returns-6 c =

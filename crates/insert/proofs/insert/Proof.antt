@@ -6,16 +6,16 @@ use native.Mathlib.Omega.{arith}
 use lib.ListN.{length-take, length-drop}
 use Rattle.calculus.specs.declared.answer.Answer.TheVariants.{Done}
 use Rattle.instance.specs.declared.header.Header.{Header}
-use Rattle.instance.specs.Insert.{inserted, insertedHeader, insertedWords}
+use Rattle.instance.specs.Insert.{inserted, inserted_header, inserted_words}
 use Rattle.instance.proofs.Passes.{row_put}
-use Rattle.instance.proofs.Accepted.{Inserted, insert-accepted}
-use Rattle.instance.proofs.Kept.{entered-header}
-use Rattle.instance.proofs.Sound.{sound-gives, count_low}
+use Rattle.instance.proofs.Accepted.{Inserted, insert_accepted}
+use Rattle.instance.proofs.Kept.{entered_header}
+use Rattle.instance.proofs.Sound.{sound_gives, count_low}
 use Rattle.instance.proofs.Told.{insert-told}
 use borrow.Author.Rules.{rules}
 use Rattle.insert.proofs.insert.Statement.{statement}
 use Rattle.insert.proofs.insert.Tie as tie
-use Rattle.instance.specs.Header.{maxRelations}
+use Rattle.instance.specs.Header.{max_relations}
 
 check-insert-requires : tie.Need-check-insert-requires
 check-insert-requires c κs = search rules
@@ -30,7 +30,7 @@ same_length : tie.Need-same-length
 same_length c = search rules
 
 returns : tie.Need-returns
-unfolding insertedHeader insertedWords
+unfolding inserted_header inserted_words
 returns c =
     let f = sym c.before.before.check-insert.ensures ∙ c.enum_told.given.1 in
     insert-told _ _ _ _ (c.before.before.check-insert.ensures, (simp f, simp f))
@@ -59,7 +59,7 @@ module _ (c : tie.After-struct-known) where
   done = sym answered.check-insert.ensures ∙ c.before.before.answer.given.1
 
   accepted : Inserted h ws r cs k
-  accepted = insert-accepted h ws r cs k done
+  accepted = insert_accepted h ws r cs k done
 
 cast-at : tie.Need-overflow-cast-at
 cast-at c = search rules
@@ -80,8 +80,8 @@ write-row-requires : tie.Need-write-row-requires
 write-row-requires c κs = simp (length-take, length-drop) (omega (arith, (accepted c.before).within))
 
 -- the row's relation is one of eight
-low : (c : tie.After-struct-known) → r c < maxRelations
-low c = omega (arith, (accepted c).relation, (sound-gives (h c) (ws c) (accepted c).is-sound).headed.few)
+low : (c : tie.After-struct-known) → r c < max_relations
+low c = omega (arith, (accepted c).relation, (sound_gives (h c) (ws c) (accepted c).is_sound).headed.few)
 
 abbrev wrote : tie.After-counts → tie.After-struct-known
 wrote c = c.before.before.before.before.before.before
@@ -93,7 +93,7 @@ array-read-counts : tie.Need-array-read-counts
 array-read-counts c = low (wrote c)
 
 add-counts : tie.Need-overflow-add-counts
-add-counts c = let a = wrote c in omega (arith, count_low (h a) (ws a) (accepted a).is-sound (r a) (low a))
+add-counts c = let a = wrote c in omega (arith, count_low (h a) (ws a) (accepted a).is_sound (r a) (low a))
 
 array-write-counts : tie.Need-array-write-counts
 array-write-counts c = low (wrote c)
@@ -105,14 +105,14 @@ same-length-2 : tie.Need-same-length-2
 same-length-2 c = search rules
 
 returns-2 : tie.Need-returns-2
-unfolding insertedHeader insertedWords
+unfolding inserted_header inserted_words
 returns-2 c =
     let w = c.before.before.before.before.before in
     let a = w.before.before in
     insert-told (h a) (ws a) (r a) (cs a) (
       sym (done a),
       (
-        simp (done a) (c.header-with.ensures ∙ entered-header (h a) (ws a) (r a) (cs a) (k a) (accepted a)),
+        simp (done a) (c.header-with.ensures ∙ entered_header (h a) (ws a) (r a) (cs a) (k a) (accepted a)),
         simp (done a) (row_put _ (r a) (cs a) (ws a) _ w.write-row.ensures),
       ),
     )

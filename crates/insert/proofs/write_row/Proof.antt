@@ -17,8 +17,8 @@ decreases-loop part₀ relation cells i₀ part i = length cells - i
 slice-write-part : tie.Need-slice-write-part invariant-loop decreases-loop
 slice-write-part c = omega arith
 
-loop-holds : tie.Need-loop-init invariant-loop decreases-loop
-loop-holds c =
+loop_holds : tie.Need-loop-init invariant-loop decreases-loop
+loop_holds c =
     let l : 0 < length c.args.part.now = omega arith in
     (omega arith, refl, row-start _ c.args.part.now l)
 
@@ -73,7 +73,7 @@ write-row-spec =
     invariant-loop
     decreases-loop
     slice-write-part
-    loop-holds
+    loop_holds
     mul-part
     shared-slice-read-part
     add-part

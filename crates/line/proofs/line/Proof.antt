@@ -3,7 +3,7 @@ use mathlib.Core.Path.{◌≡◌, sym, ◌∙◌}
 use lib.ListN.{length}
 use Rattle.calculus.specs.Overwrite.{overwrite}
 use Rattle.answer.specs.declared.asked.Asked.{Asked}
-use Rattle.line.specs.Line.{line_for, lineLength, lineOut}
+use Rattle.line.specs.Line.{line_for, line_length, line_out}
 use Rattle.line.proofs.Answering.{no_line, one_line}
 use borrow.Author.Rules.{rules}
 use Rattle.line.proofs.line.Statement.{statement}
@@ -15,7 +15,7 @@ module _ (c : tie.After-answer) where
   start = c.before.before.before.before
 
   printed : {a : Asked} → c.answer.result ≡ a
-      → (lineLength start.args.input.now start.args.out.now ≡ length (line_for a)) × (lineOut start.args.input.now start.args.out.now ≡ overwrite (line_for a) start.args.out.now)
+      → (line_length start.args.input.now start.args.out.now ≡ length (line_for a)) × (line_out start.args.input.now start.args.out.now ≡ overwrite (line_for a) start.args.out.now)
   printed is = one_line start.args.input.now start.args.out.now (sym is ∙ c.answer.ensures) c.before.if1.false
 
 returns : tie.Need-returns

@@ -8,13 +8,13 @@ use borrow.Author.Tests.{leb-true, leb-false}
 use lib.ListN.{length, drop, get_or, set}
 use lib.Seq.{drop-length}
 use Rattle.calculus.specs.Cell.{constants, nulls, null}
-use Rattle.instance.specs.Header.{maxWords}
-use Rattle.calculus.proofs.Lists.{drop-step}
-use Rattle.instance.proofs.Counts.{Census, census-other, census-null}
-use Rattle.calculus.proofs.Counts.{countOf-le}
+use Rattle.instance.specs.Header.{max_words}
+use Rattle.calculus.proofs.Lists.{drop_step}
+use Rattle.instance.proofs.Counts.{Census, census_other, census_null}
+use Rattle.calculus.proofs.Counts.{count_of_le}
 use Rattle.null_counts.proofs.count_words.Statement.{statement}
 use Rattle.null_counts.proofs.count_words.Tie as tie
-use Rattle.calculus.proofs.Counting.{counting-starts, counting-ends}
+use Rattle.calculus.proofs.Counting.{counting_starts, counting_ends}
 use Rattle.calculus.specs.Fill.{count_of}
 
 abbrev invariant-loop : tie.invariant-loop
@@ -23,8 +23,8 @@ invariant-loop words counts₀ i₀ counts i = (i ≤ length words) × Census wo
 abbrev decreases-loop : tie.decreases-loop
 decreases-loop words counts₀ i₀ counts i = length words - i
 
-loop-holds : tie.Need-loop-init invariant-loop decreases-loop
-loop-holds c = (omega arith, counting-starts nulls _)
+loop_holds : tie.Need-loop-init invariant-loop decreases-loop
+loop_holds c = (omega arith, counting_starts nulls _)
 
 mul-w : tie.Need-overflow-mul-w invariant-loop decreases-loop
 mul-w c = omega arith
@@ -68,18 +68,18 @@ module _ (c : tie.In-loop invariant-loop decreases-loop) where
   behind = drop (c.before.loop.i + 1) ws
 
   seen : Census ws (w ∷ behind) counts
-  seen = rw (drop-step ws c.before.loop.i (omega arith)) at c.before.loop.invariant.1
+  seen = rw (drop_step ws c.before.loop.i (omega arith)) at c.before.loop.invariant.1
 
   at_null : constants < w → w ≤ constants + nulls → Census ws behind (set counts place (get_or counts place 0 + 1))
   at_null l g =
       let e : w ≡ null (1 + place) = omega arith in
-      census-null ws behind counts place (omega arith) (subst (λ (v : ℕ). Census ws (v ∷ behind) counts) e seen)
+      census_null ws behind counts place (omega arith) (subst (λ (v : ℕ). Census ws (v ∷ behind) counts) e seen)
 
   at_other : ((k : ℕ) → k < nulls → w ≡ null (1 + k) → ⊥) → Census ws behind counts
-  at_other ne = census-other ws behind counts w ne seen
+  at_other ne = census_other ws behind counts w ne seen
 
-  below : (k : ℕ) → k < nulls → get_or counts k 0 ≤ maxWords
-  below k l = omega (arith, c.before.loop.invariant.1.each k l, countOf-le (null (1 + k)) ws)
+  below : (k : ℕ) → k < nulls → get_or counts k 0 ≤ max_words
+  below k l = omega (arith, c.before.loop.invariant.1.each k l, count_of_le (null (1 + k)) ws)
 
 add-counts : tie.Need-overflow-add-counts invariant-loop decreases-loop
 add-counts c = omega (arith, below c.before.before.before (place c.before.before.before) (omega (arith, leb-true)))
@@ -108,7 +108,7 @@ unfolding count_of
 returns c =
     let ws = c.before.before.args.words.now in
     let e : c.before.loop.i ≡ length ws = omega arith in
-    counting-ends nulls _ _ _ (λ k. refl) (rw (e, drop-length) at c.before.loop.invariant.1)
+    counting_ends nulls _ _ _ (λ k. refl) (rw (e, drop-length) at c.before.loop.invariant.1)
 
 pub count-words-spec : {M : Type 1} → statement M
 count-words-spec =
@@ -116,7 +116,7 @@ count-words-spec =
     (tie.spec
     invariant-loop
     decreases-loop
-    loop-holds
+    loop_holds
     mul-w
     shared-slice-read-w
     add-if2

@@ -13,8 +13,8 @@ use lib.Seq.{take_all}
 use Rattle.calculus.specs.Cell.{nulls}
 use Rattle.instance.specs.declared.header.Header.{Header}
 use Rattle.instance.specs.Sound.{sound, rows}
-use Rattle.instance.specs.NullCounts.{nullCounts, counted, countedWords}
-use Rattle.instance.proofs.Sound.{scanned-sound, scanned-unsound, sound-gives}
+use Rattle.instance.specs.NullCounts.{null_counts, counted, counted_words}
+use Rattle.instance.proofs.Sound.{scanned-sound, scanned-unsound, sound_gives}
 use Rattle.instance.proofs.Fills.{held-words}
 use Rattle.instance.proofs.Passes.{copy_more}
 use Rattle.null_counts.proofs.null_counts.Statement.{statement}
@@ -46,39 +46,39 @@ module _ (c : tie.After-enum-told invariant-loop decreases-loop) where
   abbrev ws : List ℕ
   ws = c.before.before.before.before.before.args.instance.now
 
-  is-sound : sound h ws ≡ true
-  is-sound = scanned-sound h ws _ (sym c.before.before.scan.ensures.0 ∙ c.enum_told.given.1)
+  is_sound : sound h ws ≡ true
+  is_sound = scanned-sound h ws _ (sym c.before.before.scan.ensures.0 ∙ c.enum_told.given.1)
 
 returns : tie.Need-returns invariant-loop decreases-loop
-unfolding counted countedWords
+unfolding counted counted_words
 returns c = let e = scanned-unsound _ _ (sym c.before.before.scan.ensures.0 ∙ c.enum-told2.given.1) in counts-told _ _ c.before.before.before.before.before.args.counts.now (simp e, simp e)
 
 returns-2 : tie.Need-returns-2 invariant-loop decreases-loop
-unfolding counted countedWords
-returns-2 c = let e = is-sound c.before in let n = lt-leb _ _ c.if1.true in counts-told _ _ c.before.before.before.before.before.before.args.counts.now (simp (e, n), simp (e, n))
+unfolding counted counted_words
+returns-2 c = let e = is_sound c.before in let n = lt-leb _ _ c.if1.true in counts-told _ _ c.before.before.before.before.before.before.args.counts.now (simp (e, n), simp (e, n))
 
 cast-used : tie.Need-overflow-cast-used invariant-loop decreases-loop
 cast-used c = search rules
 
 slice-aggregate-count-words : tie.Need-slice-aggregate-count-words invariant-loop decreases-loop
-slice-aggregate-count-words c = sym (sound-gives _ _ (is-sound c.before.before.before)).in_use
+slice-aggregate-count-words c = sym (sound_gives _ _ (is_sound c.before.before.before)).in_use
 
 count-words-requires : tie.Need-count-words-requires invariant-loop decreases-loop
-count-words-requires c κs = (sound-gives _ _ (is-sound c.before.before.before)).well-formed.few
+count-words-requires c κs = (sound_gives _ _ (is_sound c.before.before.before)).well_formed.few
 
-loop-holds : tie.Need-loop-init invariant-loop decreases-loop
-loop-holds c = (omega arith, refl, refl)
+loop_holds : tie.Need-loop-init invariant-loop decreases-loop
+loop_holds c = (omega arith, refl, refl)
 
 -- the counts of the words in use
 module _ (c : tie.After-count-words invariant-loop decreases-loop) where
   abbrev told : tie.After-enum-told invariant-loop decreases-loop
   told = c.before.before.before.before
 
-  found-is : c.count-words.result ≡ nullCounts (rows (h told) (ws told))
-  found-is = c.count-words.ensures ∙ table_same _ _ (λ k. sym (held-words (h told) (ws told) (is-sound told) (1 + k))) nulls
+  found_is : c.count-words.result ≡ null_counts (rows (h told) (ws told))
+  found_is = c.count-words.ensures ∙ table_same _ _ (λ k. sym (held-words (h told) (ws told) (is_sound told) (1 + k))) nulls
 
-  found-size : length c.count-words.result ≡ nulls
-  found-size = ap length c.count-words.ensures ∙ nulls-size _
+  found_size : length c.count-words.result ≡ nulls
+  found_size = ap length c.count-words.ensures ∙ nulls-size _
 
 mul-counts : tie.Need-overflow-mul-counts invariant-loop decreases-loop
 mul-counts c = omega arith
@@ -102,7 +102,7 @@ loop-again : tie.Need-loop-preserved invariant-loop decreases-loop
 loop-again c =
     let b = c.before.before in
     let out = b.before.before.before.before.before.before.before.before.before.args.counts.now in
-    let l : c.before.loop.i < length b.count-words.result = omega (arith, found-size b) in
+    let l : c.before.loop.i < length b.count-words.result = omega (arith, found_size b) in
     let m : c.before.loop.i < length out = omega arith in (
       omega arith,
       length-set c.before.loop.counts _ _ ∙ c.before.loop.invariant.1,
@@ -113,15 +113,15 @@ same_length : tie.Need-same-length invariant-loop decreases-loop
 same_length c = omega arith
 
 returns-3 : tie.Need-returns-3 invariant-loop decreases-loop
-unfolding counted countedWords
+unfolding counted counted_words
 returns-3 c =
     let b = c.before.before in
     let e : c.before.loop.i ≡ nulls = omega arith in
-    let s = is-sound (told b) in
+    let s = is_sound (told b) in
     let n = le-leb _ _ b.before.before.before.if1.false in
     counts-told _ _ b.before.before.before.before.before.before.before.before.before.args.counts.now (
       simp (s, n),
-      simp (s, n) (c.before.loop.invariant.2 ∙ rw (e, take_all nulls b.count-words.result (omega (arith, found-size b)), found-is b, nulls-size (cells_of (rows (h (told b)) (ws (told b)))))),
+      simp (s, n) (c.before.loop.invariant.2 ∙ rw (e, take_all nulls b.count-words.result (omega (arith, found_size b)), found_is b, nulls-size (cells_of (rows (h (told b)) (ws (told b)))))),
     )
 
 pub null-counts-spec : {M : Type 1} → statement M
@@ -138,7 +138,7 @@ null-counts-spec =
     cast-used
     slice-aggregate-count-words
     count-words-requires
-    loop-holds
+    loop_holds
     mul-counts
     array-read-counts
     mul-counts-2

@@ -4,7 +4,7 @@ use mathlib.Core.Path.{sym}
 use native.Mathlib.Omega.{arith}
 use lib.ListN.{length}
 use lib.Seq.{length-take-le}
-use Rattle.line.proofs.Fits.{line-fits}
+use Rattle.line.proofs.Fits.{line_fits}
 use borrow.Author.Rules.{rules}
 use Rattle.plotask.proofs.main.Statement.{statement}
 use Rattle.plotask.proofs.main.Tie as tie
@@ -12,7 +12,7 @@ use Rattle.plotask.proofs.main.Tie as tie
 fits : (c : tie.After-out2) → c.before.line.result ≤ length c.before.line.new.1.0
 fits c =
     let l = c.before.line in
-    omega (arith, l.ensures.0, l.auto.1.0, line-fits _ _ _ l.ensures.1 l.auto.1.0)
+    omega (arith, l.ensures.0, l.auto.1.0, line_fits _ _ _ l.ensures.1 l.auto.1.0)
 
 slice-aggregate-read-full : tie.Need-slice-aggregate-read-full
 slice-aggregate-read-full c = search rules

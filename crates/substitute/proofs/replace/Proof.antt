@@ -3,7 +3,7 @@ use Prim.Native.Nat.{◌-◌}
 use mathlib.Core.Logic.{⊎_elim}
 use native.Mathlib.Omega.{arith}
 use lib.ListN.{length}
-use Rattle.substitute.proofs.Filling.{Filling, filling-starts, filling-null, filling-other, filling-ends}
+use Rattle.substitute.proofs.Filling.{Filling, filling-starts, filling-null, filling-other, filling_ends}
 use Rattle.substitute.proofs.replace.Statement.{statement}
 use Rattle.substitute.proofs.replace.Tie as tie
 
@@ -16,8 +16,8 @@ decreases-loop words₀ mark cell null count₀ i₀ words count i = length word
 add-null : tie.Need-overflow-add-null invariant-loop decreases-loop
 add-null c = omega arith
 
-loop-holds : tie.Need-loop-init invariant-loop decreases-loop
-loop-holds c = filling-starts _ _ _
+loop_holds : tie.Need-loop-init invariant-loop decreases-loop
+loop_holds c = filling-starts _ _ _
 
 mul-if1 : tie.Need-overflow-mul-if1 invariant-loop decreases-loop
 mul-if1 c = omega arith
@@ -52,7 +52,7 @@ same_length : tie.Need-same-length invariant-loop decreases-loop
 same_length c = omega arith
 
 returns : tie.Need-returns invariant-loop decreases-loop
-returns c = filling-ends _ _ _ (omega arith) c.before.loop.invariant
+returns c = filling_ends _ _ _ (omega arith) c.before.loop.invariant
 
 pub replace_spec : {M : Type 1} → statement M
 replace_spec =
@@ -61,7 +61,7 @@ replace_spec =
     invariant-loop
     decreases-loop
     add-null
-    loop-holds
+    loop_holds
     mul-if1
     slice-read-if1
     mul_words

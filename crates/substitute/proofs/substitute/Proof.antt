@@ -9,9 +9,9 @@ use Rattle.calculus.specs.declared.answer.Answer.TheVariants.{Done}
 use Rattle.calculus.specs.Fill.{unlogged, held}
 use Rattle.instance.specs.declared.header.Header.{Header}
 use Rattle.instance.specs.Sound.{rows}
-use Rattle.instance.proofs.Sound.{sound-gives}
-use Rattle.instance.proofs.Fills.{held-words, filled-words, absent-same}
-use Rattle.instance.proofs.Fillable.{Fillable, fillable-met, early-refused, none-held, all_held, words-done, words-refused}
+use Rattle.instance.proofs.Sound.{sound_gives}
+use Rattle.instance.proofs.Fills.{held-words, filled_words_lem, absent-same}
+use Rattle.instance.proofs.Fillable.{Fillable, fillable_met, early_refused, none-held, all_held, words_done, words-refused}
 use Rattle.instance.proofs.Told.{fill-told}
 use Rattle.substitute.proofs.substitute.Statement.{statement}
 use Rattle.substitute.proofs.substitute.Tie as tie
@@ -30,7 +30,7 @@ same_length c = search rules
 
 returns : tie.Need-returns
 returns c =
-    let e = early-refused _ _ _ _ unlogged _ (sym c.before.before.test-fill.ensures ∙ c.enum-told2.given.1) in
+    let e = early_refused _ _ _ _ unlogged _ (sym c.before.before.test-fill.ensures ∙ c.enum-told2.given.1) in
     fill-told _ _ _ _ _ (c.enum-told2.given.1 ∙ sym e, sym (words-refused _ _ _ _ _ _ e))
 
 -- what the test says
@@ -39,7 +39,7 @@ module _ (c : tie.After-struct-known) where
   start = c.before.before.before.before.before.before
 
   fillable : Fillable start.args.header start.args.instance.now start.args.mark start.args.cell
-  fillable = fillable-met _ _ _ _ _ (sym c.before.before.before.test-fill.ensures ∙ c.before.enum_told.given.1)
+  fillable = fillable_met _ _ _ _ _ (sym c.before.before.before.test-fill.ensures ∙ c.before.enum_told.given.1)
 
 -- what is known once the fill has been made
 module _ (c : tie.After-slice-known2) where
@@ -59,19 +59,19 @@ module _ (c : tie.After-slice-known2) where
   cell = (start told).args.cell
 
   count-is : c.before.before.replace.result ≡ held m (rows h ws)
-  count-is = c.before.before.replace.ensures.0 ∙ sym (held-words h ws (fillable told).is-sound m)
+  count-is = c.before.before.replace.ensures.0 ∙ sym (held-words h ws (fillable told).is_sound m)
 
 cast-used : tie.Need-overflow-cast-used
 cast-used c = search rules
 
 slice-relend-prefix-replace : tie.Need-slice-relend-prefix-replace
-slice-relend-prefix-replace c = (sound-gives _ _ (fillable c).is-sound).within
+slice-relend-prefix-replace c = (sound_gives _ _ (fillable c).is_sound).within
 
 slice-aggregate-replace : tie.Need-slice-aggregate-replace
-slice-aggregate-replace c = sym (sound-gives _ _ (fillable c.before).is-sound).in_use
+slice-aggregate-replace c = sym (sound_gives _ _ (fillable c.before).is_sound).in_use
 
 replace-requires : tie.Need-replace-requires
-replace-requires c κs = ((fillable c.before).high, (sound-gives _ _ (fillable c.before).is-sound).well-formed.few)
+replace-requires c κs = ((fillable c.before).high, (sound_gives _ _ (fillable c.before).is_sound).well_formed.few)
 
 same-length-2 : tie.Need-same-length-2
 same-length-2 c = search rules
@@ -96,8 +96,8 @@ returns-3 c =
     let done = all_held _ _ _ _ (fillable (told e)) unlogged (omega (arith, count-is e)) refl in
     fill-told _ _ _ _ _ (
       ap Done (count-is e) ∙ sym done,
-      ap (λ (l : List ℕ). l ++ drop (h e).used (ws e)) (e.before.before.replace.ensures.1 ∙ sym (filled-words _ _ (fillable (told e)).is-sound (m e) (cell e)))
-          ∙ sym (words-done _ _ _ _ _ _ done),
+      ap (λ (l : List ℕ). l ++ drop (h e).used (ws e)) (e.before.before.replace.ensures.1 ∙ sym (filled_words_lem _ _ (fillable (told e)).is_sound (m e) (cell e)))
+          ∙ sym (words_done _ _ _ _ _ _ done),
     )
 
 pub substitute-spec : {M : Type 1} → statement M

@@ -3,7 +3,7 @@ use mathlib.Core.Path.{◌≡◌, sym, ◌∙◌}
 use mathlib.Core.Bool.{true, false}
 use borrow.Author.Rules.{rules}
 use borrow.Author.Tests.{le-leb, lt-leb, not-true, not-false}
-use Rattle.calculus.specs.Cell.{isCell}
+use Rattle.calculus.specs.Cell.{is_cell}
 use Rattle.instance.specs.Sound.{sound}
 use Rattle.instance.specs.Substitute.{fillable}
 use Rattle.instance.proofs.Sound.{scanned-sound, scanned-unsound}
@@ -20,8 +20,8 @@ enum-told-2 : tie.Need-enum-told-2
 enum-told-2 c = search rules
 
 -- what the scan's result says
-is-sound : (c : tie.After-enum-told) → sound c.before.before.before.before.args.header c.before.before.before.before.args.instance.now ≡ true
-is-sound c = scanned-sound _ _ _ (sym c.before.before.scan.ensures.0 ∙ c.enum_told.given.1)
+is_sound : (c : tie.After-enum-told) → sound c.before.before.before.before.args.header c.before.before.before.before.args.instance.now ≡ true
+is_sound c = scanned-sound _ _ _ (sym c.before.before.scan.ensures.0 ∙ c.enum_told.given.1)
 
 returns : tie.Need-returns
 unfolding fillable
@@ -29,11 +29,11 @@ returns c = let e = scanned-unsound _ _ (sym c.before.before.scan.ensures.0 ∙ 
 
 returns-2 : tie.Need-returns-2
 unfolding fillable
-returns-2 c = let e = is-sound c.before in let n = lt-leb _ _ c.if1.true in simp (e, n)
+returns-2 c = let e = is_sound c.before in let n = lt-leb _ _ c.if1.true in simp (e, n)
 
 returns-3 : tie.Need-returns-3
 unfolding fillable
-returns-3 c = let e = is-sound c.before.before in let s = le-leb _ _ c.before.if1.false in let n = lt-leb _ _ c.if2.true in simp (e, s, n)
+returns-3 c = let e = is_sound c.before.before in let s = le-leb _ _ c.before.if1.false in let n = lt-leb _ _ c.if2.true in simp (e, s, n)
 
 is-cell-requires : tie.Need-is-cell-requires
 is-cell-requires c κs = search rules
@@ -41,19 +41,19 @@ is-cell-requires c κs = search rules
 returns-4 : tie.Need-returns-4
 unfolding fillable
 returns-4 c =
-    let e = is-sound c.before.before.before.before in
+    let e = is_sound c.before.before.before.before in
     let s = le-leb _ _ c.before.before.before.if1.false in
     let n = le-leb _ _ c.before.before.if2.false in
-    let f : isCell _ ≡ false = sym c.before.is-cell.ensures ∙ not-true _ c.if3.true in
+    let f : is_cell _ ≡ false = sym c.before.is-cell.ensures ∙ not-true _ c.if3.true in
     simp (e, s, n, f)
 
 returns-5 : tie.Need-returns-5
 unfolding fillable
 returns-5 c =
-    let e = is-sound c.before.before.before.before in
+    let e = is_sound c.before.before.before.before in
     let s = le-leb _ _ c.before.before.before.if1.false in
     let n = le-leb _ _ c.before.before.if2.false in
-    let f : isCell _ ≡ true = sym c.before.is-cell.ensures ∙ not-false _ c.if3.false in
+    let f : is_cell _ ≡ true = sym c.before.is-cell.ensures ∙ not-false _ c.if3.false in
     simp (e, s, n, f)
 
 pub test-fill-spec : {M : Type 1} → statement M

@@ -21,8 +21,8 @@ decreases-loop words mark null count₀ i₀ count i = length words - i
 add-null : tie.Need-overflow-add-null invariant-loop decreases-loop
 add-null c = omega arith
 
-loop-holds : tie.Need-loop-init invariant-loop decreases-loop
-loop-holds c = (omega arith, omega arith, omega arith)
+loop_holds : tie.Need-loop-init invariant-loop decreases-loop
+loop_holds c = (omega arith, omega arith, omega arith)
 
 mul-if1 : tie.Need-overflow-mul-if1 invariant-loop decreases-loop
 mul-if1 c = omega arith
@@ -63,7 +63,7 @@ held_spec =
     invariant-loop
     decreases-loop
     add-null
-    loop-holds
+    loop_holds
     mul-if1
     shared-slice-read-if1
     add-count

@@ -9,25 +9,25 @@ use lib.ListN.{length, drop, get_or, set, length-append, length-set}
 use lib.Seq.{drop-length}
 use Rattle.calculus.specs.Cell.{null, put}
 use Rattle.calculus.specs.Fill.{count_of}
-use Rattle.calculus.proofs.Stores.{Written, written_begin, written-store, written-finish}
-use Rattle.log.specs.Places.{placesIn}
+use Rattle.calculus.proofs.Stores.{Written, written_begin, written_store, written_finish}
+use Rattle.log.specs.Places.{places_in}
 use Rattle.log.proofs.Joins.{in-drop-step}
 use Rattle.log.proofs.Places.{in_count}
-use Rattle.substitute.proofs.Filling.{Filling, filling-starts, filling-here, filling-null, filling-other, filling-ends}
+use Rattle.substitute.proofs.Filling.{Filling, filling-starts, filling-here, filling-null, filling-other, filling_ends}
 use Rattle.substitute_logged.proofs.note.Statement.{statement}
 use Rattle.substitute_logged.proofs.note.Tie as tie
 
 -- places, and the end of the entry of a fill of null m in words
-abbrev then-end : List ℕ → ℕ → List ℕ → List ℕ
-then-end places m was = places ++ m ∷ count_of (null m) was ∷ []
+abbrev then_end : List ℕ → ℕ → List ℕ → List ℕ
+then_end places m was = places ++ m ∷ count_of (null m) was ∷ []
 
 -- `rest` of the entry is still to be written, at index `count` of the part
 abbrev Noting : ℕ → List ℕ → List ℕ → List ℕ → List ℕ → ℕ → Type 0
-Noting m was rest part₀ part count = Written (then-end (placesIn (null m) 0 was) m was) rest part₀ part count
+Noting m was rest part₀ part count = Written (then_end (places_in (null m) 0 was) m was) rest part₀ part count
 
 abbrev invariant-loop : tie.invariant-loop
 invariant-loop words₀ part₀ mark cell null count₀ i₀ words part count i =
-    Filling mark cell words₀ words count i × Noting mark words₀ (then-end (placesIn null i (drop i words₀)) mark words₀) part₀ part count
+    Filling mark cell words₀ words count i × Noting mark words₀ (then_end (places_in null i (drop i words₀)) mark words₀) part₀ part count
 
 abbrev decreases-loop : tie.decreases-loop
 decreases-loop words₀ part₀ mark cell null count₀ i₀ words part count i = length words₀ - i
@@ -35,8 +35,8 @@ decreases-loop words₀ part₀ mark cell null count₀ i₀ words part count i 
 add-null : tie.Need-overflow-add-null invariant-loop decreases-loop
 add-null c = omega arith
 
-loop-holds : tie.Need-loop-init invariant-loop decreases-loop
-loop-holds c = (filling-starts _ _ _, written_begin _ _ (simp length-append (omega (arith, in_count (null c.args.mark) 0 c.args.words.now))))
+loop_holds : tie.Need-loop-init invariant-loop decreases-loop
+loop_holds c = (filling-starts _ _ _, written_begin _ _ (simp length-append (omega (arith, in_count (null c.args.mark) 0 c.args.words.now))))
 
 add-next : tie.Need-overflow-add-next invariant-loop decreases-loop
 add-next c = omega arith
@@ -66,7 +66,7 @@ module _ (c : tie.In-loop invariant-loop decreases-loop) where
 
   -- the rest of the entry from the next index on
   abbrev next : List ℕ
-  next = then-end (placesIn (null m) (i + 1) (drop (i + 1) was)) m was
+  next = then_end (places_in (null m) (i + 1) (drop (i + 1) was)) m was
 
   abbrev Rest : List ℕ → Type 0
   Rest rest = Noting m was rest c.before.before.args.part.now c.before.loop.part c.before.loop.count
@@ -101,7 +101,7 @@ loop-less c = omega arith
 loop-again : tie.Need-loop-preserved invariant-loop decreases-loop
 loop-again c = (
   filling-null _ _ _ (omega arith) c.before.before.before.loop.invariant.0 c.if1.true,
-  written-store _ refl (at_null c.before.before c.if1.true),
+  written_store _ refl (at_null c.before.before c.if1.true),
 )
 
 loop-less-2 : tie.Need-loop-smaller-2 invariant-loop decreases-loop
@@ -122,14 +122,14 @@ module _ (c : tie.After-loop invariant-loop decreases-loop) where
   count = c.before.loop.count
 
   filled : (count ≡ count_of (null mark) words) × (c.before.loop.words ≡ map (put mark c.before.before.args.cell) words)
-  filled = filling-ends _ _ _ (omega arith) c.before.loop.invariant.0
+  filled = filling_ends _ _ _ (omega arith) c.before.loop.invariant.0
 
-  places-noted : Noting mark words (then-end [] mark words) c.before.before.args.part.now c.before.loop.part count
-  unfolding placesIn
+  places-noted : Noting mark words (then_end [] mark words) c.before.before.args.part.now c.before.loop.part count
+  unfolding places_in
   places-noted = let e : c.before.loop.i ≡ length words = omega arith in rw (e, drop-length) at c.before.loop.invariant.1
 
   mark-noted : Noting mark words (count_of (null mark) words ∷ []) c.before.before.args.part.now (set c.before.loop.part count mark) (count + 1)
-  mark-noted = written-store _ refl places-noted
+  mark-noted = written_store _ refl places-noted
 
 cast-number : tie.Need-overflow-cast-number invariant-loop decreases-loop
 cast-number c = omega arith
@@ -158,7 +158,7 @@ same-length-2 c = simp length-set c.before.loop.invariant.1.same
 returns : tie.Need-returns invariant-loop decreases-loop
 returns c = (
   (filled c).1,
-  ap (set (set c.before.loop.part (count c) (mark c)) (count c + 1)) (filled c).0 ∙ written-finish (written-store _ refl (mark-noted c)),
+  ap (set (set c.before.loop.part (count c) (mark c)) (count c + 1)) (filled c).0 ∙ written_finish (written_store _ refl (mark-noted c)),
 )
 
 pub note-spec : {M : Type 1} → statement M
@@ -168,7 +168,7 @@ note-spec =
     invariant-loop
     decreases-loop
     add-null
-    loop-holds
+    loop_holds
     add-next
     mul-if1
     slice-read-if1

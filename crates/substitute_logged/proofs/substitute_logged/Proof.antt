@@ -10,18 +10,18 @@ use lib.ListN.{length, take, drop, length-drop}
 use Rattle.calculus.specs.declared.answer.Answer.{Answer}
 use Rattle.calculus.specs.declared.answer.Answer.TheVariants.{Done, Refused}
 use Rattle.calculus.specs.Answer.{Tells}
-use Rattle.calculus.specs.Fill.{Logging, intoLog, held, substitute, entryLength}
+use Rattle.calculus.specs.Fill.{Logging, into_log, held, substitute, entry_length}
 use Rattle.calculus.specs.Overwrite.{overwrite}
-use Rattle.calculus.specs.Refusal.{log-too-short}
+use Rattle.calculus.specs.Refusal.{log_too_short}
 use Rattle.instance.specs.declared.header.Header.{Header}
 use Rattle.instance.specs.Rows.{words_of}
 use Rattle.instance.specs.Sound.{rows}
-use Rattle.instance.proofs.Sound.{sound-gives}
-use Rattle.instance.proofs.Fills.{held-words, filled-words}
-use Rattle.instance.proofs.Fillable.{Fillable, fillable-met, early-refused, none-held, no-room-held, all_held, words-done, words-refused}
-use Rattle.instance.proofs.Parts.{part_to_end, put-to-end}
+use Rattle.instance.proofs.Sound.{sound_gives}
+use Rattle.instance.proofs.Fills.{held-words, filled_words_lem}
+use Rattle.instance.proofs.Fillable.{Fillable, fillable_met, early_refused, none-held, no_room-held, all_held, words_done, words-refused}
+use Rattle.instance.proofs.Parts.{part_to_end, put_to_end}
 use Rattle.instance.proofs.Told.{fill-told}
-use Rattle.log.specs.Log.{logged, loggedWords, loggedLog, loggedUsed, entry_of}
+use Rattle.log.specs.Log.{logged, logged_words, logged_log, logged_used, entry_of}
 use Rattle.log.proofs.Joins.{entry-words}
 use Rattle.substitute_logged.proofs.substitute_logged.Statement.{statement}
 use Rattle.substitute_logged.proofs.substitute_logged.Tie as tie
@@ -30,22 +30,22 @@ module _ (h : Header) (ws log : List ℕ) (used m c : ℕ) where
   -- the promise, of an answer, the words and the log that are left, and the log's words in use
   abbrev Promised : Answer → List ℕ → List ℕ → ℕ → Type 0
   Promised a words left next =
-      (a ≡ logged h ws log used m c) × ((words ≡ loggedWords h ws log used m c) × ((left ≡ loggedLog h ws log used m c) × ((next ≡ loggedUsed h ws log used m c)
+      (a ≡ logged h ws log used m c) × ((words ≡ logged_words h ws log used m c) × ((left ≡ logged_log h ws log used m c) × ((next ≡ logged_used h ws log used m c)
       × Tells a (logged h ws log used m c) (held m (rows h ws)))))
 
   refused : {a : Answer} (r : ℕ) → a ≡ Refused r → logged h ws log used m c ≡ Refused r → Promised a ws log used
-  unfolding loggedLog loggedUsed
+  unfolding logged_log logged_used
   refused r q e =
-      let t = fill-told h ws (intoLog (length log) used) m c (q ∙ sym e, sym (words-refused _ _ _ _ _ _ e)) in
+      let t = fill-told h ws (into_log (length log) used) m c (q ∙ sym e, sym (words-refused _ _ _ _ _ _ e)) in
       (t.0, (t.1.0, (rw e refl, (rw e refl, t.1.1))))
 
   accepted : {words left : List ℕ} {n : ℕ} → n ≡ held m (rows h ws) → logged h ws log used m c ≡ Done (held m (rows h ws))
       → words ≡ words_of (substitute m c (rows h ws)) ++ drop h.used ws → left ≡ take used log ++ overwrite (entry_of m (rows h ws)) (drop used log)
-      → Promised (Done n) words left (used + entryLength n)
-  unfolding loggedLog loggedUsed
+      → Promised (Done n) words left (used + entry_length n)
+  unfolding logged_log logged_used
   accepted count e filled noted =
-      let t = fill-told h ws (intoLog (length log) used) m c (ap Done count ∙ sym e, filled ∙ sym (words-done _ _ _ _ _ _ e)) in
-      (t.0, (t.1.0, (rw e noted, (rw e (ap (λ (k : ℕ). used + entryLength k) count), t.1.1))))
+      let t = fill-told h ws (into_log (length log) used) m c (ap Done count ∙ sym e, filled ∙ sym (words_done _ _ _ _ _ _ e)) in
+      (t.0, (t.1.0, (rw e noted, (rw e (ap (λ (k : ℕ). used + entry_length k) count), t.1.1))))
 
 test-fill-requires : tie.Need-test-fill-requires
 test-fill-requires c κs = search rules
@@ -63,7 +63,7 @@ returns : tie.Need-returns
 returns c =
     let a = c.before.before.before.before.before.before.args in
     refused _ _ a.log.now a.used _ _ _ c.enum-told2.given.1
-    (early-refused _ _ _ _ _ _ (sym c.before.before.test-fill.ensures ∙ c.enum-told2.given.1))
+    (early_refused _ _ _ _ _ _ (sym c.before.before.test-fill.ensures ∙ c.enum-told2.given.1))
 
 -- what the test says
 module _ (c : tie.After-struct-known) where
@@ -86,22 +86,22 @@ module _ (c : tie.After-struct-known) where
   m = start.args.mark
 
   fillable : Fillable h ws m start.args.cell
-  fillable = fillable-met _ _ _ _ _ (sym c.before.before.before.test-fill.ensures ∙ c.before.enum_told.given.1)
+  fillable = fillable_met _ _ _ _ _ (sym c.before.before.before.test-fill.ensures ∙ c.before.enum_told.given.1)
 
   abbrev logging : Logging
-  logging = intoLog (length log) used
+  logging = into_log (length log) used
 
 cast-end : tie.Need-overflow-cast-end
 cast-end c = search rules
 
 slice-reshare-prefix-held : tie.Need-slice-reshare-prefix-held
-slice-reshare-prefix-held c = (sound-gives _ _ (fillable c).is-sound).within
+slice-reshare-prefix-held c = (sound_gives _ _ (fillable c).is_sound).within
 
 slice-aggregate-held : tie.Need-slice-aggregate-held
-slice-aggregate-held c = sym (sound-gives _ _ (fillable c.before).is-sound).in_use
+slice-aggregate-held c = sym (sound_gives _ _ (fillable c.before).is_sound).in_use
 
 held-requires : tie.Need-held-requires
-held-requires c κs = ((fillable c.before).high, (sound-gives _ _ (fillable c.before).is-sound).well-formed.few)
+held-requires c κs = ((fillable c.before).high, (sound_gives _ _ (fillable c.before).is_sound).well_formed.few)
 
 -- the number of cells that hold the null
 module _ (c : tie.After-held) where
@@ -109,7 +109,7 @@ module _ (c : tie.After-held) where
   told = c.before.before
 
   count-is : c.held.result ≡ held (m told) (rows (h told) (ws told))
-  count-is = c.held.ensures ∙ sym (held-words (h told) (ws told) (fillable told).is-sound (m told))
+  count-is = c.held.ensures ∙ sym (held-words (h told) (ws told) (fillable told).is_sound (m told))
 
 same-length-2 : tie.Need-same-length-2
 same-length-2 c = search rules
@@ -126,17 +126,17 @@ module _ (c : tie.Else1) where
 
   -- the log's words in use with the entry
   abbrev end : ℕ
-  end = used tested + entryLength (held (m tested) (rows (h tested) (ws tested)))
+  end = used tested + entry_length (held (m tested) (rows (h tested) (ws tested)))
 
   some : 0 < held (m tested) (rows (h tested) (ws tested))
   some = omega (arith, count-is c.before)
 
   -- a log that lacks words for the entry
   no_room : length (log tested) < end →
-      Promised (h tested) (ws tested) (log tested) (used tested) (m tested) (start tested).args.cell (Refused log-too-short) (ws tested) (log tested) (used tested)
+      Promised (h tested) (ws tested) (log tested) (used tested) (m tested) (start tested).args.cell (Refused log_too_short) (ws tested) (log tested) (used tested)
   no_room l =
       refused _ _ _ _ _ _ _ refl
-      (no-room-held _ _ _ _ (fillable tested) (logging tested) some (lt-leb end (length (log tested)) l))
+      (no_room-held _ _ _ _ (fillable tested) (logging tested) some (lt-leb end (length (log tested)) l))
 
 cast-entry : tie.Need-overflow-cast-entry
 cast-entry c = search rules
@@ -160,10 +160,10 @@ returns-4 : tie.Need-returns-4
 returns-4 c = no_room c.before.before (omega (arith, count-is c.before.before.before))
 
 slice-relend-prefix-note : tie.Need-slice-relend-prefix-note
-slice-relend-prefix-note c = (sound-gives _ _ (fillable (tested c.before.before)).is-sound).within
+slice-relend-prefix-note c = (sound_gives _ _ (fillable (tested c.before.before)).is_sound).within
 
 slice-aggregate-note : tie.Need-slice-aggregate-note
-slice-aggregate-note c = sym (sound-gives _ _ (fillable (tested c.before.before.before)).is-sound).in_use
+slice-aggregate-note c = sym (sound_gives _ _ (fillable (tested c.before.before.before)).is_sound).in_use
 
 mul-note : tie.Need-overflow-mul-note
 mul-note c = search rules
@@ -182,7 +182,7 @@ note-requires c κs =
     let e = c.before.before.before.before in
     let t = tested e in (
       (fillable t).high,
-      (sound-gives _ _ (fillable t).is-sound).well-formed.few,
+      (sound_gives _ _ (fillable t).is_sound).well_formed.few,
       rw part_to_end (simp length-drop (omega (arith, e.before.held.ensures))),
     )
 
@@ -200,12 +200,12 @@ returns-5 c =
     let n = c.before.before.before.before in
     let e = n.before.before.before.before.before in
     let t = tested e in
-    let is-sound = (fillable t).is-sound in
+    let is_sound = (fillable t).is_sound in
     accepted (h t) (ws t) (log t) (used t) (m t) (start t).args.cell (count-is e.before)
     (all_held _ _ _ _ (fillable t) (logging t) (some e) (le-leb (end e) (length (log t)) (omega (arith, count-is e.before))))
-    (ap (λ (l : List ℕ). l ++ drop (h t).used (ws t)) (n.note.ensures.0 ∙ sym (filled-words _ _ is-sound (m t) (start t).args.cell)))
-    (put-to-end (log t) (used t) _ (omega arith)
-    ∙ ap (λ (l : List ℕ). take (used t) (log t) ++ l) (n.note.ensures.1 ∙ rw (part_to_end, entry-words _ _ is-sound (m t))))
+    (ap (λ (l : List ℕ). l ++ drop (h t).used (ws t)) (n.note.ensures.0 ∙ sym (filled_words_lem _ _ is_sound (m t) (start t).args.cell)))
+    (put_to_end (log t) (used t) _ (omega arith)
+    ∙ ap (λ (l : List ℕ). take (used t) (log t) ++ l) (n.note.ensures.1 ∙ rw (part_to_end, entry-words _ _ is_sound (m t))))
 
 pub substitute-logged-spec : {M : Type 1} → statement M
 substitute-logged-spec =

@@ -12,23 +12,23 @@ use Rattle.calculus.specs.Row.{Row}
 use Rattle.calculus.proofs.All.{all_rest}
 use Rattle.instance.specs.Rows.{rows_from}
 use Rattle.instance.proofs.Rows.{words_back}
-use Rattle.log.specs.Places.{isPlace, arePlaces}
+use Rattle.log.specs.Places.{is_place, are_places}
 use Rattle.undo.specs.RowStart.{RowStart}
-use Rattle.undo.proofs.RowStarts.{row-start-0}
-use Rattle.undo.proofs.Places.{place-beyond, place-of-relation, place-of-cell}
+use Rattle.undo.proofs.RowStarts.{row-start_0}
+use Rattle.undo.proofs.Places.{place_beyond, place_of-relation, place_of-cell}
 use Rattle.undo.proofs.are_places.Statement.{statement}
 use Rattle.undo.proofs.are_places.Tie as tie
 
 abbrev invariant-loop : tie.invariant-loop
 invariant-loop words arities relations places row₀ i₀ row i =
     (i ≤ length places) × RowStart relations arities words row
-    × (arePlaces (rows_from arities 0 words) places ≡ arePlaces (rows_from arities 0 words) (drop i places))
+    × (are_places (rows_from arities 0 words) places ≡ are_places (rows_from arities 0 words) (drop i places))
 
 abbrev decreases-loop : tie.decreases-loop
 decreases-loop words arities relations places row₀ i₀ row i = length places - i
 
-loop-holds : tie.Need-loop-init invariant-loop decreases-loop
-loop-holds c = (omega arith, row-start-0 _ _ _, refl)
+loop_holds : tie.Need-loop-init invariant-loop decreases-loop
+loop_holds c = (omega arith, row-start_0 _ _ _, refl)
 
 mul-place : tie.Need-overflow-mul-place invariant-loop decreases-loop
 mul-place c = omega arith
@@ -62,11 +62,11 @@ module _ (c : tie.In-loop invariant-loop decreases-loop) where
   abbrev place : ℕ
   place = get_or places i 0
 
-  seen : (b : Bool) → isPlace rs place ≡ b → arePlaces rs places ≡ b && arePlaces rs (drop (i + 1) places)
-  seen b e = c.before.loop.invariant.2 ∙ all_rest (isPlace rs) places i (omega arith) ∙ ap (λ (b : Bool). b && arePlaces rs (drop (i + 1) places)) e
+  seen : (b : Bool) → is_place rs place ≡ b → are_places rs places ≡ b && are_places rs (drop (i + 1) places)
+  seen b e = c.before.loop.invariant.2 ∙ all_rest (is_place rs) places i (omega arith) ∙ ap (λ (b : Bool). b && are_places rs (drop (i + 1) places)) e
 
-  beyond : length ws ≤ place → isPlace rs place ≡ false
-  beyond l = place-beyond rs place (omega (arith, ap length (words_back n ars 0 ws start.pre.words)))
+  beyond : length ws ≤ place → is_place rs place ≡ false
+  beyond l = place_beyond rs place (omega (arith, ap length (words_back n ars 0 ws start.pre.words)))
 
 cast-place : tie.Need-overflow-cast-place invariant-loop decreases-loop
 cast-place c = omega (arith, c.shared-slice-known3.given (i c.before))
@@ -78,7 +78,7 @@ row-of-requires : tie.Need-row-of-requires invariant-loop decreases-loop
 row-of-requires c κs =
     let b = c.before.before.before in
     ⊎_elim
-    (λ a. ((start b).requires, (rw a.1 (row-start-0 (n b) (ars b) (ws b)), (omega (arith, a.1), omega arith))))
+    (λ a. ((start b).requires, (rw a.1 (row-start_0 (n b) (ars b) (ws b)), (omega (arith, a.1), omega arith))))
     (λ a. ((start b).requires, (rw a.1 b.before.loop.invariant.1, (omega (arith, a.1), omega arith))))
     c.if2.branch
 
@@ -87,11 +87,11 @@ module _ (c : tie.After-row-of invariant-loop decreases-loop) where
   abbrev loop : tie.In-loop invariant-loop decreases-loop
   loop = c.before.before.before.before
 
-  relation : c.row_of.result ≡ place loop → isPlace (rs loop) (place loop) ≡ false
-  relation e = place-of-relation c.row_of.ensures (start loop).pre.words (omega arith) e
+  relation : c.row_of.result ≡ place loop → is_place (rs loop) (place loop) ≡ false
+  relation e = place_of-relation c.row_of.ensures (start loop).pre.words (omega arith) e
 
-  cell : (c.row_of.result ≡ place loop → ⊥) → isPlace (rs loop) (place loop) ≡ true
-  cell ne = place-of-cell c.row_of.ensures (start loop).pre.words (omega arith) ne
+  cell : (c.row_of.result ≡ place loop → ⊥) → is_place (rs loop) (place loop) ≡ true
+  cell ne = place_of-cell c.row_of.ensures (start loop).pre.words (omega arith) ne
 
 returns-2 : tie.Need-returns-2 invariant-loop decreases-loop
 returns-2 c = sym (seen (loop c.before) false (relation c.before (omega (arith, c.before.row_of.ensures.low))))
@@ -118,7 +118,7 @@ are-places-spec =
     (tie.spec
     invariant-loop
     decreases-loop
-    loop-holds
+    loop_holds
     mul-place
     shared-slice-read-place
     cast-place

@@ -7,19 +7,19 @@ use mathlib.Core.List.{List}
 use native.Mathlib.Omega.{arith}
 use borrow.Author.Tests.{le-leb, lt-leb}
 use Rattle.calculus.specs.Cell.{nulls}
-use Rattle.calculus.specs.Fill.{entryLength}
+use Rattle.calculus.specs.Fill.{entry_length}
 use Rattle.instance.specs.declared.header.Header.{Header}
 use Rattle.instance.specs.Sound.{rows}
-use Rattle.instance.proofs.Sound.{Sound, sound-gives}
-use Rattle.log.specs.Places.{arePlaces}
-use Rattle.log.specs.Log.{lastCount, lastMark, entryWellFormed}
+use Rattle.instance.proofs.Sound.{Sound, sound_gives}
+use Rattle.log.specs.Places.{are_places}
+use Rattle.log.specs.Log.{last_count, last_mark, entry_well_formed}
 use Rattle.undo.proofs.Entries.{places-lent, entry-short}
 use borrow.Author.Rules.{rules}
 use Rattle.undo.proofs.entry_well_formed.Statement.{statement}
 use Rattle.undo.proofs.entry_well_formed.Tie as tie
 
 returns : tie.Need-returns
-unfolding entryWellFormed
+unfolding entry_well_formed
 returns c = simp (lt-leb _ _ c.if1.taken)
 
 returns-2 : tie.Need-returns-2
@@ -47,14 +47,14 @@ shared-slice-read-mark : tie.Need-shared-slice-read-mark
 shared-slice-read-mark c = search rules
 
 returns-4 : tie.Need-returns-4
-unfolding entryWellFormed
+unfolding entry_well_formed
 returns-4 c = simp (lt-leb _ _ c.if4.taken, and-false)
 
 returns-5 : tie.Need-returns-5
-unfolding entryWellFormed
+unfolding entry_well_formed
 returns-5 c =
     let a = c.before.before.before.before.before.before.before.before.before.args in
-    simp (lt-leb (lastMark a.log.now a.used) nulls (omega arith), and-false)
+    simp (lt-leb (last_mark a.log.now a.used) nulls (omega arith), and-false)
 
 -- all tests but that of the places are passed
 module _ (c : tie.Else5) where
@@ -74,9 +74,9 @@ module _ (c : tie.Else5) where
   used = start.args.used
 
   given : Sound h ws
-  given = sound-gives h ws start.pre
+  given = sound_gives h ws start.pre
 
-  whole : entryLength (lastCount log used) ≤ used
+  whole : entry_length (last_count log used) ≤ used
   whole = omega arith
 
 cast-size : tie.Need-cast-size
@@ -98,17 +98,17 @@ part-are-places-end : tie.Need-part-are-places-end
 part-are-places-end c = search rules
 
 are-places-requires : tie.Need-are-places-requires
-are-places-requires c κs = (given c.before.before.before.before.before).well-formed
+are-places-requires c κs = (given c.before.before.before.before.before).well_formed
 
 returns-6 : tie.Need-returns-6
-unfolding entryWellFormed rows
+unfolding entry_well_formed rows
 returns-6 c =
     let b = c.before.before.before.before.before.before in
     let in-log = le-leb _ _ b.before.before.before.before.before.before.if1.left in
     let low = le-leb _ _ b.before.if4.left in
     let high = le-leb _ _ b.if5.left in
     c.are-places.ensures
-    ∙ ap (arePlaces (rows (h b) (ws b))) (places-lent (log b) (used b) _ refl (whole b))
+    ∙ ap (are_places (rows (h b) (ws b))) (places-lent (log b) (used b) _ refl (whole b))
     ∙ simp (in-log, le-leb _ _ (whole b), low, high)
 
 pub entry-well-formed-spec : {M : Type 1} → statement M

@@ -5,7 +5,7 @@ use mathlib.Core.List.{List}
 use native.Mathlib.Omega.{arith}
 use lib.ListN.{length, get_or, drop, length-set}
 use lib.Seq.{drop-length}
-use Rattle.calculus.proofs.Lists.{drop-step}
+use Rattle.calculus.proofs.Lists.{drop_step}
 use Rattle.log.specs.Places.{put_at}
 use Rattle.undo.proofs.put_all.Statement.{statement}
 use Rattle.undo.proofs.put_all.Tie as tie
@@ -16,8 +16,8 @@ invariant-loop words₀ places x k₀ words k = (k ≤ length places) × (length
 abbrev decreases-loop : tie.decreases-loop
 decreases-loop words₀ places x k₀ words k = length places - k
 
-loop-holds : tie.Need-loop-init invariant-loop decreases-loop
-loop-holds c = (omega arith, refl, refl)
+loop_holds : tie.Need-loop-init invariant-loop decreases-loop
+loop_holds c = (omega arith, refl, refl)
 
 mul_words : tie.Need-overflow-mul-words invariant-loop decreases-loop
 mul_words c = omega arith
@@ -62,7 +62,7 @@ loop-again c =
     let inv = b.before.loop.invariant in (
       omega arith,
       length-set (words b) _ x ∙ inv.1,
-      sym (ap (λ (ps : List ℕ). put_at ps x (words b)) (drop-step (places b) (k b) (omega arith))) ∙ inv.2,
+      sym (ap (λ (ps : List ℕ). put_at ps x (words b)) (drop_step (places b) (k b) (omega arith))) ∙ inv.2,
     )
 
 same_length : tie.Need-same-length invariant-loop decreases-loop
@@ -80,7 +80,7 @@ put-all-spec =
     (tie.spec
     invariant-loop
     decreases-loop
-    loop-holds
+    loop_holds
     mul_words
     shared-slice-read-words
     cast-words

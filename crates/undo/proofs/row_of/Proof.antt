@@ -3,8 +3,8 @@ use Prim.Native.Nat.{ℕ, ◌≤◌, ◌<◌, ◌-◌}
 use mathlib.Core.List.{List}
 use native.Mathlib.Omega.{arith}
 use lib.ListN.{length, get_or}
-use Rattle.instance.specs.Header.{arityOf, maxRelations, maxColumns}
-use Rattle.instance.proofs.Walk.{AtRow, relation-few, arity-few}
+use Rattle.instance.specs.Header.{arity_of, max_relations, max_columns}
+use Rattle.instance.proofs.Walk.{AtRow, relation-few, arity_few}
 use Rattle.undo.specs.RowStart.{RowStart}
 use Rattle.undo.proofs.RowStarts.{start-row, start-next}
 use Rattle.undo.proofs.row_of.Statement.{statement}
@@ -16,8 +16,8 @@ invariant-loop words arities relations from place row₀ row = RowStart relation
 abbrev decreases-loop : tie.decreases-loop
 decreases-loop words arities relations from place row₀ row = place - row
 
-loop-holds : tie.Need-loop-init invariant-loop decreases-loop
-loop-holds c = (c.requires.1.0, c.requires.1.1.0)
+loop_holds : tie.Need-loop-init invariant-loop decreases-loop
+loop_holds c = (c.requires.1.0, c.requires.1.1.0)
 
 -- the row that starts at `row`
 module _ (c : tie.At-loop invariant-loop decreases-loop) where
@@ -39,11 +39,11 @@ module _ (c : tie.At-loop invariant-loop decreases-loop) where
   here : AtRow n ars ws row
   here = start-row c.loop.invariant.0 c.before.requires.0.words within
 
-  few : get_or ws row 0 < maxRelations
+  few : get_or ws row 0 < max_relations
   few = relation-few n ars ws _ c.before.requires.0 here.relation
 
-  narrow : arityOf ars (get_or ws row 0) ≤ maxColumns
-  narrow = arity-few n ars ws _ c.before.requires.0 here.relation
+  narrow : arity_of ars (get_or ws row 0) ≤ max_columns
+  narrow = arity_few n ars ws _ c.before.requires.0 here.relation
 
 mul-relation : tie.Need-overflow-mul-relation invariant-loop decreases-loop
 mul-relation c = omega (arith, within c)
@@ -86,7 +86,7 @@ row-of-spec =
     (tie.spec
     invariant-loop
     decreases-loop
-    loop-holds
+    loop_holds
     mul-relation
     shared-slice-read-relation
     cast-relation

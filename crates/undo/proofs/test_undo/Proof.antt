@@ -5,8 +5,8 @@ use native.Mathlib.Omega.{arith}
 use borrow.Author.Tests.{le-ltb, lt-ltb, not-true, not-false}
 use Rattle.instance.specs.Sound.{sound}
 use Rattle.instance.proofs.Sound.{scanned-sound, scanned-unsound}
-use Rattle.log.specs.Log.{entryWellFormed, undone}
-use Rattle.log.proofs.Accepted.{Entry, entry-met}
+use Rattle.log.specs.Log.{entry_well_formed, undone}
+use Rattle.log.proofs.Accepted.{Entry, entry_met}
 use borrow.Author.Rules.{rules}
 use Rattle.undo.proofs.test_undo.Statement.{statement}
 use Rattle.undo.proofs.test_undo.Tie as tie
@@ -25,8 +25,8 @@ module _ (c : tie.After-enum-told) where
   abbrev start : tie.Start
   start = c.before.before.before.before.before
 
-  is-sound : sound start.args.header start.args.instance.now ≡ true
-  is-sound = scanned-sound _ _ _ (sym c.before.before.scan.ensures.0 ∙ c.enum_told.given.1)
+  is_sound : sound start.args.header start.args.instance.now ≡ true
+  is_sound = scanned-sound _ _ _ (sym c.before.before.scan.ensures.0 ∙ c.enum_told.given.1)
 
 returns : tie.Need-returns
 unfolding undone
@@ -34,28 +34,28 @@ returns c = simp (scanned-unsound _ _ (sym c.before.before.scan.ensures.0 ∙ c.
 
 returns-2 : tie.Need-returns-2
 unfolding undone
-returns-2 c = simp (is-sound c.before, le-ltb 0 (start c.before).args.used (omega arith))
+returns-2 c = simp (is_sound c.before, le-ltb 0 (start c.before).args.used (omega arith))
 
 entry-well-formed-requires : tie.Need-entry-well-formed-requires
-entry-well-formed-requires c κs = is-sound c.before
+entry-well-formed-requires c κs = is_sound c.before
 
 returns-3 : tie.Need-returns-3
 unfolding undone
 returns-3 c =
-    let e : entryWellFormed _ _ _ _ ≡ false = sym c.before.entry-well-formed.ensures ∙ not-true _ c.if2.true in
+    let e : entry_well_formed _ _ _ _ ≡ false = sym c.before.entry-well-formed.ensures ∙ not-true _ c.if2.true in
     let told = c.before.before.before in
-    simp (is-sound told, lt-ltb 0 (start told).args.used (omega arith), e)
+    simp (is_sound told, lt-ltb 0 (start told).args.used (omega arith), e)
 
 -- what is known of an entry that passes
 module _ (c : tie.Else2) where
   abbrev told : tie.After-enum-told
   told = c.before.before.before
 
-  well-formed : entryWellFormed (start told).args.header (start told).args.instance.now (start told).args.log.now (start told).args.used ≡ true
-  well-formed = sym c.before.entry-well-formed.ensures ∙ not-false _ c.if2.false
+  well_formed : entry_well_formed (start told).args.header (start told).args.instance.now (start told).args.log.now (start told).args.used ≡ true
+  well_formed = sym c.before.entry-well-formed.ensures ∙ not-false _ c.if2.false
 
   entry : Entry (start told).args.header (start told).args.instance.now (start told).args.log.now (start told).args.used
-  entry = entry-met _ _ _ _ well-formed
+  entry = entry_met _ _ _ _ well_formed
 
 sub-t8 : tie.Need-overflow-sub-t8
 sub-t8 c = search rules
@@ -68,7 +68,7 @@ shared-slice-read-t11 c = omega (arith, (entry c.before).within)
 
 returns-4 : tie.Need-returns-4
 unfolding undone
-returns-4 c = let b = c.before in simp (is-sound (told b), lt-ltb 0 (start (told b)).args.used (omega arith), well-formed b)
+returns-4 c = let b = c.before in simp (is_sound (told b), lt-ltb 0 (start (told b)).args.used (omega arith), well_formed b)
 
 pub test-undo-spec : {M : Type 1} → statement M
 test-undo-spec =

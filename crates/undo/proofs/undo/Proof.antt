@@ -8,11 +8,11 @@ use Rattle.calculus.specs.declared.answer.Answer.TheVariants.{Done}
 use Rattle.calculus.specs.Cell.{null}
 use Rattle.instance.specs.declared.header.Header.{Header}
 use Rattle.instance.specs.Sound.{rows}
-use Rattle.instance.proofs.Sound.{sound-gives}
+use Rattle.instance.proofs.Sound.{sound_gives}
 use Rattle.log.specs.Places.{put_at}
-use Rattle.log.specs.Log.{lastMark, lastPlaces, undone, undoneWords, undoneUsed}
-use Rattle.undo.proofs.Places.{places-below}
-use Rattle.log.proofs.Accepted.{Undone, undo-accepted}
+use Rattle.log.specs.Log.{last_mark, last_places, undone, undone_words, undone_used}
+use Rattle.undo.proofs.Places.{places_below}
+use Rattle.log.proofs.Accepted.{Undone, undo_accepted}
 use Rattle.undo.proofs.Entries.{undo-told, places-lent}
 use borrow.Author.Rules.{rules}
 use Rattle.undo.proofs.undo.Statement.{statement}
@@ -31,7 +31,7 @@ same_length : tie.Need-same-length
 same_length c = search rules
 
 returns : tie.Need-returns
-unfolding undoneWords undoneUsed
+unfolding undone_words undone_used
 returns c =
     let e = sym c.before.before.test-undo.ensures ∙ c.enum_told.given.1 in
     undo-told _ _ _ _ (c.before.before.test-undo.ensures, (simp e, simp e))
@@ -63,14 +63,14 @@ module _ (c : tie.After-known-told) where
   done = sym answered.test-undo.ensures ∙ c.before.answer.given.1
 
   accepted : Undone h ws log used count
-  accepted = undo-accepted h ws log used count done
+  accepted = undo_accepted h ws log used count done
 
-  below : (k : ℕ) → k < length (lastPlaces log used) → get_or (lastPlaces log used) k 0 < length ws
+  below : (k : ℕ) → k < length (last_places log used) → get_or (last_places log used) k 0 < length ws
   below k l =
-      let s = sound-gives h ws accepted.is-sound in
-      omega (arith, places-below (rows h ws) (lastPlaces log used) accepted.entry.places k l, ap length s.words, s.in_use, s.within)
+      let s = sound_gives h ws accepted.is_sound in
+      omega (arith, places_below (rows h ws) (last_places log used) accepted.entry.places k l, ap length s.words, s.in_use, s.within)
 
-  lent : take (used - 2 - (used - 2 - count)) (drop (used - 2 - count) log) ≡ lastPlaces log used
+  lent : take (used - 2 - (used - 2 - count)) (drop (used - 2 - count) log) ≡ last_places log used
   lent = places-lent log used count accepted.count accepted.entry.whole
 
 sub-end : tie.Need-overflow-sub-end
@@ -110,14 +110,14 @@ same-length-2 : tie.Need-same-length-2
 same-length-2 c = search rules
 
 returns-2 : tie.Need-returns-2
-unfolding undoneWords undoneUsed
+unfolding undone_words undone_used
 returns-2 c =
     let p = c.before.before in
     let a = p.before.before.before.before in
     undo-told (h a) (ws a) (log a) (used a) (
       sym (done a),
       (
-        simp (done a) (p.put_all_lem.ensures ∙ ap (λ (ps : List ℕ). put_at ps (null (lastMark (log a) (used a))) (ws a)) (lent a)),
+        simp (done a) (p.put_all_lem.ensures ∙ ap (λ (ps : List ℕ). put_at ps (null (last_mark (log a) (used a))) (ws a)) (lent a)),
         simp (done a) (omega (arith, (accepted a).count, (accepted a).entry.whole)),
       ),
     )

@@ -6,11 +6,11 @@ use mathlib.Core.List.{List}
 use borrow.Author.Rules.{rules}
 use lib.ListN.{length}
 use Rattle.instance.specs.declared.header.Header.{Header}
-use Rattle.instance.specs.Header.{maxRelations, maxWords}
+use Rattle.instance.specs.Header.{max_relations, max_words}
 use Rattle.instance.specs.Sound.{rows}
-use Rattle.instance.proofs.Sound.{Sound, sound-gives}
+use Rattle.instance.proofs.Sound.{Sound, sound_gives}
 use Rattle.answer.specs.Admitted.{Admitted}
-use Rattle.answer.proofs.AskLaws.{Described, described, described-unflagged, evaluable, listed-ranged, evaluated-top, described-places}
+use Rattle.answer.proofs.AskLaws.{Described, described, described_unflagged, evaluable, listed-ranged, evaluated-top, described_places}
 use Rattle.answer.proofs.Need.{range-few}
 use Rattle.answer.proofs.ask.answer_listed.Statement.{statement}
 use Rattle.answer.proofs.ask.answer_listed.Tie as tie
@@ -32,12 +32,12 @@ module _ (c : tie.Start) where
   passes = c.requires.0.1
 
   abbrev given : Sound h ws
-  given = sound-gives h ws passes.is-sound
+  given = sound_gives h ws passes.is_sound
 
-  eight : length h.arities ≡ maxRelations
+  eight : length h.arities ≡ max_relations
   eight = search rules
 
-  few : length c.args.values.now ≤ maxWords
+  few : length c.args.values.now ≤ max_words
   few = omega (arith, ap length c.requires.1, range-few h ws qs cs c.requires.0.0 passes)
 
 -- after the instance was described
@@ -48,8 +48,8 @@ module _ (c : tie.After-describe) where
   abbrev table : List ℕ
   table = c.describe.new.1.1.1.0
 
-  is-described : Described (h start) (ws start) table
-  is-described = described (h start) (ws start) table (eight start) (passes start).is-sound _ c.describe.ensures
+  is_described : Described (h start) (ws start) table
+  is_described = described (h start) (ws start) table (eight start) (passes start).is_sound _ c.describe.ensures
 
 cast-used : tie.Need-overflow-cast-used
 cast-used c = search rules
@@ -71,16 +71,16 @@ unfolding rows
 answer-top-requires c κs =
     let d = c.before.before.before in
     let s = start d in
-    let unflagged = described-unflagged (h s) (ws s) (table d) (eight s) (passes s).is-sound _ d.describe.ensures in
-    let places = described-places (h s) (ws s) (table d) (eight s) (passes s).is-sound _ d.describe.ensures in
-    evaluable (h s) (ws s) (qs s) (cs s) _ (passes s) (eight s) (table d) _ (is-described d)
+    let unflagged = described_unflagged (h s) (ws s) (table d) (eight s) (passes s).is_sound _ d.describe.ensures in
+    let places = described_places (h s) (ws s) (table d) (eight s) (passes s).is_sound _ d.describe.ensures in
+    evaluable (h s) (ws s) (qs s) (cs s) _ (passes s) (eight s) (table d) _ (is_described d)
     (listed-ranged (h s) (ws s) (qs s) (table d) _ places unflagged (few s) s.pre.1)
 
 returns : tie.Need-returns
 returns c =
     let d = c.before.before.before.before in
     let s = start d in
-    evaluated-top (h s) (ws s) (qs s) (cs s) s.args.budget (table d) (is-described d) _ c.answer-top.ensures
+    evaluated-top (h s) (ws s) (qs s) (cs s) s.args.budget (table d) (is_described d) _ c.answer-top.ensures
 
 pub answer-listed-spec : {M : Type 1} → statement M
 answer-listed-spec =

@@ -9,26 +9,26 @@ use lib.Seq.{length-take-le}
 use Rattle.calculus.specs.declared.answer.Answer.{Answer}
 use Rattle.calculus.specs.declared.answer.Answer.TheVariants as answer
 use Rattle.calculus.specs.Row.{cells_of}
-use Rattle.calculus.specs.Domain.{rangeOver}
-use Rattle.calculus.specs.Model.{outcomeOf}
+use Rattle.calculus.specs.Domain.{range_over}
+use Rattle.calculus.specs.Model.{outcome_of}
 use Rattle.instance.specs.declared.header.Header.{Header}
-use Rattle.instance.specs.Header.{maxRelations}
+use Rattle.instance.specs.Header.{max_relations}
 use Rattle.instance.specs.InstanceWellFormed.{InstanceOf}
 use Rattle.instance.specs.Rows.{rows_from}
-use Rattle.instance.specs.Run.{modelOf}
+use Rattle.instance.specs.Run.{model_of}
 use Rattle.instance.specs.Sound.{rows}
-use Rattle.instance.proofs.Sound.{Sound, sound-gives}
-use Rattle.query.specs.Named.{named_in, queryOf}
-use Rattle.answer.specs.Ask.{admitted, needed, askable, ask, askedBuffer, list}
+use Rattle.instance.proofs.Sound.{Sound, sound_gives}
+use Rattle.query.specs.Named.{named_in, query_of}
+use Rattle.answer.specs.Ask.{admitted, needed, askable, ask, asked_buffer, list}
 use Rattle.answer.specs.Admitted.{Admitted}
 use Rattle.answer.specs.Numbers.{TellsVerdict}
 use Rattle.answer.specs.declared.asked.Asked.{Asked}
 use Rattle.answer.specs.declared.asked.Asked.TheVariants.{Refused}
 use Rattle.answer.proofs.RerunLaws.{Asks}
-use Rattle.answer.proofs.Admitted.{admitted-done}
-use Rattle.answer.proofs.AskLaws.{admitted-refused, refused-asked, refused-buffer, evaluated-asked, evaluated-buffer, short-list, long-list, has-terms}
-use Rattle.answer.proofs.Need.{cells_count, need-few}
-use Rattle.answer.proofs.AskLaws.{listed-part}
+use Rattle.answer.proofs.Admitted.{admitted_done}
+use Rattle.answer.proofs.AskLaws.{admitted-refused, refused-asked, refused-buffer, evaluated-asked, evaluated_buffer, short-list, long-list, has_terms}
+use Rattle.answer.proofs.Need.{cells_count, need_few}
+use Rattle.answer.proofs.AskLaws.{listed_part}
 use Rattle.answer.proofs.Told.{ask-told}
 use Rattle.answer.proofs.ask.ask.Statement.{statement}
 use Rattle.answer.proofs.ask.ask.Tie as tie
@@ -58,15 +58,15 @@ module _ (c : tie.After-admit) where
 
   -- a refusal or a verdict, in the paper's numbers too
   told :
-      {r : Asked} {left : List ℕ} → r ≡ ask h ws qs cs (list buffer) budget → left ≡ askedBuffer h ws qs cs buffer →
+      {r : Asked} {left : List ℕ} → r ≡ ask h ws qs cs (list buffer) budget → left ≡ asked_buffer h ws qs cs buffer →
       (r ≡ ask h ws qs cs (list buffer) budget) ×
-      ((left ≡ askedBuffer h ws qs cs buffer) × TellsVerdict r (ask h ws qs cs (list buffer) budget) (outcomeOf (modelOf h ws cs) (queryOf h.arities qs)))
+      ((left ≡ asked_buffer h ws qs cs buffer) × TellsVerdict r (ask h ws qs cs (list buffer) budget) (outcome_of (model_of h ws cs) (query_of h.arities qs)))
   told p q = (p, (q, ask-told h ws qs cs (list buffer) budget p))
 
   refused-told :
       (r : ℕ) → askable h ws qs cs (list buffer) ≡ answer.Refused r →
       (Refused r ≡ ask h ws qs cs (list buffer) budget) ×
-      ((buffer ≡ askedBuffer h ws qs cs buffer) × TellsVerdict (Refused r) (ask h ws qs cs (list buffer) budget) (outcomeOf (modelOf h ws cs) (queryOf h.arities qs)))
+      ((buffer ≡ asked_buffer h ws qs cs buffer) × TellsVerdict (Refused r) (ask h ws qs cs (list buffer) budget) (outcome_of (model_of h ws cs) (query_of h.arities qs)))
   refused-told r e = told (refused-asked h ws qs cs (list buffer) budget r e) (refused-buffer h ws qs cs buffer r e)
 
   module _ (a : Answer) (is : c.admit.result ≡ a) where
@@ -82,18 +82,18 @@ module _ (c : tie.After-arities) where
   count = c.before.before.before.count.given.0.0
 
   passes : Admitted (h at) (ws at) (qs at) (cs at) count
-  passes = admitted-done (h at) (ws at) (qs at) (cs at) count (answers at (answer.Done count) c.before.before.before.count.given.1)
+  passes = admitted_done (h at) (ws at) (qs at) (cs at) count (answers at (answer.Done count) c.before.before.before.count.given.1)
 
   abbrev given : Sound (h at) (ws at)
-  given = sound-gives (h at) (ws at) passes.is-sound
+  given = sound_gives (h at) (ws at) passes.is_sound
 
   lent : InstanceOf (h at).arities (take (h at).used (ws at))
-  lent = record { relations = (h at).relations; well-formed = given.well-formed }
+  lent = record { relations = (h at).relations; well_formed = given.well_formed }
 
   cells : (h at).used ≡ count + length (cells_of (rows (h at) (ws at)))
-  cells = omega (arith, cells_count (h at) (ws at) passes.is-sound, passes.counted)
+  cells = omega (arith, cells_count (h at) (ws at) passes.is_sound, passes.counted)
 
-  eight : length (h at).arities ≡ maxRelations
+  eight : length (h at).arities ≡ max_relations
   eight = search rules
 
 -- the need of the list: cells and inked terms
@@ -136,10 +136,10 @@ module _ (c : tie.After-buffer) where
   left = c.before.list-range.new.1.1.1.0
 
   abbrev values : List ℕ
-  values = rangeOver (named_in (h begins).arities (qs begins)) (rows_from (h begins).arities 0 (take (h begins).used (ws begins)))
+  values = range_over (named_in (h begins).arities (qs begins)) (rows_from (h begins).arities 0 (take (h begins).used (ws begins)))
 
-  are-listed : (c.before.list-range.result ≤ length left) × (take c.before.list-range.result left ≡ values)
-  are-listed = listed-part values (buffer begins) left c.before.list-range.result c.before.list-range.ensures.0 c.before.list-range.ensures.1
+  are_listed : (c.before.list-range.result ≤ length left) × (take c.before.list-range.result left ≡ values)
+  are_listed = listed_part values (buffer begins) left c.before.list-range.result c.before.list-range.ensures.0 c.before.list-range.ensures.1
 
 admit-requires : tie.Need-admit-requires
 admit-requires c κs = search rules
@@ -163,13 +163,13 @@ count-named-requires : tie.Need-count-named-requires
 count-named-requires c κs =
     let f = c.before in
     let b = at f in
-    has-terms (h b) (ws b) (qs b) (cs b) (count f) (passes f) (eight f)
+    has_terms (h b) (ws b) (qs b) (cs b) (count f) (passes f) (eight f)
 
 add-if1 : tie.Need-overflow-add-if1
 add-if1 c =
     let f = of c in
     let b = at f in
-    omega (arith, need c, need-few (h b) (ws b) (qs b) (cs b) (count f) (passes f))
+    omega (arith, need c, need_few (h b) (ws b) (qs b) (cs b) (count f) (passes f))
 
 returns : tie.Need-returns
 returns c =
@@ -187,17 +187,17 @@ list-range-requires c κs =
     let t = c.before.before.before in
     let f = first t in
     let b = at f in
-    ((lent f, has-terms (h b) (ws b) (qs b) (cs b) (count f) (passes f) (eight f)), (long t, omega (arith, need-few (h b) (ws b) (qs b) (cs b) (count f) (passes f))))
+    ((lent f, has_terms (h b) (ws b) (qs b) (cs b) (count f) (passes f) (eight f)), (long t, omega (arith, need_few (h b) (ws b) (qs b) (cs b) (count f) (passes f))))
 
 slice-reshare-prefix-answer-listed : tie.Need-slice-reshare-prefix-answer-listed
-slice-reshare-prefix-answer-listed c = (are-listed c.before).0
+slice-reshare-prefix-answer-listed c = (are_listed c.before).0
 
 slice-aggregate-answer-listed : tie.Need-slice-aggregate-answer-listed
-slice-aggregate-answer-listed c = sym (length-take-le _ _ (are-listed c.before.before).0)
+slice-aggregate-answer-listed c = sym (length-take-le _ _ (are_listed c.before.before).0)
 
 answer-listed-requires : tie.Need-answer-listed-requires
 unfolding rows
-answer-listed-requires c κs = let l = c.before.before in let f = first (tested l) in ((count f, passes f), (are-listed l).1)
+answer-listed-requires c κs = let l = c.before.before in let f = first (tested l) in ((count f, passes f), (are_listed l).1)
 
 returns-2 : tie.Need-returns-2
 returns-2 c =
@@ -215,7 +215,7 @@ returns-3 c =
     let b = begins l in
     told b
     (c.answer-listed.ensures ∙ evaluated-asked (h b) (ws b) (qs b) (cs b) (list (buffer b)) (budget b) (asks t))
-    (l.before.list-range.ensures.1 ∙ evaluated-buffer (h b) (ws b) (qs b) (cs b) (buffer b) (asks t))
+    (l.before.list-range.ensures.1 ∙ evaluated_buffer (h b) (ws b) (qs b) (cs b) (buffer b) (asks t))
 
 pub ask-spec : {M : Type 1} → statement M
 ask-spec =

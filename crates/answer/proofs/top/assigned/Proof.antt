@@ -4,7 +4,7 @@ use mathlib.Core.List.{List}
 use mathlib.Core.Path.{◌≡◌, refl, ap, ◌∙◌}
 use native.Mathlib.Omega.{arith}
 use lib.ListN.{length, get_or, set}
-use Rattle.answer.proofs.Assigned.{partly, partly_more, partly-all}
+use Rattle.answer.proofs.Assigned.{partly, partly_more, partly_all}
 use Rattle.answer.proofs.top.assigned.Statement.{statement}
 use Rattle.answer.proofs.top.assigned.Tie as tie
 
@@ -14,8 +14,8 @@ invariant-loop candidate env₀ i₀ env i = (env ≡ partly candidate i) × (i 
 abbrev decreases-loop : tie.decreases-loop
 decreases-loop candidate env₀ i₀ env i = length candidate - i
 
-loop-holds : tie.Need-loop-init invariant-loop decreases-loop
-loop-holds c = (refl, omega arith)
+loop_holds : tie.Need-loop-init invariant-loop decreases-loop
+loop_holds c = (refl, omega arith)
 
 mul-env : tie.Need-overflow-mul-env invariant-loop decreases-loop
 mul-env c = omega arith
@@ -41,7 +41,7 @@ loop-again c =
     (ap (λ (l : List ℕ). set l at.i (get_or c.before.before.before.args.candidate.now at.i 0)) at.invariant.0 ∙ partly_more _ at.i c.before.loop-test.true c.before.before.before.requires, omega arith)
 
 returns : tie.Need-returns invariant-loop decreases-loop
-returns c = c.before.loop.invariant.0 ∙ partly-all c.before.before.args.candidate.now c.before.loop.i (omega arith)
+returns c = c.before.loop.invariant.0 ∙ partly_all c.before.before.args.candidate.now c.before.loop.i (omega arith)
 
 pub assigned-spec : {M : Type 1} → statement M
 assigned-spec =
@@ -49,7 +49,7 @@ assigned-spec =
     (tie.spec
     invariant-loop
     decreases-loop
-    loop-holds
+    loop_holds
     mul-env
     shared-slice-read-env
     mul-env-2

@@ -7,23 +7,23 @@ use mathlib.Core.List.{List}
 use borrow.Author.Rules.{rules}
 use lib.ListN.{length, take}
 use Rattle.calculus.specs.declared.answer.Answer.{Answer}
-use Rattle.calculus.specs.Model.{outcomeOf}
+use Rattle.calculus.specs.Model.{outcome_of}
 use Rattle.instance.specs.declared.header.Header.{Header}
-use Rattle.instance.specs.Header.{maxRelations}
+use Rattle.instance.specs.Header.{max_relations}
 use Rattle.instance.specs.InstanceWellFormed.{InstanceOf}
-use Rattle.instance.specs.Run.{modelOf}
-use Rattle.instance.proofs.Sound.{Sound, sound-gives}
-use Rattle.query.specs.Named.{queryOf}
+use Rattle.instance.specs.Run.{model_of}
+use Rattle.instance.proofs.Sound.{Sound, sound_gives}
+use Rattle.query.specs.Named.{query_of}
 use Rattle.query.proofs.Passed.{count-within}
 use Rattle.answer.specs.Ask.{admitted, ask, none}
 use Rattle.answer.specs.Admitted.{Admitted}
 use Rattle.answer.specs.Numbers.{TellsVerdict}
 use Rattle.answer.specs.declared.asked.Asked.{Asked}
-use Rattle.answer.proofs.Admitted.{admitted-done}
-use Rattle.answer.proofs.AskLaws.{admitted-refused, refused-asked, evaluated-asked, no-list}
-use Rattle.answer.proofs.AskLaws.{Described, described, described-unflagged, described-kept, evaluable, walked-ranged, evaluated-top, described-places, has-terms}
+use Rattle.answer.proofs.Admitted.{admitted_done}
+use Rattle.answer.proofs.AskLaws.{admitted-refused, refused-asked, evaluated-asked, no_list}
+use Rattle.answer.proofs.AskLaws.{Described, described, described_unflagged, described-kept, evaluable, walked-ranged, evaluated-top, described_places, has_terms}
 use Rattle.answer.proofs.Told.{ask-told}
-use Rattle.known.specs.Known.{maxQueryWords}
+use Rattle.known.specs.Known.{max_query_words}
 use Rattle.known.proofs.Parts.{places-kept}
 use Rattle.answer.proofs.unlisted.ask_unlisted.Statement.{statement}
 use Rattle.answer.proofs.unlisted.ask_unlisted.Tie as tie
@@ -50,7 +50,7 @@ module _ (c : tie.After-admit) where
 
   told :
       {r : Asked} → r ≡ ask h ws qs cs none budget →
-      (r ≡ ask h ws qs cs none budget) × TellsVerdict r (ask h ws qs cs none budget) (outcomeOf (modelOf h ws cs) (queryOf h.arities qs))
+      (r ≡ ask h ws qs cs none budget) × TellsVerdict r (ask h ws qs cs none budget) (outcome_of (model_of h ws cs) (query_of h.arities qs))
   told p = (p, ask-told h ws qs cs none budget p)
 
   module _ (a : Answer) (is : c.admit.result ≡ a) where
@@ -66,18 +66,18 @@ module _ (c : tie.After-arities) where
   count = c.before.before.enum_told.given.0.0
 
   passes : Admitted (h at) (ws at) (qs at) (cs at) count
-  passes = admitted-done (h at) (ws at) (qs at) (cs at) count (answers at _ c.before.before.enum_told.given.1)
+  passes = admitted_done (h at) (ws at) (qs at) (cs at) count (answers at _ c.before.before.enum_told.given.1)
 
   abbrev given : Sound (h at) (ws at)
-  given = sound-gives (h at) (ws at) passes.is-sound
+  given = sound_gives (h at) (ws at) passes.is_sound
 
   lent : InstanceOf (h at).arities (take (h at).used (ws at))
-  lent = record { relations = (h at).relations; well-formed = given.well-formed }
+  lent = record { relations = (h at).relations; well_formed = given.well_formed }
 
-  eight : length (h at).arities ≡ maxRelations
+  eight : length (h at).arities ≡ max_relations
   eight = search rules
 
-  words : length (qs at) ≤ maxQueryWords
+  words : length (qs at) ≤ max_query_words
   words = let n = count-within (qs at) passes.right in omega (arith, n.1, n.2)
 
 -- after the instance was described
@@ -88,8 +88,8 @@ module _ (c : tie.After-describe) where
   abbrev before : List ℕ
   before = c.describe.new.1.1.1.0
 
-  is-described : Described (h (at found)) (ws (at found)) before
-  is-described = described (h (at found)) (ws (at found)) before (eight found) (passes found).is-sound _ c.describe.ensures
+  is_described : Described (h (at found)) (ws (at found)) before
+  is_described = described (h (at found)) (ws (at found)) before (eight found) (passes found).is_sound _ c.describe.ensures
 
 -- after the flags were set
 module _ (c : tie.After-pass-for) where
@@ -99,8 +99,8 @@ module _ (c : tie.After-pass-for) where
   abbrev table : List ℕ
   table = c.pass-for.new.1.1.1.0
 
-  still-described : Described (h (at (found known))) (ws (at (found known))) table
-  still-described = described-kept _ _ (before known) table (is-described known) c.pass-for.ensures.0.0 c.pass-for.ensures.0.1
+  still_described : Described (h (at (found known))) (ws (at (found known))) table
+  still_described = described-kept _ _ (before known) table (is_described known) c.pass-for.ensures.0.0 c.pass-for.ensures.0.1
 
 admit-requires : tie.Need-admit-requires
 admit-requires c κs = search rules
@@ -134,14 +134,14 @@ pass-for-requires c κs =
     let d = c.before.before.before.before in
     let f = found d in
     let b = at f in
-    let is = is-described d in (
+    let is = is_described d in (
       (
         subst (λ (ars : List ℕ). InstanceOf ars (take (h b).used (ws b))) (sym is.arities) (lent f),
-        has-terms (h b) (ws b) (qs b) (cs b) _ (passes f) (eight f),
+        has_terms (h b) (ws b) (qs b) (cs b) _ (passes f) (eight f),
         is.arities,
         words f,
       ),
-      (is.size, described-unflagged (h b) (ws b) (before d) (eight f) (passes f).is-sound _ d.describe.ensures),
+      (is.size, described_unflagged (h b) (ws b) (before d) (eight f) (passes f).is_sound _ d.describe.ensures),
     )
 
 slice-aggregate-answer-top : tie.Need-slice-aggregate-answer-top
@@ -156,10 +156,10 @@ answer-top-requires c κs =
     let d = known p in
     let f = found d in
     let b = at f in
-    evaluable (h b) (ws b) (qs b) (cs b) (count f) (passes f) (eight f) (table p) _ (still-described p)
-    (walked-ranged (h b) (ws b) (qs b) (table p) (passes f).is-sound
-    (places-kept (table p) (before d) p.pass-for.ensures.0.0 (is-described d).size p.pass-for.ensures.0.1 ∙
-    described-places (h b) (ws b) (before d) (eight f) (passes f).is-sound _ d.describe.ensures)
+    evaluable (h b) (ws b) (qs b) (cs b) (count f) (passes f) (eight f) (table p) _ (still_described p)
+    (walked-ranged (h b) (ws b) (qs b) (table p) (passes f).is_sound
+    (places-kept (table p) (before d) p.pass-for.ensures.0.0 (is_described d).size p.pass-for.ensures.0.1 ∙
+    described_places (h b) (ws b) (before d) (eight f) (passes f).is_sound _ d.describe.ensures)
     p.pass-for.ensures.1)
 
 returns : tie.Need-returns
@@ -174,8 +174,8 @@ returns-2 c =
     let f = found (known p) in
     let b = at f in
     told b
-    (evaluated-top (h b) (ws b) (qs b) (cs b) (budget b) (table p) (still-described p) _ c.answer-top.ensures ∙
-    evaluated-asked (h b) (ws b) (qs b) (cs b) none (budget b) (no-list (h b) (ws b) (qs b) (cs b) (count f) (passes f)))
+    (evaluated-top (h b) (ws b) (qs b) (cs b) (budget b) (table p) (still_described p) _ c.answer-top.ensures ∙
+    evaluated-asked (h b) (ws b) (qs b) (cs b) none (budget b) (no_list (h b) (ws b) (qs b) (cs b) (count f) (passes f)))
 
 pub ask-unlisted-spec : {M : Type 1} → statement M
 ask-unlisted-spec =

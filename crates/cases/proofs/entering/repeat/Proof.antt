@@ -12,8 +12,8 @@ invariant-loop plot₀ cells n now₀ i₀ plot now i = (length plot ≡ length 
 abbrev decreases-loop : tie.decreases-loop
 decreases-loop plot₀ cells n now₀ i₀ plot now i = n - i
 
-loop-holds : tie.Need-loop-init invariant-loop decreases-loop
-loop-holds c = (refl, search rules)
+loop_holds : tie.Need-loop-init invariant-loop decreases-loop
+loop_holds c = (refl, search rules)
 
 insert-requires : tie.Need-insert-requires invariant-loop decreases-loop
 insert-requires c κs = search rules
@@ -39,7 +39,7 @@ repeat-spec =
     (tie.spec
     invariant-loop
     decreases-loop
-    loop-holds
+    loop_holds
     insert-requires
     add-i
     loop-less

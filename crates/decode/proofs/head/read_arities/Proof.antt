@@ -8,11 +8,11 @@ use native.Mathlib.Omega.{arith}
 use borrow.Author.Rules.{rules}
 use borrow.Author.Tests.{le-leb, lt-leb}
 use lib.ListN.{length, drop, set}
-use Rattle.calculus.specs.Refusal.{bad-arity}
-use Rattle.instance.specs.Header.{isArity, maxColumns}
-use Rattle.card.specs.Format.{readArities}
-use Rattle.decode.specs.Measure.{noArities, openedArities}
-use Rattle.decode.proofs.Opening.{OpeningArities, arities-start, opening-cut, opening-bad, opening-more, opening-end}
+use Rattle.calculus.specs.Refusal.{bad_arity}
+use Rattle.instance.specs.Header.{is_arity, max_columns}
+use Rattle.card.specs.Format.{read_arities}
+use Rattle.decode.specs.Measure.{no_arities, opened_arities}
+use Rattle.decode.proofs.Opening.{OpeningArities, arities-start, opening_cut, opening_bad, opening_more, opening_end}
 use Rattle.decode.proofs.head.read_arities.Statement.{statement}
 use Rattle.decode.proofs.head.read_arities.Tie as tie
 
@@ -33,14 +33,14 @@ module _ (c : tie.After-byte invariant-loop decreases-loop) where
   room : turn.loop.i + 1 < length start.args.card.now
   room = omega arith
 
-  next-bad : isArity c.byte.result ≡ false → openedArities [] (readArities start.args.relations (drop 1 start.args.card.now)) ≡ noArities bad-arity
-  next-bad = opening-bad _ _ start.pre.0 _ _ turn.loop.inv c.before.before.loop-test.true room _ c.byte.ensures.0
+  next_bad : is_arity c.byte.result ≡ false → opened_arities [] (read_arities start.args.relations (drop 1 start.args.card.now)) ≡ no_arities bad_arity
+  next_bad = opening_bad _ _ start.pre.0 _ _ turn.loop.inv c.before.before.loop-test.true room _ c.byte.ensures.0
 
-  next-good : isArity c.byte.result ≡ true → OpeningArities start.args.card.now start.args.relations (set turn.loop.arities turn.loop.i c.byte.result) (turn.loop.i + 1)
-  next-good = opening-more _ _ start.pre.0 _ _ turn.loop.inv c.before.before.loop-test.true room _ c.byte.ensures.0
+  next_good : is_arity c.byte.result ≡ true → OpeningArities start.args.card.now start.args.relations (set turn.loop.arities turn.loop.i c.byte.result) (turn.loop.i + 1)
+  next_good = opening_more _ _ start.pre.0 _ _ turn.loop.inv c.before.before.loop-test.true room _ c.byte.ensures.0
 
-loop-holds : tie.Need-loop-init invariant-loop decreases-loop
-loop-holds c = arities-start _ _
+loop_holds : tie.Need-loop-init invariant-loop decreases-loop
+loop_holds c = arities-start _ _
 
 sub-if1 : tie.Need-overflow-sub-if1 invariant-loop decreases-loop
 sub-if1 c = search rules
@@ -51,7 +51,7 @@ no-arities-requires c κs = search rules
 returns : tie.Need-returns invariant-loop decreases-loop
 returns c =
     let l = c.before.before.before in
-    c.no-arities.ensures ∙ sym (opening-cut _ _ l.before.before.requires.0 _ _ l.loop.invariant c.before.before.loop-test.true c.before.if1.true)
+    c.no-arities.ensures ∙ sym (opening_cut _ _ l.before.before.requires.0 _ _ l.loop.invariant c.before.before.loop-test.true c.before.if1.true)
 
 add-byte : tie.Need-overflow-add-byte invariant-loop decreases-loop
 add-byte c = search rules
@@ -65,7 +65,7 @@ no-arities-requires-2 c κs = search rules
 returns-2 : tie.Need-returns-2 invariant-loop decreases-loop
 returns-2 c =
     let a = c.before.before.byte.result in
-    c.no-arities2.ensures ∙ sym (next-bad c.before.before (simp (lt-leb 1 a c.before.if2.true)))
+    c.no-arities2.ensures ∙ sym (next_bad c.before.before (simp (lt-leb 1 a c.before.if2.true)))
 
 no-arities-requires-3 : tie.Need-no-arities-requires-3 invariant-loop decreases-loop
 no-arities-requires-3 c κs = search rules
@@ -73,7 +73,7 @@ no-arities-requires-3 c κs = search rules
 returns-3 : tie.Need-returns-3 invariant-loop decreases-loop
 returns-3 c =
     let a = c.before.before.before.byte.result in
-    c.no-arities3.ensures ∙ sym (next-bad c.before.before.before (simp (le-leb 1 a c.before.before.if2.false, lt-leb a maxColumns c.before.if3.true)))
+    c.no-arities3.ensures ∙ sym (next_bad c.before.before.before (simp (le-leb 1 a c.before.before.if2.false, lt-leb a max_columns c.before.if3.true)))
 
 mul-arities : tie.Need-overflow-mul-arities invariant-loop decreases-loop
 mul-arities c = search rules
@@ -90,10 +90,10 @@ loop-less c = search rules
 loop-again : tie.Need-loop-preserved invariant-loop decreases-loop
 loop-again c =
     let a = c.before.before.byte.result in
-    next-good c.before.before (simp (le-leb 1 a c.before.if2.false, le-leb a maxColumns c.if3.false))
+    next_good c.before.before (simp (le-leb 1 a c.before.if2.false, le-leb a max_columns c.if3.false))
 
 returns-4 : tie.Need-returns-4 invariant-loop decreases-loop
-returns-4 c = opening-end _ _ _ _ c.before.loop.invariant c.loop-test.false
+returns-4 c = opening_end _ _ _ _ c.before.loop.invariant c.loop-test.false
 
 pub read-arities-spec : {M : Type 1} → statement M
 read-arities-spec =
@@ -101,7 +101,7 @@ read-arities-spec =
     (tie.spec
     invariant-loop
     decreases-loop
-    loop-holds
+    loop_holds
     sub-if1
     no-arities-requires
     returns

@@ -8,10 +8,10 @@ use lib.ListN.{length, drop}
 use Rattle.calculus.specs.declared.answer.Answer.TheVariants.{Done}
 use Rattle.calculus.specs.Padded.{padded}
 use Rattle.calculus.specs.Reading.{read}
-use Rattle.instance.specs.Header.{maxRelations}
-use Rattle.card.specs.Format.{isCount, readArities}
-use Rattle.decode.specs.Measure.{openedArities}
-use Rattle.decode.proofs.Opening.{none-counted, refused-head, head-none, head-bad, head-refused, head-long, head-cut, head-answer, arities-opened}
+use Rattle.instance.specs.Header.{max_relations}
+use Rattle.card.specs.Format.{is_count, read_arities}
+use Rattle.decode.specs.Measure.{opened_arities}
+use Rattle.decode.proofs.Opening.{none-counted, refused-head, head-none, head_bad, head-refused, head-long, head_cut, head-answer, arities_opened}
 use borrow.Author.Rules.{rules}
 use Rattle.decode.proofs.head.read_head.Statement.{statement}
 use Rattle.decode.proofs.head.read_head.Tie as tie
@@ -24,8 +24,8 @@ module _ (c : tie.Else3) where
   abbrev start : tie.Start
   start = first.before.before.before
 
-  counted : isCount first.byte.result ≡ true
-  counted = simp (le-leb 1 first.byte.result c.before.if2.false, le-leb first.byte.result maxRelations c.if3.false)
+  counted : is_count first.byte.result ≡ true
+  counted = simp (le-leb 1 first.byte.result c.before.if2.false, le-leb first.byte.result max_relations c.if3.false)
 
 -- the arities, if they were accepted
 module _ (c : tie.After-enum-told) where
@@ -38,8 +38,8 @@ module _ (c : tie.After-enum-told) where
   abbrev n : ℕ
   n = (first asked.before).byte.result
 
-  accepted : (ars : List ℕ) × (rest : List ℕ) × (readArities n (drop 1 card) ≡ read ars rest) × ((openedArities [] (readArities n (drop 1 card))).arities ≡ padded maxRelations ars)
-  accepted = arities-opened card n _ (ap (λ r. r.answer) (sym asked.read-arities.ensures) ∙ c.enum_told.given.1)
+  accepted : (ars : List ℕ) × (rest : List ℕ) × (read_arities n (drop 1 card) ≡ read ars rest) × ((opened_arities [] (read_arities n (drop 1 card))).arities ≡ padded max_relations ars)
+  accepted = arities_opened card n _ (ap (λ r. r.answer) (sym asked.read_arities_lem.ensures) ∙ c.enum_told.given.1)
 
   some : 1 ≤ length card
   some = (first asked.before).before.if1.left
@@ -60,7 +60,7 @@ returns-2 : tie.Need-returns-2
 returns-2 c =
     let n = c.before.before.byte in
     refused-head _ _ c.no-head2.ensures
-    (head-bad _ n.result c.before.before.before.if1.false n.ensures.0 (simp (lt-leb 1 n.result c.before.if2.true)))
+    (head_bad _ n.result c.before.before.before.if1.false n.ensures.0 (simp (lt-leb 1 n.result c.before.if2.true)))
 
 no-head-requires-3 : tie.Need-no-head-requires-3
 no-head-requires-3 c κs = search rules
@@ -69,8 +69,8 @@ returns-3 : tie.Need-returns-3
 returns-3 c =
     let n = c.before.before.before.byte in
     refused-head _ _ c.no-head3.ensures
-    (head-bad _ n.result c.before.before.before.before.if1.false n.ensures.0
-    (simp (le-leb 1 n.result c.before.before.if2.false, lt-leb n.result maxRelations c.before.if3.true)))
+    (head_bad _ n.result c.before.before.before.before.if1.false n.ensures.0
+    (simp (le-leb 1 n.result c.before.before.if2.false, lt-leb n.result max_relations c.before.if3.true)))
 
 cast-read-arities : tie.Need-overflow-cast-read-arities
 cast-read-arities c = search rules
@@ -90,7 +90,7 @@ returns-4 c =
     let n = (first asked.before).byte in
     let why = c.enum-told2.given.1 in
     rw why (
-      sym (head-refused _ n.result (first asked.before).before.if1.left n.ensures.0 (counted asked.before) _ (ap (λ r. r.answer) (sym asked.read-arities.ensures) ∙ why)),
+      sym (head-refused _ n.result (first asked.before).before.if1.left n.ensures.0 (counted asked.before) _ (ap (λ r. r.answer) (sym asked.read_arities_lem.ensures) ∙ why)),
       none-counted _,
     )
 
@@ -111,7 +111,7 @@ returns-5 c =
     let b = c.before.before in
     let a = accepted b in
     refused-head (card b) _ c.no-head4.ensures
-    (head-cut (card b) (n b) (some b) (first (asked b).before).byte.ensures.0 (counted (asked b).before) a.0 a.1 a.2 c.before.if4.true)
+    (head_cut (card b) (n b) (some b) (first (asked b).before).byte.ensures.0 (counted (asked b).before) a.0 a.1 a.2 c.before.if4.true)
 
 number-requires : tie.Need-number-requires
 number-requires c κs = search rules
@@ -120,7 +120,7 @@ returns-6 : tie.Need-returns-6
 returns-6 c =
     let b = c.before.before in
     let a = accepted b in (
-      ap (λ (ars : List ℕ). record { answer = Done c.number.result; relations = n b; arities = ars }) (ap (λ r. r.arities) (asked b).read-arities.ensures ∙ a.3)
+      ap (λ (ars : List ℕ). record { answer = Done c.number.result; relations = n b; arities = ars }) (ap (λ r. r.arities) (asked b).read_arities_lem.ensures ∙ a.3)
           ∙ sym (head-answer (card b) (n b) (some b) (first (asked b).before).byte.ensures.0 (counted (asked b).before) a.0 a.1 a.2 c.number.ensures.0),
       λ k e. let same : c.number.result ≡ k = cc in rw (← same) c.number.ensures.1,
     )

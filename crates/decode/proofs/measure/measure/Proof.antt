@@ -7,10 +7,10 @@ use native.Mathlib.Omega.{arith}
 use Rattle.decode.proofs.Told.{records-told}
 use borrow.Author.Rules.{rules}
 use lib.ListN.{length, take, drop}
-use Rattle.card.specs.Format.{readRecord}
-use Rattle.decode.specs.Measure.{measuredRecord}
+use Rattle.card.specs.Format.{read_record}
+use Rattle.decode.specs.Measure.{measured_record}
 use Rattle.instance.proofs.Parts.{part_to_end}
-use Rattle.decode.proofs.Measuring.{Measuring, Turn, next-turn, measuring-starts, measuring-refused, measuring-ends}
+use Rattle.decode.proofs.Measuring.{Measuring, Turn, next-turn, measuring_starts, measuring_refused, measuring_ends}
 use Rattle.decode.proofs.measure.measure.Statement.{statement}
 use Rattle.decode.proofs.measure.measure.Tie as tie
 
@@ -21,8 +21,8 @@ invariant-loop card start relations arities count words₀ blanks₀ top₀ at�
 abbrev decreases-loop : tie.decreases-loop
 decreases-loop card start relations arities count words₀ blanks₀ top₀ at₀ left₀ words blanks top at left = left
 
-loop-holds : tie.Need-loop-init invariant-loop decreases-loop
-loop-holds c = measuring-starts _ _ _ _ _ c.before.requires.0
+loop_holds : tie.Need-loop-init invariant-loop decreases-loop
+loop_holds c = measuring_starts _ _ _ _ _ c.before.requires.0
 
 sub-measure-record : tie.Need-overflow-sub-measure-record invariant-loop decreases-loop
 sub-measure-record c = search rules
@@ -44,11 +44,11 @@ module _ (c : tie.After-measure-record invariant-loop decreases-loop) where
   abbrev start : tie.Start invariant-loop decreases-loop
   start = turn.before.before
 
-  measured-here : c.measure-record.result ≡ measuredRecord (readRecord start.args.relations start.args.arities.now (drop turn.loop.at start.args.card.now))
-  measured-here =
+  measured_here : c.measure-record.result ≡ measured_record (read_record start.args.relations start.args.arities.now (drop turn.loop.at start.args.card.now))
+  measured_here =
       let card = start.args.card.now in
       let at = turn.loop.at in
-      let known : c.measure-record.result ≡ measuredRecord (readRecord start.args.relations start.args.arities.now (take (length card - at) (drop at card))) =
+      let known : c.measure-record.result ≡ measured_record (read_record start.args.relations start.args.arities.now (take (length card - at) (drop at card))) =
       c.measure-record.ensures.0 in
       known ∙ rw (part_to_end card at)
 
@@ -64,7 +64,7 @@ module _ (c : tie.After-known-told invariant-loop decreases-loop) where
       let l = (turn asked).loop in
       Turn args.card.now args.start args.relations args.arities.now args.count l.words l.blanks l.top l.at l.left
       found.arity.given.0.0 found.arity.given.0.1.0 found.arity.given.0.1.1.0
-  here = next-turn _ _ _ _ _ _ _ _ _ _ (turn asked).loop.inv asked.before.before.loop-test.taken _ _ _ (start asked).pre.1.1.0 (sym (measured-here asked) ∙ found.arity.given.1)
+  here = next-turn _ _ _ _ _ _ _ _ _ _ (turn asked).loop.inv asked.before.before.loop-test.taken _ _ _ (start asked).pre.1.1.0 (sym (measured_here asked) ∙ found.arity.given.1)
 
   few : (start asked).args.count < 256 ^ 2
   few = (start asked).pre.1.1.1
@@ -76,13 +76,13 @@ add_words : tie.Need-overflow-add-words invariant-loop decreases-loop
 add_words c = omega (arith, (here c).narrow)
 
 add-words-2 : tie.Need-overflow-add-words-2 invariant-loop decreases-loop
-add-words-2 c = omega (arith, (here c).words-fit, few c)
+add-words-2 c = omega (arith, (here c).words_fit, few c)
 
 sub-blanks : tie.Need-overflow-sub-blanks invariant-loop decreases-loop
 sub-blanks c = (here c).fewer
 
 add-blanks : tie.Need-overflow-add-blanks invariant-loop decreases-loop
-add-blanks c = omega (arith, (here c).blanks-fit, few c)
+add-blanks c = omega (arith, (here c).blanks_fit, few c)
 
 cast-at : tie.Need-overflow-cast-at invariant-loop decreases-loop
 cast-at c = omega (arith, (here c.before).narrow, (here c.before).fewer)
@@ -94,7 +94,7 @@ add_at : tie.Need-overflow-add-at invariant-loop decreases-loop
 add_at c = omega (arith, (here c.before).narrow, (here c.before).fewer)
 
 add-at-2 : tie.Need-overflow-add-at-2 invariant-loop decreases-loop
-add-at-2 c = omega (arith, (here c.before).in-card)
+add-at-2 c = omega (arith, (here c.before).in_card)
 
 enum-known-why : tie.Need-enum-known-why invariant-loop decreases-loop
 enum-known-why c = search rules
@@ -103,7 +103,7 @@ returns : tie.Need-returns invariant-loop decreases-loop
 returns c =
     let asked = c.before.before.before in
     records-told _ _
-    (sym (measuring-refused _ _ _ _ _ _ _ _ _ _ (turn asked).loop.invariant asked.before.before.loop-test.true _ (sym (measured-here asked) ∙ c.before.why.given.1)))
+    (sym (measuring_refused _ _ _ _ _ _ _ _ _ _ (turn asked).loop.invariant asked.before.before.loop-test.true _ (sym (measured_here asked) ∙ c.before.why.given.1)))
 
 sub-left : tie.Need-overflow-sub-left invariant-loop decreases-loop
 sub-left c = search rules
@@ -118,7 +118,7 @@ loop-again c =
     rw top (here c.before).then
 
 returns-2 : tie.Need-returns-2 invariant-loop decreases-loop
-returns-2 c = records-told _ _ (sym (measuring-ends _ _ _ _ _ _ _ _ _ _ c.before.loop.invariant c.loop-test.false))
+returns-2 c = records-told _ _ (sym (measuring_ends _ _ _ _ _ _ _ _ _ _ c.before.loop.invariant c.loop-test.false))
 
 pub measure-spec : {M : Type 1} → statement M
 measure-spec =
@@ -126,7 +126,7 @@ measure-spec =
     (tie.spec
     invariant-loop
     decreases-loop
-    loop-holds
+    loop_holds
     sub-measure-record
     part-measure-record-start
     part-measure-record-end

@@ -8,12 +8,12 @@ use borrow.Author.Rules.{rules}
 use borrow.Author.Tests.{not-true, not-false}
 use mathlib.Core.Bool.{true}
 use lib.ListN.{length, drop}
-use Rattle.calculus.specs.Cell.{isCell, mark_of, nulls}
+use Rattle.calculus.specs.Cell.{is_cell, mark_of, nulls}
 use Rattle.calculus.proofs.Cells.{cell_below}
-use Rattle.instance.specs.Blanks.{highestOf}
-use Rattle.parse.specs.Parse.{readEach}
-use Rattle.decode.specs.Measure.{readWritten, measuredFields}
-use Rattle.decode.proofs.Fields.{raised, raised-none, fields-more, fields-short, fields-bad}
+use Rattle.instance.specs.Blanks.{highest_of}
+use Rattle.parse.specs.Parse.{read_each}
+use Rattle.decode.specs.Measure.{read_written, measured_fields}
+use Rattle.decode.proofs.Fields.{raised, raised_none, fields_more, fields-short, fields_bad}
 use Rattle.decode.proofs.measure.measure_fields.Statement.{statement}
 use Rattle.decode.proofs.measure.measure_fields.Tie as tie
 
@@ -21,13 +21,13 @@ abbrev invariant-loop : tie.invariant-loop
 invariant-loop bytes written highest₀ left₀ at₀ highest left at =
     (at ≤ length bytes)
     × (highest ≤ nulls)
-    × (measuredFields (readWritten written bytes) ≡ raised highest (measuredFields (readWritten left (drop at bytes))))
+    × (measured_fields (read_written written bytes) ≡ raised highest (measured_fields (read_written left (drop at bytes))))
 
 abbrev decreases-loop : tie.decreases-loop
 decreases-loop bytes written highest₀ left₀ at₀ highest left at = left
 
-loop-holds : tie.Need-loop-init invariant-loop decreases-loop
-loop-holds c = (omega arith, omega arith, sym (raised-none (measuredFields (readWritten c.before.args.written c.before.args.bytes.now))))
+loop_holds : tie.Need-loop-init invariant-loop decreases-loop
+loop_holds c = (omega arith, omega arith, sym (raised_none (measured_fields (read_written c.before.args.written c.before.args.bytes.now))))
 
 sub-if1 : tie.Need-overflow-sub-if1 invariant-loop decreases-loop
 sub-if1 c = omega arith
@@ -48,10 +48,10 @@ returns-2 c =
     let l = c.before.before.before.before.before in
     let test = c.before.is-cell in
     let field = c.before.before.number in
-    rw (l.loop.invariant.2, fields-bad l.loop.left l.loop.at l.before.before.args.bytes.now c.before.before.before.before.loop-test.true field.result field.ensures.0 (sym test.ensures ∙ not-true test.result c.if2.true))
+    rw (l.loop.invariant.2, fields_bad l.loop.left l.loop.at l.before.before.args.bytes.now c.before.before.before.before.loop-test.true field.result field.ensures.0 (sym test.ensures ∙ not-true test.result c.if2.true))
 
 -- the field is a cell
-cell : (c : tie.Else2 invariant-loop decreases-loop) → isCell c.before.before.number.result ≡ true
+cell : (c : tie.Else2 invariant-loop decreases-loop) → is_cell c.before.before.number.result ≡ true
 cell c = sym c.before.is-cell.ensures ∙ not-false c.before.is-cell.result c.if2.false
 
 add-if3 : tie.Need-overflow-add-if3 invariant-loop decreases-loop
@@ -77,11 +77,11 @@ loop-again c =
     let top : c.if3.highest ≡ max l.loop.highest (mark_of field.result) = ⊎_elim (λ w. omega arith) (λ w. omega arith) c.if3.branch in (
       omega arith,
       omega arith,
-      rw (l.loop.invariant.2, top) (fields-more l.loop.left l.loop.at l.before.before.args.bytes.now c.before.before.before.before.before.loop-test.true field.result field.ensures.0 l.loop.highest (cell c.before)),
+      rw (l.loop.invariant.2, top) (fields_more l.loop.left l.loop.at l.before.before.args.bytes.now c.before.before.before.before.before.loop-test.true field.result field.ensures.0 l.loop.highest (cell c.before)),
     )
 
 returns-3 : tie.Need-returns-3 invariant-loop decreases-loop
-unfolding measuredFields readEach highestOf
+unfolding measured_fields read_each highest_of
 returns-3 c =
     let l = c.before.loop in
     let none : l.left ≡ 0 = omega arith in
@@ -94,7 +94,7 @@ measure-fields-spec =
     (tie.spec
     invariant-loop
     decreases-loop
-    loop-holds
+    loop_holds
     sub-if1
     returns
     number-requires

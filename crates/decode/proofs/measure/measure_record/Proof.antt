@@ -4,13 +4,13 @@ use mathlib.Core.Path.{◌≡◌, sym, ap, ◌∙◌}
 use mathlib.Core.List.{List}
 use native.Mathlib.Omega.{arith}
 use lib.Count.{ones}
-use Rattle.instance.specs.Header.{arityOf}
+use Rattle.instance.specs.Header.{arity_of}
 use Rattle.instance.proofs.Parts.{part_to_end}
-use Rattle.instance.proofs.Rows.{arity-low}
-use Rattle.card.specs.Format.{readRecord}
-use Rattle.decode.specs.Measure.{measuredRecord, measuredFields, readWritten}
-use Rattle.decode.proofs.Fields.{leading-within, leading-beyond}
-use Rattle.decode.proofs.Records.{record-none, record-unknown, record-cut, record-beyond, record-measured, measuredAs}
+use Rattle.instance.proofs.Rows.{arity_low}
+use Rattle.card.specs.Format.{read_record}
+use Rattle.decode.specs.Measure.{measured_record, measured_fields, read_written}
+use Rattle.decode.proofs.Fields.{leading_within, leading_beyond}
+use Rattle.decode.proofs.Records.{record-none, record-unknown, record_cut, record_beyond, record_measured, measured_as}
 use Rattle.decode.proofs.Told.{record-told}
 use borrow.Author.Rules.{rules}
 use Rattle.decode.proofs.measure.measure_record.Statement.{statement}
@@ -45,7 +45,7 @@ returns-2 c = record-told _ (sym (record-unknown _ _ _ c.before.byte.result c.be
 returns-3 : tie.Need-returns-3
 returns-3 c =
     let b = c.before.before in
-    record-told _ (sym (record-cut _ _ _ b.byte.result b.before.if1.false b.byte.ensures.0 c.before.if2.false c.if3.true))
+    record-told _ (sym (record_cut _ _ _ b.byte.result b.before.if1.false b.byte.ensures.0 c.before.if2.false c.if3.true))
 
 byte-requires-2 : tie.Need-byte-requires-2
 byte-requires-2 c κs = search rules
@@ -60,14 +60,14 @@ element-copy-out-arity : tie.Need-element-copy-out-arity
 element-copy-out-arity c = search rules
 
 sub-if4 : tie.Need-overflow-sub-if4
-sub-if4 c = omega (arith, arity-low _ _ (x c.before) (start c.before).pre.1)
+sub-if4 c = omega (arith, arity_low _ _ (x c.before) (start c.before).pre.1)
 
 returns-4 : tie.Need-returns-4
 returns-4 c =
     let b = c.before.before in
     record-told _
-    (sym (record-beyond _ _ _ (x b) (first b).before.if1.false (first b).byte.ensures.0 (map b) (known b) b.before.if3.false b.byte2.ensures.0
-    (leading-beyond _ (map b) (omega (arith, b.byte2.ensures.1)) c.if4.true)))
+    (sym (record_beyond _ _ _ (x b) (first b).before.if1.false (first b).byte.ensures.0 (map b) (known b) b.before.if3.false b.byte2.ensures.0
+    (leading_beyond _ (map b) (omega (arith, b.byte2.ensures.1)) c.if4.true)))
 
 sub-measure-fields : tie.Need-overflow-sub-measure-fields
 sub-measure-fields c = search rules
@@ -96,18 +96,18 @@ module _ (c : tie.After-measure-fields) where
   bytes = (start both).args.bytes.now
 
   from_fields :
-      measuredRecord (readRecord (start both).args.relations (start both).args.arities.now bytes)
-      ≡ measuredAs (arityOf (start both).args.arities.now (x both)) (ones (map both)) c.measure-fields.result
+      measured_record (read_record (start both).args.relations (start both).args.arities.now bytes)
+      ≡ measured_as (arity_of (start both).args.arities.now (x both)) (ones (map both)) c.measure-fields.result
   from_fields =
-      record-measured (start both).args.relations (start both).args.arities.now bytes (x both) (first both).before.if1.left (first both).byte.ensures.0
-      (map both) (known both) both.before.if3.left both.byte2.ensures.0 (leading-within _ (map both) (omega (arith, both.byte2.ensures.1)) c.before.before.if4.false)
-      ∙ ap (measuredAs _ _) (ap (λ (bs : List ℕ). measuredFields (readWritten (ones (map both)) bs)) (sym (part_to_end bytes 2)) ∙ sym c.measure-fields.ensures)
+      record_measured (start both).args.relations (start both).args.arities.now bytes (x both) (first both).before.if1.left (first both).byte.ensures.0
+      (map both) (known both) both.before.if3.left both.byte2.ensures.0 (leading_within _ (map both) (omega (arith, both.byte2.ensures.1)) c.before.before.if4.false)
+      ∙ ap (measured_as _ _) (ap (λ (bs : List ℕ). measured_fields (read_written (ones (map both)) bs)) (sym (part_to_end bytes 2)) ∙ sym c.measure-fields.ensures)
 
 returns-5 : tie.Need-returns-5
-returns-5 c = record-told _ (sym (from_fields c.before.before.before ∙ ap (measuredAs _ _) c.before.highest.given.1))
+returns-5 c = record-told _ (sym (from_fields c.before.before.before ∙ ap (measured_as _ _) c.before.highest.given.1))
 
 returns-6 : tie.Need-returns-6
-returns-6 c = record-told _ (sym (from_fields c.before.before.before ∙ ap (measuredAs _ _) c.before.why.given.1))
+returns-6 c = record-told _ (sym (from_fields c.before.before.before ∙ ap (measured_as _ _) c.before.why.given.1))
 
 pub measure-record-spec : {M : Type 1} → statement M
 measure-record-spec =

@@ -5,7 +5,7 @@ use mathlib.Core.Path.{◌≡◌, ◌∙◌}
 use mathlib.Core.Logic.{⊎_elim}
 use native.Mathlib.Omega.{arith}
 use lib.ListN.{length, length-set}
-use Rattle.decode.proofs.Written.{cellsRead, WritingRow, row-starts, row_room, field_room, written_step, blank_step, row_ends, row-whole}
+use Rattle.decode.proofs.Written.{cells_read_in, WritingRow, row-starts, row_room, field_room, written_step, blank_step, row_ends, row-whole}
 use Rattle.decode.proofs.write.write_row.Statement.{statement}
 use Rattle.decode.proofs.write.write_row.Tie as tie
 
@@ -28,8 +28,8 @@ module _ (c : tie.In-loop invariant-loop decreases-loop) where
   in_bytes : c.before.loop.bits % 2 ≡ 1 → c.before.loop.at + 3 ≤ length c.before.before.before.before.args.fields.now
   in_bytes = field_room _ _ _ _ _ _ _ _ _ _ _ c.before.loop.invariant c.loop-test.true
 
-loop-holds : tie.Need-loop-init invariant-loop decreases-loop
-loop-holds c = row-starts c.before.before.args.part.now _ _ _ _ _ c.before.before.requires.0 c.before.before.requires.1.1.1
+loop_holds : tie.Need-loop-init invariant-loop decreases-loop
+loop_holds c = row-starts c.before.before.args.part.now _ _ _ _ _ c.before.before.requires.0 c.before.before.requires.1.1.1
 
 number-requires : tie.Need-number-requires invariant-loop decreases-loop
 number-requires c κs = (omega arith, in_bytes c.before c.if1.true)
@@ -82,7 +82,7 @@ returns : tie.Need-returns invariant-loop decreases-loop
 returns c =
     let args = c.before.before.before.before.args in
     row_ends _ _ _ _ _ _ _ _ _ _ _ c.before.loop.invariant c.loop-test.false ∙
-    row-whole args.part.now args.relation (cellsRead args.next args.arity args.map args.fields.now)
+    row-whole args.part.now args.relation (cells_read_in args.next args.arity args.map args.fields.now)
 
 pub write-row-spec : {M : Type 1} → statement M
 write-row-spec =
@@ -91,7 +91,7 @@ write-row-spec =
     invariant-loop
     decreases-loop
     slice-write-part
-    loop-holds
+    loop_holds
     number-requires
     add-part
     mul-part

@@ -6,9 +6,9 @@ use mathlib.Core.List.{List}
 use native.Mathlib.Omega.{arith}
 use borrow.Author.Rules.{rules}
 use lib.ListN.{length, get_or, length-drop}
-use Rattle.instance.specs.Header.{arityOf, maxColumns, maxRelations, maxWords}
-use Rattle.instance.proofs.Parts.{part_to_end, put-to-end}
-use Rattle.instance.proofs.Rows.{rows-at-most}
+use Rattle.instance.specs.Header.{arity_of, max_columns, max_relations, max_words}
+use Rattle.instance.proofs.Parts.{part_to_end, put_to_end}
+use Rattle.instance.proofs.Rows.{rows_at_most}
 use Rattle.decode.proofs.WritingRows.{WritingRows, Found, whole, find, rows_start, rows_end}
 use Rattle.decode.proofs.write.write_rows.Statement.{statement}
 use Rattle.decode.proofs.write.write_rows.Tie as tie
@@ -35,13 +35,13 @@ module _ (c : tie.In-loop invariant-loop decreases-loop) where
   FoundIn b map =
       let at = c.before.loop in
       Found start.args.instance.now card start.args.relations arities start.args.count start.args.next
-      at.instance at.counts at.used at.null at.at (at.left - 1) b map (arityOf arities b)
+      at.instance at.counts at.used at.null at.at (at.left - 1) b map (arity_of arities b)
 
-  in-turn : (b map : ℕ) → b ≡ get_or card c.before.loop.at 0 → map ≡ get_or card (c.before.loop.at + 1) 0 → FoundIn b map
-  in-turn = find _ _ _ _ _ _ _ _ _ _ _ _ c.before.loop.invariant c.loop-test.true
+  in_turn : (b map : ℕ) → b ≡ get_or card c.before.loop.at 0 → map ≡ get_or card (c.before.loop.at + 1) 0 → FoundIn b map
+  in_turn = find _ _ _ _ _ _ _ _ _ _ _ _ c.before.loop.invariant c.loop-test.true
 
-  in-card : c.before.loop.at + 2 ≤ length card
-  in-card = omega (arith, (in-turn _ _ refl refl).in-card)
+  in_card : c.before.loop.at + 2 ≤ length card
+  in_card = omega (arith, (in_turn _ _ refl refl).in_card)
 
   inside : c.before.loop.used ≤ length c.before.loop.instance
   inside = omega (arith, c.before.loop.invariant.stored.room, c.before.loop.invariant.stored.same)
@@ -49,18 +49,18 @@ module _ (c : tie.In-loop invariant-loop decreases-loop) where
 -- the record's relation is one of eight, and fewer rows than words were counted
 module _ (c : tie.After-byte invariant-loop decreases-loop) where
   abbrev record-here : FoundIn c.before c.byte.result (get_or (card c.before) (c.before.before.loop.at + 1) 0)
-  record-here = in-turn c.before _ _ c.byte.ensures.0 refl
+  record-here = in_turn c.before _ _ c.byte.ensures.0 refl
 
-  low : c.byte.result < maxRelations
+  low : c.byte.result < max_relations
   low = omega (arith, record-here.known, (start c.before).pre.few)
 
-  count-few : get_or c.before.before.loop.counts c.byte.result 0 ≤ maxWords
+  count-few : get_or c.before.before.loop.counts c.byte.result 0 ≤ max_words
   count-few =
       let s = start c.before in
       omega (
         arith,
         record-here.uncounted low,
-        rows-at-most (whole s.args.instance.now (card c.before) s.args.relations (arities c.before) s.args.count s.args.next),
+        rows_at_most (whole s.args.instance.now (card c.before) s.args.relations (arities c.before) s.args.count s.args.next),
         s.pre.short,
       )
 
@@ -69,9 +69,9 @@ module _ (c : tie.After-byte2 invariant-loop decreases-loop) where
   turn = c.before.before
 
   here : FoundIn turn c.before.byte.result c.byte2.result
-  here = in-turn turn _ _ c.before.byte.ensures.0 c.byte2.ensures.0
+  here = in_turn turn _ _ c.before.byte.ensures.0 c.byte2.ensures.0
 
-  narrow : arityOf (arities turn) c.before.byte.result ≤ maxColumns
+  narrow : arity_of (arities turn) c.before.byte.result ≤ max_columns
   narrow = (start turn).pre.narrow _ here.known
 
 -- once the row is written
@@ -81,11 +81,11 @@ bytes c = c.before.before.before.before.before.before
 add_at : tie.Need-overflow-add-at invariant-loop decreases-loop
 add_at c = omega arith
 
-loop-holds : tie.Need-loop-init invariant-loop decreases-loop
-loop-holds c = rows_start _ _ _ _ _ _ c.before.before.requires
+loop_holds : tie.Need-loop-init invariant-loop decreases-loop
+loop_holds c = rows_start _ _ _ _ _ _ c.before.before.requires
 
 byte-requires : tie.Need-byte-requires invariant-loop decreases-loop
-byte-requires c κs = omega (arith, in-card c)
+byte-requires c κs = omega (arith, in_card c)
 
 cast-counts : tie.Need-overflow-cast-counts invariant-loop decreases-loop
 cast-counts c = omega (arith, low c)
@@ -103,10 +103,10 @@ array-write-counts : tie.Need-array-write-counts invariant-loop decreases-loop
 array-write-counts c = low c
 
 add-byte : tie.Need-overflow-add-byte invariant-loop decreases-loop
-add-byte c = omega (arith, in-card c.before)
+add-byte c = omega (arith, in_card c.before)
 
 byte-requires-2 : tie.Need-byte-requires-2 invariant-loop decreases-loop
-byte-requires-2 c κs = omega (arith, in-card c.before)
+byte-requires-2 c κs = omega (arith, in_card c.before)
 
 cast-arity : tie.Need-overflow-cast-arity invariant-loop decreases-loop
 cast-arity c = omega (arith, c.before.byte.ensures)
@@ -121,7 +121,7 @@ cast-arity-2 : tie.Need-overflow-cast-arity-2 invariant-loop decreases-loop
 cast-arity-2 c = omega (arith, narrow c.before)
 
 add-first : tie.Need-overflow-add-first invariant-loop decreases-loop
-add-first c = omega (arith, (here c.before).in-card)
+add-first c = omega (arith, (here c.before).in_card)
 
 mul-write-row : tie.Need-overflow-mul-write-row invariant-loop decreases-loop
 mul-write-row c = omega (arith, (here c.before).room)
@@ -136,10 +136,10 @@ part-write-row-end : tie.Need-slice-bounds-write-row-end invariant-loop decrease
 part-write-row-end c = search rules
 
 sub-write-row-2 : tie.Need-overflow-sub-write-row-2 invariant-loop decreases-loop
-sub-write-row-2 c = omega (arith, (here c.before.before).in-card)
+sub-write-row-2 c = omega (arith, (here c.before.before).in_card)
 
 part-write-row-start-2 : tie.Need-slice-bounds-write-row-start-2 invariant-loop decreases-loop
-part-write-row-start-2 c = omega (arith, (here c.before.before).in-card)
+part-write-row-start-2 c = omega (arith, (here c.before.before).in_card)
 
 part-write-row-end-2 : tie.Need-slice-bounds-write-row-end-2 invariant-loop decreases-loop
 part-write-row-end-2 c = search rules
@@ -166,13 +166,13 @@ add-null : tie.Need-overflow-add-null invariant-loop decreases-loop
 add-null c = omega (arith, (here (bytes c)).low)
 
 cast-at : tie.Need-overflow-cast-at invariant-loop decreases-loop
-cast-at c = omega (arith, (here (bytes c)).in-card)
+cast-at c = omega (arith, (here (bytes c)).in_card)
 
 mul_at : tie.Need-overflow-mul-at invariant-loop decreases-loop
-mul_at c = omega (arith, (here (bytes c)).in-card)
+mul_at c = omega (arith, (here (bytes c)).in_card)
 
 add-at-2 : tie.Need-overflow-add-at-2 invariant-loop decreases-loop
-add-at-2 c = omega (arith, (here (bytes c)).in-card)
+add-at-2 c = omega (arith, (here (bytes c)).in_card)
 
 sub-left : tie.Need-overflow-sub-left invariant-loop decreases-loop
 sub-left c = omega arith
@@ -183,7 +183,7 @@ loop-less c = omega arith
 loop-again : tie.Need-loop-preserved invariant-loop decreases-loop
 loop-again c =
     let at = (turn (bytes c)).before.loop in
-    rw (put-to-end at.instance at.used _ (inside (turn (bytes c))))
+    rw (put_to_end at.instance at.used _ (inside (turn (bytes c))))
     ((here (bytes c)).next-rows c.before.before.write-row.new.0 (simp part_to_end at c.before.before.write-row.ensures) (low (bytes c).before))
 
 same_length : tie.Need-same-length invariant-loop decreases-loop
@@ -199,7 +199,7 @@ write-rows-spec =
     invariant-loop
     decreases-loop
     add_at
-    loop-holds
+    loop_holds
     byte-requires
     cast-counts
     mul-counts

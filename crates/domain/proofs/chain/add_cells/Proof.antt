@@ -6,7 +6,7 @@ use native.Mathlib.Omega.{arith}
 use native.Mathlib.Numerals.{add-one}
 use lib.ListN.{length, take, get_or, length-take}
 use lib.Seq.{take-suc, take-length}
-use Rattle.calculus.specs.Cell.{isCell}
+use Rattle.calculus.specs.Cell.{is_cell}
 use Rattle.calculus.proofs.All.{all_get_d}
 use Rattle.calculus.proofs.Cells.{cell_below}
 use Rattle.domain.specs.Chains.{Chained, Added}
@@ -20,8 +20,8 @@ invariant-loop list₀ heads₀ n cells count₀ i₀ list heads count i = (i �
 abbrev decreases-loop : tie.decreases-loop
 decreases-loop list₀ heads₀ n cells count₀ i₀ list heads count i = length cells - i
 
-loop-holds : tie.Need-loop-init invariant-loop decreases-loop
-loop-holds c = (omega arith, c.before.before.requires.3, added_none _ _)
+loop_holds : tie.Need-loop-init invariant-loop decreases-loop
+loop_holds c = (omega arith, c.before.before.requires.3, added_none _ _)
 
 -- the cell at index i, and the values before it
 module _ (c : tie.In-loop invariant-loop decreases-loop) where
@@ -38,8 +38,8 @@ module _ (c : tie.In-loop invariant-loop decreases-loop) where
   room = omega (arith, c.before.loop.invariant.2.most, length-take i cs)
 
   small : get_or cs i 0 ≤ 1000200
-  unfolding isCell
-  small = cell_below (get_or cs i 0) (all_get_d isCell cs i 0 refl start.pre.2)
+  unfolding is_cell
+  small = cell_below (get_or cs i 0) (all_get_d is_cell cs i 0 refl start.pre.2)
 
   next : take (i + 1) cs ≡ take i cs ++ get_or cs i 0 ∷ []
   next = ap (λ (k : ℕ). take k cs) (add-one i) ∙ take-suc cs i 0 (omega arith)
@@ -83,7 +83,7 @@ add-cells-spec =
     (tie.spec
     invariant-loop
     decreases-loop
-    loop-holds
+    loop_holds
     mul-add-value
     shared-slice-read-add-value
     add-value-requires

@@ -6,23 +6,23 @@ use mathlib.Core.Logic.{⊎_elim}
 use native.Mathlib.Omega.{arith}
 use lib.ListN.{length, take, get_or, length-append}
 use lib.Seq.{take_all}
-use Rattle.query.specs.Named.{constantsAmong}
-use Rattle.query.proofs.KindTerms.{among-more, among_same}
+use Rattle.query.specs.Named.{constants_among}
+use Rattle.query.proofs.KindTerms.{among_more, among_same}
 use Rattle.domain.specs.Chains.{Chained, Added}
 use Rattle.domain.proofs.Chains.{added_none, added_then}
-use Rattle.domain.proofs.Listing.{among-room, same-added}
+use Rattle.domain.proofs.Listing.{among_room, same-added}
 use Rattle.domain.proofs.chain.add_constants.Statement.{statement}
 use Rattle.domain.proofs.chain.add_constants.Tie as tie
 
 abbrev invariant-loop : tie.invariant-loop
-invariant-loop list₀ heads₀ n words count₀ i₀ list heads count i = (i ≤ length words) × Chained heads list count × Added list₀ n (constantsAmong (take i words)) list count
+invariant-loop list₀ heads₀ n words count₀ i₀ list heads count i = (i ≤ length words) × Chained heads list count × Added list₀ n (constants_among (take i words)) list count
 
 abbrev decreases-loop : tie.decreases-loop
 decreases-loop list₀ heads₀ n words count₀ i₀ list heads count i = length words - i
 
-loop-holds : tie.Need-loop-init invariant-loop decreases-loop
-unfolding constantsAmong
-loop-holds c = (omega arith, c.before.before.requires.2, added_none _ _)
+loop_holds : tie.Need-loop-init invariant-loop decreases-loop
+unfolding constants_among
+loop_holds c = (omega arith, c.before.before.requires.2, added_none _ _)
 
 mul-if1 : tie.Need-overflow-mul-if1 invariant-loop decreases-loop
 mul-if1 c = omega arith
@@ -44,8 +44,8 @@ add-value-requires c κs =
     let i = b.before.loop.i in
     let inv = b.before.loop.invariant in
     let word = c.before.before.before.if1.true in
-    let room : b.before.loop.count + 1 ≤ start.args.n + length (constantsAmong ws) =
-    omega (arith, inv.2.most, among-room ws (i + 1), ap length (among-more ws i b.loop-test.true (omega (arith, word))), length-append (constantsAmong (take i ws)) (get_or ws i 0 ∷ []))
+    let room : b.before.loop.count + 1 ≤ start.args.n + length (constants_among ws) =
+    omega (arith, inv.2.most, among_room ws (i + 1), ap length (among_more ws i b.loop-test.true (omega (arith, word))), length-append (constants_among (take i ws)) (get_or ws i 0 ∷ []))
     in
     (omega (arith, room, start.requires.0, inv.2.long), omega (arith, room, start.requires.1), omega (arith, word), inv.1)
 
@@ -64,7 +64,7 @@ loop-again c =
     let inv = b.before.loop.invariant in
     let r =
     ⊎_elim
-    (λ a. same-added a.7 a.8 a.9 a.4.ensures.0 (rw (← among-more ws i b.loop-test.true (omega (arith, a.0.taken))) at (added_then inv.2 a.4.ensures.1)))
+    (λ a. same-added a.7 a.8 a.9 a.4.ensures.0 (rw (← among_more ws i b.loop-test.true (omega (arith, a.0.taken))) at (added_then inv.2 a.4.ensures.1)))
     (λ a. same-added a.1 a.2 a.3 inv.1 (rw (← among_same ws i b.loop-test.true (omega (arith, a.0.left))) at inv.2))
     c.if1.branch
     in
@@ -84,7 +84,7 @@ add-constants-spec =
     (tie.spec
     invariant-loop
     decreases-loop
-    loop-holds
+    loop_holds
     mul-if1
     shared-slice-read-if1
     mul-add-value

@@ -7,9 +7,9 @@ use native.Mathlib.Omega.{arith}
 use borrow.Author.Rules.{rules}
 use lib.ListN.{get_or, set}
 use Rattle.calculus.specs.Listed.{listed}
-use Rattle.domain.specs.Bucket.{bucketOf}
-use Rattle.domain.specs.Chains.{linkUnit, values_of, Chain, Chained, Added}
-use Rattle.domain.proofs.Chains.{chained_more, added_new, added-old}
+use Rattle.domain.specs.Bucket.{bucket_of}
+use Rattle.domain.specs.Chains.{link_unit, values_of, Chain, Chained, Added}
+use Rattle.domain.proofs.Chains.{chained_more, added_new, added_old}
 use Rattle.domain.proofs.chain.add_value.Statement.{statement}
 use Rattle.domain.proofs.chain.add_value.Tie as tie
 
@@ -27,13 +27,13 @@ module _ (c : tie.Start) where
   cell = c.args.cell
 
   -- the start of the chain of the cell's bucket
-  start : (bucket : ℕ) → bucket ≡ bucketOf cell → Chain list cell n (get_or heads bucket 0)
+  start : (bucket : ℕ) → bucket ≡ bucket_of cell → Chain list cell n (get_or heads bucket 0)
   start bucket e = rw e (c.requires.3.starts cell)
 
   -- what was added to it
-  more : (bucket : ℕ) → bucket ≡ bucketOf cell → listed cell (values_of n list) ≡ false
-      → Chained (set heads bucket (n + 1)) (set list n (cell + linkUnit * get_or heads bucket 0)) (n + 1)
-      × Added list n (cell ∷ []) (set list n (cell + linkUnit * get_or heads bucket 0)) (n + 1)
+  more : (bucket : ℕ) → bucket ≡ bucket_of cell → listed cell (values_of n list) ≡ false
+      → Chained (set heads bucket (n + 1)) (set list n (cell + link_unit * get_or heads bucket 0)) (n + 1)
+      × Added list n (cell ∷ []) (set list n (cell + link_unit * get_or heads bucket 0)) (n + 1)
   more bucket e new = rw e (chained_more c.requires.3 c.requires.0 cell c.requires.2, added_new c.requires.3 c.requires.0 cell c.requires.2 new)
 
 abbrev found : (c : tie.After-bucket-of) → Chain (list c.before.before) (cell c.before.before) (n c.before.before) (get_or (heads c.before.before) c.bucket-of.result 0)
@@ -64,7 +64,7 @@ returns : tie.Need-returns
 returns c =
     let b = c.before.before.before.before in
     let s = b.before.before in
-    (s.requires.3, added-old (list s) (n s) (cell s) ((found b).same ∙ sym c.before.find.ensures ∙ c.if1.true))
+    (s.requires.3, added_old (list s) (n s) (cell s) ((found b).same ∙ sym c.before.find.ensures ∙ c.if1.true))
 
 cast-list : tie.Need-overflow-cast-list
 cast-list c = omega (arith, (found c.before.before.before.before).within)

@@ -6,8 +6,8 @@ use mathlib.Core.List.{List}
 use native.Mathlib.Omega.{arith}
 use lib.ListN.{length, get_or}
 use Rattle.calculus.specs.Listed.{listed}
-use Rattle.domain.specs.Chains.{wordValue, wordLink, values_of, Chain}
-use Rattle.domain.proofs.Chains.{chain-falls, chain-ends, chain-goes, chain-none}
+use Rattle.domain.specs.Chains.{word_value, word_link, values_of, Chain}
+use Rattle.domain.proofs.Chains.{chain_falls, chain_ends, chain_goes, chain_none}
 use Rattle.domain.proofs.chain.find.Statement.{statement}
 use Rattle.domain.proofs.chain.find.Tie as tie
 
@@ -17,8 +17,8 @@ invariant-loop list head cell place₀ place = Chain list cell head place
 abbrev decreases-loop : tie.decreases-loop
 decreases-loop list head cell place₀ place = place
 
-loop-holds : tie.Need-loop-init invariant-loop decreases-loop
-loop-holds c = record { within = omega arith; same = refl; bucket = c.requires.2 }
+loop_holds : tie.Need-loop-init invariant-loop decreases-loop
+loop_holds c = record { within = omega arith; same = refl; bucket = c.requires.2 }
 
 sub-w : tie.Need-overflow-sub-w invariant-loop decreases-loop
 sub-w c = omega arith
@@ -43,14 +43,14 @@ module _ (c : tie.In-loop invariant-loop decreases-loop) where
   within : place ≤ length list
   within = omega (arith, c.before.loop.invariant.within)
 
-  found : wordValue w ≡ cell → listed cell (values_of head list) ≡ true
-  found e = chain-ends c.before.before.requires.1 c.before.loop.invariant within (omega arith) e
+  found : word_value w ≡ cell → listed cell (values_of head list) ≡ true
+  found e = chain_ends c.before.before.requires.1 c.before.loop.invariant within (omega arith) e
 
-  other : (wordValue w ≡ cell → ⊥) → Chain list cell head (wordLink w)
-  other ne = chain-goes c.before.before.requires.1 c.before.loop.invariant within (omega arith) ne
+  other : (word_value w ≡ cell → ⊥) → Chain list cell head (word_link w)
+  other ne = chain_goes c.before.before.requires.1 c.before.loop.invariant within (omega arith) ne
 
-  falls : wordLink w < place
-  falls = chain-falls c.before.before.requires.1 c.before.loop.invariant within (omega arith)
+  falls : word_link w < place
+  falls = chain_falls c.before.before.requires.1 c.before.loop.invariant within (omega arith)
 
 mul-w : tie.Need-overflow-mul-w invariant-loop decreases-loop
 mul-w c = omega (arith, within c)
@@ -71,7 +71,7 @@ loop-again : tie.Need-loop-preserved invariant-loop decreases-loop
 loop-again c = other c.before.before c.if1.false
 
 returns-2 : tie.Need-returns-2 invariant-loop decreases-loop
-returns-2 c = sym (chain-none c.before.loop.invariant (omega arith))
+returns-2 c = sym (chain_none c.before.loop.invariant (omega arith))
 
 pub find_spec : {M : Type 1} → statement M
 find_spec =
@@ -79,7 +79,7 @@ find_spec =
     (tie.spec
     invariant-loop
     decreases-loop
-    loop-holds
+    loop_holds
     sub-w
     mul-w
     shared-slice-read-w

@@ -4,19 +4,19 @@ use mathlib.Core.Path.{◌≡◌, refl, sym, ap, ◌∙◌}
 use mathlib.Core.List.{List}
 use native.Mathlib.Omega.{arith}
 use lib.ListN.{length, get_or, set, length-set}
-use Rattle.instance.proofs.Passes.{upto, upto-none, upto_all, upto-here, upto-set}
-use Rattle.domain.specs.Chains.{wordValue}
+use Rattle.instance.proofs.Passes.{upto, upto_none, upto_all, upto_here, upto_set}
+use Rattle.domain.specs.Chains.{word_value}
 use Rattle.domain.proofs.chain.unlink.Statement.{statement}
 use Rattle.domain.proofs.chain.unlink.Tie as tie
 
 abbrev invariant-loop : tie.invariant-loop
-invariant-loop list₀ i₀ list i = (i ≤ length list₀) × (length list ≡ length list₀) × (list ≡ upto wordValue i list₀)
+invariant-loop list₀ i₀ list i = (i ≤ length list₀) × (length list ≡ length list₀) × (list ≡ upto word_value i list₀)
 
 abbrev decreases-loop : tie.decreases-loop
 decreases-loop list₀ i₀ list i = length list₀ - i
 
-loop-holds : tie.Need-loop-init invariant-loop decreases-loop
-loop-holds c = (omega arith, refl, sym (upto-none _ _))
+loop_holds : tie.Need-loop-init invariant-loop decreases-loop
+loop_holds c = (omega arith, refl, sym (upto_none _ _))
 
 mul-list : tie.Need-overflow-mul-list invariant-loop decreases-loop
 mul-list c = omega arith
@@ -40,11 +40,11 @@ loop-again : tie.Need-loop-preserved invariant-loop decreases-loop
 loop-again c =
     let b = c.before.before.loop in
     let was = c.before.before.before.args.list.now in
-    let here : get_or b.list b.i 0 ≡ get_or was b.i 0 = ap (λ (l : List ℕ). get_or l b.i 0) b.invariant.2 ∙ upto-here wordValue b.i was in (
+    let here : get_or b.list b.i 0 ≡ get_or was b.i 0 = ap (λ (l : List ℕ). get_or l b.i 0) b.invariant.2 ∙ upto_here word_value b.i was in (
       omega arith,
       length-set b.list _ _ ∙ b.invariant.1,
-      ap (λ (l : List ℕ). set l b.i (wordValue (get_or b.list b.i 0))) b.invariant.2 ∙
-          ap (λ (v : ℕ). set (upto wordValue b.i was) b.i (wordValue v)) here ∙ upto-set wordValue b.i was (omega arith),
+      ap (λ (l : List ℕ). set l b.i (word_value (get_or b.list b.i 0))) b.invariant.2 ∙
+          ap (λ (v : ℕ). set (upto word_value b.i was) b.i (word_value v)) here ∙ upto_set word_value b.i was (omega arith),
     )
 
 same_length : tie.Need-same-length invariant-loop decreases-loop
@@ -62,7 +62,7 @@ unlink-spec =
     (tie.spec
     invariant-loop
     decreases-loop
-    loop-holds
+    loop_holds
     mul-list
     slice-read-list
     mul-list-2

@@ -4,7 +4,7 @@ use native.Mathlib.Omega.{arith}
 use Prim.Native.Nat.{ℕ, ◌<◌}
 use Rattle.calculus.specs.declared.truth.Truth.{Truth}
 use Rattle.calculus.specs.Closed.{equality}
-use Rattle.query.specs.Words.{equals, nodeCount, word_at, kind_of}
+use Rattle.query.specs.Words.{equals, node_count, word_at, kind_of}
 use Rattle.evaluate.specs.declared.evaluated.Evaluated.TheVariants.{Verdict}
 use Rattle.evaluate.proofs.Budget.{spent, verdict}
 use Rattle.evaluate.proofs.Children.{equal-right}
@@ -12,11 +12,11 @@ use borrow.Author.Rules.{rules}
 use Rattle.evaluate.proofs.nodes.equality.Statement.{statement}
 use Rattle.evaluate.proofs.nodes.equality.Tie as tie
 use Rattle.calculus.specs.Formula.{value}
-use Rattle.query.specs.Tree.{termOf}
+use Rattle.query.specs.Tree.{term_of}
 
 -- the node is an equality
 module _ (s : tie.Start) where
-  abbrev known : s.args.node < nodeCount s.args.query.now
+  abbrev known : s.args.node < node_count s.args.query.now
   known = s.requires.0.0
 
   abbrev is : kind_of (word_at s.args.query.now s.args.node 0) ≡ equals
@@ -39,8 +39,8 @@ same-requires c κs = search rules
 returns-2 : tie.Need-returns-2
 returns-2 c =
     let s = c.before.before.before.before.before in
-    let a = value s.args.env.now (termOf (word_at s.args.query.now s.args.node 1)) in
-    let b = value s.args.env.now (termOf (word_at s.args.query.now s.args.node 2)) in
+    let a = value s.args.env.now (term_of (word_at s.args.query.now s.args.node 1)) in
+    let b = value s.args.env.now (term_of (word_at s.args.query.now s.args.node 2)) in
     let says = c.same.ensures ∙ ap (λ (x : ℕ). equality x c.before.term2.result) c.before.before.term.ensures ∙ ap (equality _) c.before.term2.ensures in
     λ S ars same k h.
     ap (λ (x : Truth). Verdict x 1) (says ∙ ap (λ (f : ℕ → ℕ → Truth). f a b) (sym same)) ∙

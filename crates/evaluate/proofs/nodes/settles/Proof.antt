@@ -3,7 +3,7 @@ use mathlib.Core.Path.{◌≡◌, refl}
 use mathlib.Core.Bool.{Bool, true, false, not}
 use Rattle.calculus.specs.declared.truth.Truth.TheVariants.{False, Unknown, True}
 use Rattle.calculus.specs.Eval.{settles}
-use Rattle.evaluate.specs.Ready.{junctionOf}
+use Rattle.evaluate.specs.Ready.{junction_of}
 use borrow.Author.Rules.{rules}
 use Rattle.evaluate.proofs.nodes.settles.Statement.{statement}
 use Rattle.evaluate.proofs.nodes.settles.Tie as tie
@@ -17,23 +17,23 @@ enum-told-2 c = search rules
 enum-told-3 : tie.Need-enum-told-3
 enum-told-3 c = search rules
 
-at-false : (every : Bool) → every ≡ settles (junctionOf every) False
-at-false true = refl
-at-false false = refl
+at_false : (every : Bool) → every ≡ settles (junction_of every) False
+at_false true = refl
+at_false false = refl
 
-at-unknown : (every : Bool) → false ≡ settles (junctionOf every) Unknown
-at-unknown true = refl
-at-unknown false = refl
+at_unknown : (every : Bool) → false ≡ settles (junction_of every) Unknown
+at_unknown true = refl
+at_unknown false = refl
 
-at_true : (every : Bool) → not every ≡ settles (junctionOf every) True
+at_true : (every : Bool) → not every ≡ settles (junction_of every) True
 at_true true = refl
 at_true false = refl
 
 returns : tie.Need-returns
-returns c = rw c.enum_told.given.1 (at-false c.before.before.args.every)
+returns c = rw c.enum_told.given.1 (at_false c.before.before.args.every)
 
 returns-2 : tie.Need-returns-2
-returns-2 c = rw c.enum-told2.given.1 (at-unknown c.before.before.args.every)
+returns-2 c = rw c.enum-told2.given.1 (at_unknown c.before.before.args.every)
 
 returns-3 : tie.Need-returns-3
 returns-3 c = rw c.enum-told3.given.1 (at_true c.before.before.args.every)

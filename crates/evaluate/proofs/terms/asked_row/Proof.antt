@@ -4,22 +4,22 @@ use mathlib.Core.Path.{◌≡◌, refl}
 use native.Mathlib.Omega.{arith}
 use Rattle.calculus.specs.Padded.{padded}
 use Rattle.calculus.specs.Formula.{values}
-use Rattle.instance.specs.Header.{maxColumns}
-use Rattle.query.specs.Tree.{termsAt}
+use Rattle.instance.specs.Header.{max_columns}
+use Rattle.query.specs.Tree.{terms_at}
 use Rattle.evaluate.proofs.TermLaws.{row_more}
 use borrow.Author.Rules.{rules}
 use Rattle.evaluate.proofs.terms.asked_row.Statement.{statement}
 use Rattle.evaluate.proofs.terms.asked_row.Tie as tie
 
 abbrev invariant-loop : tie.invariant-loop
-invariant-loop query node arity env row₀ j₀ row j = (j ≤ arity) × (row ≡ padded maxColumns (values env (termsAt query node 2 j)))
+invariant-loop query node arity env row₀ j₀ row j = (j ≤ arity) × (row ≡ padded max_columns (values env (terms_at query node 2 j)))
 
 abbrev decreases-loop : tie.decreases-loop
 decreases-loop query node arity env row₀ j₀ row j = arity - j
 
-loop-holds : tie.Need-loop-init invariant-loop decreases-loop
-unfolding termsAt
-loop-holds c = (search rules, refl)
+loop_holds : tie.Need-loop-init invariant-loop decreases-loop
+unfolding terms_at
+loop_holds c = (search rules, refl)
 
 add_term : tie.Need-overflow-add-term invariant-loop decreases-loop
 add_term c = omega (arith, c.before.before.before.requires.narrow)
@@ -58,7 +58,7 @@ asked-row-spec =
     (tie.spec
     invariant-loop
     decreases-loop
-    loop-holds
+    loop_holds
     add_term
     term-requires
     mul-row

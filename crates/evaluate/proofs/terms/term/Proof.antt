@@ -1,6 +1,6 @@
 -- `evaluate::terms::term` meets its contract: a term is a constant or one of 16 variables. Assumes nothing.
 use native.Mathlib.Omega.{arith}
-use Rattle.evaluate.proofs.TermLaws.{below-base, from-base, few-variables}
+use Rattle.evaluate.proofs.TermLaws.{below_base, from_base, few-variables}
 use borrow.Author.Rules.{rules}
 use Rattle.evaluate.proofs.terms.term.Statement.{statement}
 use Rattle.evaluate.proofs.terms.term.Tie as tie
@@ -18,7 +18,7 @@ shared-slice-read-w : tie.Need-shared-slice-read-w
 shared-slice-read-w c = search rules
 
 returns : tie.Need-returns
-returns c = rw (below-base _ c.if1.true)
+returns c = rw (below_base _ c.if1.true)
 
 cast-v : tie.Need-overflow-cast-v
 cast-v c = omega (arith, few-variables _ c.before.before.requires.1.0 c.if1.false)
@@ -30,7 +30,7 @@ element-copy-out-result : tie.Need-element-copy-out-result
 element-copy-out-result c = few-variables _ c.before.before.requires.1.0 c.if1.false
 
 returns-2 : tie.Need-returns-2
-returns-2 c = rw (from-base _ c.before.if1.false)
+returns-2 c = rw (from_base _ c.before.if1.false)
 
 pub term-spec : {M : Type 1} → statement M
 term-spec =

@@ -8,21 +8,21 @@ use borrow.Author.Rules.{rules}
 use borrow.Author.Tests.{not-true, not-false}
 use lib.ListN.{length, drop}
 use lib.Seq.{drop-length}
-use Rattle.instance.specs.Rows.{areCells}
+use Rattle.instance.specs.Rows.{are_cells}
 use Rattle.calculus.proofs.All.{all_rest}
 use Rattle.instance.proofs.cells.are_cells.Statement.{statement}
 use Rattle.instance.proofs.cells.are_cells.Tie as tie
 use Rattle.calculus.specs.All.{all}
-use Rattle.calculus.specs.Cell.{isCell}
+use Rattle.calculus.specs.Cell.{is_cell}
 
 abbrev invariant-loop : tie.invariant-loop
-invariant-loop cells i₀ i = (i ≤ length cells) × (areCells cells ≡ areCells (drop i cells))
+invariant-loop cells i₀ i = (i ≤ length cells) × (are_cells cells ≡ are_cells (drop i cells))
 
 abbrev decreases-loop : tie.decreases-loop
 decreases-loop cells i₀ i = length cells - i
 
-loop-holds : tie.Need-loop-init invariant-loop decreases-loop
-loop-holds c = (omega arith, refl)
+loop_holds : tie.Need-loop-init invariant-loop decreases-loop
+loop_holds c = (omega arith, refl)
 
 mul-is-cell : tie.Need-overflow-mul-is-cell invariant-loop decreases-loop
 mul-is-cell c = omega arith
@@ -41,10 +41,10 @@ module _ (c : tie.After-is-cell invariant-loop decreases-loop) where
   abbrev i : ℕ
   i = c.before.before.before.loop.i
 
-  seen : (b : Bool) → c.is-cell.result ≡ b → areCells cs ≡ b && areCells (drop (i + 1) cs)
+  seen : (b : Bool) → c.is-cell.result ≡ b → are_cells cs ≡ b && are_cells (drop (i + 1) cs)
   seen b e =
-      c.before.before.before.loop.invariant.1 ∙ all_rest isCell cs i (omega arith)
-      ∙ ap (λ (b : Bool). b && areCells (drop (i + 1) cs)) (sym c.is-cell.ensures ∙ e)
+      c.before.before.before.loop.invariant.1 ∙ all_rest is_cell cs i (omega arith)
+      ∙ ap (λ (b : Bool). b && are_cells (drop (i + 1) cs)) (sym c.is-cell.ensures ∙ e)
 
 returns : tie.Need-returns invariant-loop decreases-loop
 returns c = sym (seen c.before false (not-true _ c.if1.true))
@@ -71,7 +71,7 @@ are-cells-spec =
     (tie.spec
     invariant-loop
     decreases-loop
-    loop-holds
+    loop_holds
     mul-is-cell
     shared-slice-read-is-cell
     is-cell-requires

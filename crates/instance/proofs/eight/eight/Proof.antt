@@ -5,22 +5,22 @@ use mathlib.Core.List.{List, ◌++◌, append-nil}
 use native.Mathlib.Omega.{arith}
 use lib.ListN.{length, take, drop, replicate, length-drop}
 use lib.Seq.{get_or-drop}
-use Rattle.instance.specs.Header.{maxRelations}
+use Rattle.instance.specs.Header.{max_relations}
 use Rattle.instance.proofs.Passes.{copy_more}
 use Rattle.instance.proofs.eight.eight.Statement.{statement}
 use Rattle.instance.proofs.eight.eight.Tie as tie
 
 abbrev zeros : List ℕ
-zeros = replicate maxRelations 0
+zeros = replicate max_relations 0
 
 abbrev invariant-loop : tie.invariant-loop
-invariant-loop words at values₀ i₀ values i = (i ≤ maxRelations) × (values ≡ take i (drop at words) ++ drop i zeros)
+invariant-loop words at values₀ i₀ values i = (i ≤ max_relations) × (values ≡ take i (drop at words) ++ drop i zeros)
 
 abbrev decreases-loop : tie.decreases-loop
-decreases-loop words at values₀ i₀ values i = maxRelations - i
+decreases-loop words at values₀ i₀ values i = max_relations - i
 
-loop-holds : tie.Need-loop-init invariant-loop decreases-loop
-loop-holds c = (omega arith, refl)
+loop_holds : tie.Need-loop-init invariant-loop decreases-loop
+loop_holds c = (omega arith, refl)
 
 add-values : tie.Need-overflow-add-values invariant-loop decreases-loop
 add-values c = omega (arith, c.before.before.requires)
@@ -54,8 +54,8 @@ loop-again c =
 
 returns : tie.Need-returns invariant-loop decreases-loop
 returns c =
-    let e : c.before.loop.i ≡ maxRelations = omega arith in
-    c.before.loop.invariant.1 ∙ rw e (append-nil (take maxRelations (drop c.before.before.args.at c.before.before.args.words.now)))
+    let e : c.before.loop.i ≡ max_relations = omega arith in
+    c.before.loop.invariant.1 ∙ rw e (append-nil (take max_relations (drop c.before.before.args.at c.before.before.args.words.now)))
 
 pub eight-spec : {M : Type 1} → statement M
 eight-spec =
@@ -63,7 +63,7 @@ eight-spec =
     (tie.spec
     invariant-loop
     decreases-loop
-    loop-holds
+    loop_holds
     add-values
     mul-values
     shared-slice-read-values

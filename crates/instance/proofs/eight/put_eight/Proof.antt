@@ -6,18 +6,18 @@ use native.Mathlib.Omega.{arith}
 use native.Mathlib.Numerals.{add-one}
 use lib.ListN.{length, get_or, set, length-set}
 use lib.Seq.{paste, paste-zero, paste-suc}
-use Rattle.instance.specs.Header.{maxRelations}
+use Rattle.instance.specs.Header.{max_relations}
 use Rattle.instance.proofs.eight.put_eight.Statement.{statement}
 use Rattle.instance.proofs.eight.put_eight.Tie as tie
 
 abbrev invariant-loop : tie.invariant-loop
-invariant-loop words₀ at values i₀ words i = (i ≤ maxRelations) × (length words ≡ length words₀) × (words ≡ paste words₀ at values i)
+invariant-loop words₀ at values i₀ words i = (i ≤ max_relations) × (length words ≡ length words₀) × (words ≡ paste words₀ at values i)
 
 abbrev decreases-loop : tie.decreases-loop
-decreases-loop words₀ at values i₀ words i = maxRelations - i
+decreases-loop words₀ at values i₀ words i = max_relations - i
 
-loop-holds : tie.Need-loop-init invariant-loop decreases-loop
-loop-holds c = (omega arith, refl, paste-zero c.args.words.now c.args.at c.args.values.now)
+loop_holds : tie.Need-loop-init invariant-loop decreases-loop
+loop_holds c = (omega arith, refl, paste-zero c.args.words.now c.args.at c.args.values.now)
 
 mul_words : tie.Need-overflow-mul-words invariant-loop decreases-loop
 mul_words c = omega arith
@@ -57,7 +57,7 @@ same_length : tie.Need-same-length invariant-loop decreases-loop
 same_length c = c.before.loop.invariant.1
 
 returns : tie.Need-returns invariant-loop decreases-loop
-returns c = let e : c.before.loop.i ≡ maxRelations = omega arith in rw e at c.before.loop.invariant.2
+returns c = let e : c.before.loop.i ≡ max_relations = omega arith in rw e at c.before.loop.invariant.2
 
 pub put-eight-spec : {M : Type 1} → statement M
 put-eight-spec =
@@ -65,7 +65,7 @@ put-eight-spec =
     (tie.spec
     invariant-loop
     decreases-loop
-    loop-holds
+    loop_holds
     mul_words
     element-copy-out-words
     add_words

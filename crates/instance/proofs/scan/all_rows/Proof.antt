@@ -4,20 +4,20 @@ use mathlib.Core.Path.{◌≡◌, ap, ◌∙◌}
 use native.Mathlib.Omega.{arith}
 use lib.ListN.{length, get_or, drop}
 use lib.Seq.{drop-length}
-use Rattle.instance.specs.Header.{maxRelations}
+use Rattle.instance.specs.Header.{max_relations}
 use Rattle.instance.specs.RowCounts.{sum_of}
 use Rattle.instance.proofs.RowCounts.{sum_step}
 use Rattle.instance.proofs.scan.all_rows.Statement.{statement}
 use Rattle.instance.proofs.scan.all_rows.Tie as tie
 
 abbrev invariant-loop : tie.invariant-loop
-invariant-loop counts rows₀ i₀ rows i = (i ≤ maxRelations) × (rows + sum_of (drop i counts) ≡ sum_of counts)
+invariant-loop counts rows₀ i₀ rows i = (i ≤ max_relations) × (rows + sum_of (drop i counts) ≡ sum_of counts)
 
 abbrev decreases-loop : tie.decreases-loop
-decreases-loop counts rows₀ i₀ rows i = maxRelations - i
+decreases-loop counts rows₀ i₀ rows i = max_relations - i
 
-loop-holds : tie.Need-loop-init invariant-loop decreases-loop
-loop-holds c = (omega arith, omega arith)
+loop_holds : tie.Need-loop-init invariant-loop decreases-loop
+loop_holds c = (omega arith, omega arith)
 
 -- the count at index i
 added : (c : tie.In-loop invariant-loop decreases-loop) → sum_of (drop c.before.loop.i c.before.before.args.counts.now) ≡ get_or c.before.before.args.counts.now c.before.loop.i 0 + sum_of (drop (c.before.loop.i + 1) c.before.before.args.counts.now)
@@ -50,4 +50,4 @@ returns c =
     omega (arith, c.before.loop.invariant.1, none)
 
 pub all-rows-spec : {M : Type 1} → statement M
-all-rows-spec = tie.close (tie.spec invariant-loop decreases-loop loop-holds mul-rows element-copy-out-rows add-rows add-i loop-less loop-again returns)
+all-rows-spec = tie.close (tie.spec invariant-loop decreases-loop loop_holds mul-rows element-copy-out-rows add-rows add-i loop-less loop-again returns)

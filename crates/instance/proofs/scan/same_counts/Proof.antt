@@ -9,19 +9,19 @@ use lib.ListN.{length, get_or, drop}
 use lib.Seq.{drop-length}
 use lib.Dec.{eqb}
 use Rattle.calculus.specs.Closed.{identical}
-use Rattle.instance.specs.Header.{maxRelations}
+use Rattle.instance.specs.Header.{max_relations}
 use Rattle.instance.proofs.ScanSteps.{identical-step}
 use Rattle.instance.proofs.scan.same_counts.Statement.{statement}
 use Rattle.instance.proofs.scan.same_counts.Tie as tie
 
 abbrev invariant-loop : tie.invariant-loop
-invariant-loop counts others i₀ i = (i ≤ maxRelations) × (identical counts others ≡ identical (drop i counts) (drop i others))
+invariant-loop counts others i₀ i = (i ≤ max_relations) × (identical counts others ≡ identical (drop i counts) (drop i others))
 
 abbrev decreases-loop : tie.decreases-loop
-decreases-loop counts others i₀ i = maxRelations - i
+decreases-loop counts others i₀ i = max_relations - i
 
-loop-holds : tie.Need-loop-init invariant-loop decreases-loop
-loop-holds c = (omega arith, refl)
+loop_holds : tie.Need-loop-init invariant-loop decreases-loop
+loop_holds c = (omega arith, refl)
 
 mul-if1 : tie.Need-overflow-mul-if1 invariant-loop decreases-loop
 mul-if1 c = omega arith
@@ -81,7 +81,7 @@ same-counts-spec =
     (tie.spec
     invariant-loop
     decreases-loop
-    loop-holds
+    loop_holds
     mul-if1
     element-copy-out-if1
     mul-if1-2

@@ -3,7 +3,7 @@ use mathlib.Core.Path.{sym, subst}
 use borrow.Author.Rules.{rules}
 use lib.Count.{trailing_le}
 use Rattle.known.specs.Known.{Gap}
-use Rattle.known.proofs.Runs.{gap-none, gap-all}
+use Rattle.known.proofs.Runs.{gap_none, gap_all}
 use Rattle.known.proofs.flags.gap.Statement.{statement}
 use Rattle.known.proofs.flags.gap.Tie as tie
 
@@ -28,7 +28,7 @@ returns c =
     let fits = c.run.ensures.0 in (
       c.run.ensures.1,
       subst (Gap a.known.now a.place) (sym c.run.ensures.1)
-          (record { none = gap-none a.known.now a.place fits; all = gap-all a.known.now a.place fits; few = trailing_le 32 _ }),
+          (record { none = gap_none a.known.now a.place fits; all = gap_all a.known.now a.place fits; few = trailing_le 32 _ }),
     )
 
 pub gap-spec : {M : Type 1} → statement M

@@ -2,15 +2,15 @@
 use mathlib.Core.Path.{◌≡◌, ◌∙◌}
 use Rattle.calculus.specs.Reading.{refused}
 use Rattle.line.specs.declared.fields.Found.TheVariants as found
-use Rattle.line.specs.Fields.{PlacesWithin, read_input, foundAs}
+use Rattle.line.specs.Fields.{PlacesWithin, read_input, found_as}
 use Rattle.line.specs.Line.{answered}
 use borrow.Author.Rules.{rules}
 use Rattle.line.proofs.asking.answer.Statement.{statement}
 use Rattle.line.proofs.asking.answer.Tie as tie
 
 -- the fields are at the places that were found
-well-formed : (c : tie.After-known-told) → PlacesWithin c.before.before.before.before.before.args.input.now c.before.places.given.0.0
-well-formed c = rw c.before.places.given.1 at c.before.before.before.find.ensures.0
+well_formed : (c : tie.After-known-told) → PlacesWithin c.before.before.before.before.before.args.input.now c.before.places.given.0.0
+well_formed c = rw c.before.places.given.1 at c.before.before.before.find.ensures.0
 
 find-requires : tie.Need-find-requires
 find-requires c κs = search rules
@@ -19,7 +19,7 @@ enum-known-places : tie.Need-enum-known-places
 enum-known-places c = search rules
 
 ask-card-requires : tie.Need-ask-card-requires
-ask-card-requires c κs = well-formed c
+ask-card-requires c κs = well_formed c
 
 enum-known-why : tie.Need-enum-known-why
 enum-known-why c = search rules
@@ -28,7 +28,7 @@ returns : tie.Need-returns
 unfolding answered
 returns c =
     let b = c.before in
-    let told : read_input b.before.before.before.before.before.args.input.now ≡ foundAs b.before.before.before.before.before.args.input.now (found.Fields b.before.places.given.0.0) =
+    let told : read_input b.before.before.before.before.before.args.input.now ≡ found_as b.before.before.before.before.before.args.input.now (found.Fields b.before.places.given.0.0) =
     rw b.before.places.given.1 at b.before.before.before.find.ensures.1 in
     c.ask-card.ensures ∙ rw told
 

@@ -6,7 +6,7 @@ use native.Mathlib.Omega.{arith}
 use lib.ListN.{take, drop}
 use Rattle.card.specs.Decode.{decoded}
 use Rattle.line.specs.Fields.{fields_at}
-use Rattle.line.specs.Line.{blank, askedCard}
+use Rattle.line.specs.Line.{blank, asked_card}
 use Rattle.line.proofs.Answering.{card-refused, card-read}
 use borrow.Author.Rules.{rules}
 use Rattle.line.proofs.asking.ask_card.Statement.{statement}
@@ -58,14 +58,14 @@ enum-known-answer : tie.Need-enum-known-answer
 enum-known-answer c = search rules
 
 returns : tie.Need-returns
-unfolding blank askedCard
+unfolding blank asked_card
 returns c =
     let b = c.before.before.before.before.before.before in
     c.ask-instance.ensures
     ∙ rw (lent b) at (card-read (fields_at (input b) (start b).args.places) (decoded (take (2 + size b - 2) (drop 2 (input b))) blank) b.decode.ensures.0 c.before.before.enum_told.given.1 b.decode.ensures.1.0 b.decode.ensures.1.1.0)
 
 returns-2 : tie.Need-returns-2
-unfolding blank askedCard
+unfolding blank asked_card
 returns-2 c =
     let b = c.before.before.before.before.before in
     rw (lent b) at (card-refused (fields_at (input b) (start b).args.places) (decoded (take (2 + size b - 2) (drop 2 (input b))) blank) b.decode.ensures.0 c.before.answer.given.1)

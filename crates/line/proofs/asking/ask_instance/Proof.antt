@@ -7,14 +7,14 @@ use mathlib.Core.List.{List}
 use native.Mathlib.Omega.{arith}
 use lib.ListN.{take, drop}
 use lib.Seq.{length-take-le}
-use Rattle.parse.specs.Parse.{isRead}
-use Rattle.parse.specs.Number.{readNumber, readNumbers, numbersOf}
+use Rattle.parse.specs.Parse.{is_read}
+use Rattle.parse.specs.Number.{read_number, read_numbers, numbers_of}
 use Rattle.parse.proofs.Each.{each_fewer}
-use Rattle.parse.proofs.Numbers.{numbers-front}
+use Rattle.parse.proofs.Numbers.{numbers_front}
 use Rattle.line.specs.declared.fields.Places.{Places}
 use Rattle.answer.specs.Ask.{list}
 use Rattle.line.specs.Line.{blank}
-use Rattle.line.proofs.Shown.{first-words}
+use Rattle.line.proofs.Shown.{first_words_lem}
 use borrow.Author.Rules.{rules}
 use Rattle.line.proofs.asking.ask_instance.Statement.{statement}
 use Rattle.line.proofs.asking.ask_instance.Tie as tie
@@ -33,8 +33,8 @@ module _ (c : tie.After-words) where
   abbrev count : ℕ
   count = c.before.looked-at.result
 
-  first_read : isRead (readNumbers 4 count (drop places.words input)) ≡ true
-  first_read = each_fewer (readNumber 4) count places.count (drop places.words input) (omega arith) start.pre.words-read
+  first_read : is_read (read_numbers 4 count (drop places.words input)) ≡ true
+  first_read = each_fewer (read_number 4) count places.count (drop places.words input) (omega arith) start.pre.words_are_read
 
 -- once the words and the cells are in their lists
 module _ (c : tie.After-numbers2) where
@@ -44,11 +44,11 @@ module _ (c : tie.After-numbers2) where
   abbrev first : tie.After-words
   first = worded.before
 
-  words : take (count first) worded.numbers.last.0 ≡ numbersOf 4 (count first) (drop (places first).words (input first))
-  words = numbers-front 4 (count first) (drop (places first).words (input first)) _ _ (first_read first) worded.numbers.ensures
+  words : take (count first) worded.numbers.last.0 ≡ numbers_of 4 (count first) (drop (places first).words (input first))
+  words = numbers_front 4 (count first) (drop (places first).words (input first)) _ _ (first_read first) worded.numbers.ensures
 
-  cells : take (places first).arity c.numbers2.new.0 ≡ numbersOf 3 (places first).arity (drop (places first).cells (input first))
-  cells = numbers-front 3 (places first).arity (drop (places first).cells (input first)) _ _ (start first).pre.cells-read c.numbers2.ensures
+  cells : take (places first).arity c.numbers2.new.0 ≡ numbers_of 3 (places first).arity (drop (places first).cells (input first))
+  cells = numbers_front 3 (places first).arity (drop (places first).cells (input first)) _ _ (start first).pre.cells_are_read c.numbers2.ensures
 
 looked-at-requires : tie.Need-looked-at-requires
 looked-at-requires c κs = search rules
@@ -65,7 +65,7 @@ slice-aggregate-numbers-2 c = search rules
 numbers-requires-2 : tie.Need-numbers-requires-2
 numbers-requires-2 c κs =
     let start = start c.before.before.before in
-    (omega arith, (start.pre.cells, (start.pre.cells-read, omega arith)))
+    (omega arith, (start.pre.cells, (start.pre.cells_are_read, omega arith)))
 
 array-share-prefix-words : tie.Need-array-share-prefix-words
 array-share-prefix-words c = search rules
@@ -95,7 +95,7 @@ returns c =
     let listed = c.before.before.before.before.before.before in
     let b = first listed in
     c.before.ask.ensures.0 ∙ rw (words listed, cells listed)
-    (first-words (start b).args.header (start b).args.instance.now (numbersOf 3 (places b).arity (drop (places b).cells (input b))) (list blank) (places b).budget (places b).count (count b) (drop (places b).words (input b)) b.before.looked-at.ensures (start b).pre.words-read)
+    (first_words_lem (start b).args.header (start b).args.instance.now (numbers_of 3 (places b).arity (drop (places b).cells (input b))) (list blank) (places b).budget (places b).count (count b) (drop (places b).words (input b)) b.before.looked-at.ensures (start b).pre.words_are_read)
 
 pub ask-instance-spec : {M : Type 1} → statement M
 ask-instance-spec =

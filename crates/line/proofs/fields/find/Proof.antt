@@ -6,10 +6,10 @@ use mathlib.Core.List.{List}
 use native.Mathlib.Omega.{arith}
 use lib.ListN.{take, drop, length-drop}
 use Rattle.calculus.specs.Reading.{read}
-use Rattle.parse.specs.Number.{numbersOf}
+use Rattle.parse.specs.Number.{numbers_of}
 use Rattle.parse.proofs.Numbers.{numbers-whole}
 use Rattle.line.specs.Fields.{read_input, wholly}
-use Rattle.line.proofs.Finding.{fromCard, fromWords, fromCells, too_long, cut-size, to-card, cut-card, to-words, cut-words, to-cells, cut_cells, to_end, left_over, read_whole}
+use Rattle.line.proofs.Finding.{from_card, from_words, from_cells, too_long, cut_size, to_card, cut_card, to_words, cut_words, to_cells, cut_cells, to_end, left_over, read_whole}
 use borrow.Author.Rules.{rules}
 use Rattle.line.proofs.fields.find.Statement.{statement}
 use Rattle.line.proofs.fields.find.Tie as tie
@@ -25,8 +25,8 @@ module _ (c : tie.After-number) where
   abbrev size : ℕ
   size = c.number.result
 
-  to-size : read_input input ≡ wholly (fromCard size (drop 2 input))
-  to-size = to-card input c.before.before.if1.false c.number.ensures.0
+  to_size : read_input input ≡ wholly (from_card size (drop 2 input))
+  to_size = to_card input c.before.before.if1.false c.number.ensures.0
 
 module _ (c : tie.After-number2) where
   abbrev sized : tie.After-number
@@ -39,8 +39,8 @@ module _ (c : tie.After-number2) where
   abbrev count : ℕ
   count = c.number2.result
 
-  to-count : read_input (input sized) ≡ wholly (fromWords (take (size sized) (drop 2 (input sized))) count (drop words (input sized)))
-  to-count = to-words (input sized) 2 (size sized) (to-size sized) (omega arith) c.number2.ensures.0
+  to_count : read_input (input sized) ≡ wholly (from_words (take (size sized) (drop 2 (input sized))) count (drop words (input sized)))
+  to_count = to_words (input sized) 2 (size sized) (to_size sized) (omega arith) c.number2.ensures.0
 
 module _ (c : tie.After-number3) where
   abbrev counted : tie.After-number2
@@ -55,8 +55,8 @@ module _ (c : tie.After-number3) where
 
   to-arity :
       let input = input (sized counted) in
-      read_input input ≡ wholly (fromCells (take (size (sized counted)) (drop 2 input)) (numbersOf 4 (count counted) (drop (words counted) input)) arity (drop cells input))
-  to-arity = to-cells (input (sized counted)) (words counted) _ (count counted) (to-count counted) (omega arith) c.number3.ensures.0
+      read_input input ≡ wholly (from_cells (take (size (sized counted)) (drop 2 input)) (numbers_of 4 (count counted) (drop (words counted) input)) arity (drop cells input))
+  to-arity = to_cells (input (sized counted)) (words counted) _ (count counted) (to_count counted) (omega arith) c.number3.ensures.0
 
 module _ (c : tie.After-number4) where
   abbrev valued : tie.After-number3
@@ -65,19 +65,19 @@ module _ (c : tie.After-number4) where
   abbrev whole : List ℕ
   whole = input (sized (counted valued))
 
-  to-budget : read_input whole ≡ wholly (read (record {
+  to_budget : read_input whole ≡ wholly (read (record {
     card = take (size (sized (counted valued))) (drop 2 whole);
-    words = numbersOf 4 (count (counted valued)) (drop (words (counted valued)) whole);
-    candidate = numbersOf 3 (arity valued) (drop (cells valued) whole);
+    words = numbers_of 4 (count (counted valued)) (drop (words (counted valued)) whole);
+    candidate = numbers_of 3 (arity valued) (drop (cells valued) whole);
     budget = c.number4.result;
   }) (drop (cells valued + 3 * arity valued + 4) whole))
-  to-budget = to_end whole (cells valued) _ _ (arity valued) (to-arity valued) (omega arith) c.number4.ensures.0
+  to_budget = to_end whole (cells valued) _ _ (arity valued) (to-arity valued) (omega arith) c.number4.ensures.0
 
 returns : tie.Need-returns
 returns c = (tt, too_long c.before.before.args.input.now c.if1.true)
 
 returns-2 : tie.Need-returns-2
-returns-2 c = (tt, cut-size c.before.before.before.args.input.now c.before.if1.false c.if2.true)
+returns-2 c = (tt, cut_size c.before.before.before.args.input.now c.before.if1.false c.if2.true)
 
 number-requires : tie.Need-number-requires
 number-requires c κs = search rules
@@ -92,7 +92,7 @@ add-if3 : tie.Need-overflow-add-if3
 add-if3 c = search rules
 
 returns-3 : tie.Need-returns-3
-returns-3 c = (tt, cut-card (input c.before) 2 (size c.before) (to-size c.before) (omega arith) (omega arith))
+returns-3 c = (tt, cut_card (input c.before) 2 (size c.before) (to_size c.before) (omega arith) (omega arith))
 
 number-requires-2 : tie.Need-number-requires-2
 number-requires-2 c κs = search rules
@@ -113,7 +113,7 @@ add-if4 : tie.Need-overflow-add-if4
 add-if4 c = search rules
 
 returns-4 : tie.Need-returns-4
-returns-4 c = (tt, cut-words (input (sized c.before)) (words c.before) _ (count c.before) (to-count c.before) (omega arith) (omega arith))
+returns-4 c = (tt, cut_words (input (sized c.before)) (words c.before) _ (count c.before) (to_count c.before) (omega arith) (omega arith))
 
 number-requires-3 : tie.Need-number-requires-3
 number-requires-3 c κs = search rules
@@ -143,7 +143,7 @@ add-if6 : tie.Need-overflow-add-if6
 add-if6 c = search rules
 
 returns-6 : tie.Need-returns-6
-returns-6 c = (tt, left_over (whole c.before) _ _ (to-budget c.before) c.if6.true)
+returns-6 c = (tt, left_over (whole c.before) _ _ (to_budget c.before) c.if6.true)
 
 returns-7 : tie.Need-returns-7
 returns-7 c =
@@ -152,12 +152,12 @@ returns-7 c =
       record {
         card = omega arith;
         words = omega arith;
-        words-read = rw (numbers-whole 4 (count (counted v)) (drop (words (counted v)) (whole b)) (rw length-drop (omega arith)));
+        words_are_read = rw (numbers-whole 4 (count (counted v)) (drop (words (counted v)) (whole b)) (rw length-drop (omega arith)));
         cells = omega arith;
-        cells-read = rw (numbers-whole 3 (arity v) (drop (cells v) (whole b)) (rw length-drop (omega arith)));
+        cells_are_read = rw (numbers-whole 3 (arity v) (drop (cells v) (whole b)) (rw length-drop (omega arith)));
         few = v.number3.ensures.1;
       },
-      read_whole (whole b) _ _ (to-budget b) c.if6.false,
+      read_whole (whole b) _ _ (to_budget b) c.if6.false,
     )
 
 pub find_spec : {M : Type 1} → statement M

@@ -4,8 +4,8 @@ use mathlib.Core.Path.{refl}
 use native.Mathlib.Omega.{arith}
 use borrow.Author.Rules.{rules}
 use lib.ListN.{length, drop, drop_of_length-le}
-use Rattle.calculus.proofs.Lists.{drop-step}
-use Rattle.calculus.proofs.Stores.{Written, written_begin, written-store, written-finish}
+use Rattle.calculus.proofs.Lists.{drop_step}
+use Rattle.calculus.proofs.Stores.{Written, written_begin, written_store, written_finish}
 use Rattle.line.proofs.text.copy.Statement.{statement}
 use Rattle.line.proofs.text.copy.Tie as tie
 
@@ -15,8 +15,8 @@ invariant-loop out₀ text i₀ out i = (i ≤ length text) × Written text (dro
 abbrev decreases-loop : tie.decreases-loop
 decreases-loop out₀ text i₀ out i = length text - i
 
-loop-holds : tie.Need-loop-init invariant-loop decreases-loop
-loop-holds c = (omega arith, written_begin _ _ c.requires)
+loop_holds : tie.Need-loop-init invariant-loop decreases-loop
+loop_holds c = (omega arith, written_begin _ _ c.requires)
 
 shared-slice-read-out : tie.Need-shared-slice-read-out invariant-loop decreases-loop
 shared-slice-read-out c = search rules
@@ -34,7 +34,7 @@ loop-again : tie.Need-loop-preserved invariant-loop decreases-loop
 loop-again c =
     let l = c.before.before.loop in
     let text = c.before.before.before.args.text.now in
-    (omega arith, written-store _ refl (rw (drop-step text l.i (omega arith)) at l.invariant.1))
+    (omega arith, written_store _ refl (rw (drop_step text l.i (omega arith)) at l.invariant.1))
 
 same_length : tie.Need-same-length invariant-loop decreases-loop
 same_length c = search rules
@@ -43,7 +43,7 @@ returns : tie.Need-returns invariant-loop decreases-loop
 returns c =
     let l = c.before.loop in
     let text = c.before.before.args.text.now in
-    written-finish (rw (drop_of_length-le text {i = l.i} (omega arith)) at l.invariant.1)
+    written_finish (rw (drop_of_length-le text {i = l.i} (omega arith)) at l.invariant.1)
 
 pub copy_spec : {M : Type 1} → statement M
 copy_spec =
@@ -51,7 +51,7 @@ copy_spec =
     (tie.spec
     invariant-loop
     decreases-loop
-    loop-holds
+    loop_holds
     shared-slice-read-out
     slice-write-out
     add-i

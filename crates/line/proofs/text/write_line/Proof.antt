@@ -8,9 +8,9 @@ use lib.ListN.{length, length-set, length-append, length-drop}
 use Rattle.calculus.specs.Overwrite.{overwrite}
 use Rattle.calculus.proofs.Stores.{overwrite-length}
 use Rattle.instance.proofs.Parts.{part_to_end}
-use Rattle.decimal.specs.Decimal.{digits, maxDigits}
+use Rattle.decimal.specs.Decimal.{digits, max_digits}
 use Rattle.decimal.proofs.Digits.{digits-few}
-use Rattle.line.proofs.Lines.{with-word, line-length, line-end}
+use Rattle.line.proofs.Lines.{with_word, line_length_lem, line_end}
 use borrow.Author.Rules.{rules}
 use Rattle.line.proofs.text.write_line.Statement.{statement}
 use Rattle.line.proofs.text.write_line.Tie as tie
@@ -32,11 +32,11 @@ module _ (c : tie.After-slice-known3) where
   abbrev ds : List ℕ
   ds = digits start.args.n
 
-  few : length ds ≤ maxDigits
+  few : length ds ≤ max_digits
   few = digits-few start.args.n start.fits.n.fits
 
   placed : put_mid (length word) (length copied.copy.last.0 - length word) copied.copy.last.0 c.before.before.decimal.new.0 ≡ overwrite (word ++ ds) out
-  placed = with-word word ds out _ _ (omega arith) copied.copy.ensures c.before.before.decimal.ensures.1
+  placed = with_word word ds out _ _ (omega arith) copied.copy.ensures c.before.before.decimal.ensures.1
 
   room : length (overwrite (word ++ ds) out) ≡ length out
   room = overwrite-length (word ++ ds) out (rw length-append (omega (arith, few)))
@@ -74,7 +74,7 @@ same_length c = simp length-set (ap length (placed c) ∙ room c)
 returns : tie.Need-returns
 returns c =
     let count = c.before.before.decimal.ensures.0 in
-    (rw (count, line-length), rw (placed c) (line-end (word c) (out c) (start c).args.n _ count (omega (arith, few c))))
+    (rw (count, line_length_lem), rw (placed c) (line_end (word c) (out c) (start c).args.n _ count (omega (arith, few c))))
 
 pub write-line-spec : {M : Type 1} → statement M
 write-line-spec =

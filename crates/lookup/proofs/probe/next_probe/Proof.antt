@@ -5,16 +5,16 @@ use mathlib.Core.Bool.{Bool, true, false, not, beq}
 use mathlib.Core.List.{List}
 use native.Mathlib.Omega.{arith}
 use lib.ListN.{length, get_or}
-use Rattle.calculus.proofs.Bools.{false-not-true}
-use Rattle.lookup.specs.Passing.{limitOf}
-use Rattle.lookup.proofs.Probes.{probe-stands}
+use Rattle.calculus.proofs.Bools.{false_not_true}
+use Rattle.lookup.specs.Passing.{limit_of}
+use Rattle.lookup.proofs.Probes.{probe_stands}
 use Rattle.lookup.proofs.probe.next_probe.Statement.{statement}
 use Rattle.lookup.proofs.probe.next_probe.Tie as tie
 
 unchanged : (a b : Bool) → not (beq a b) ≡ false → a ≡ b
 unchanged true true e = refl
-unchanged true false e = false-not-true (sym e)
-unchanged false true e = false-not-true (sym e)
+unchanged true false e = false_not_true (sym e)
+unchanged false true e = false_not_true (sym e)
 unchanged false false e = refl
 
 module _ (c : tie.Start) where
@@ -25,14 +25,14 @@ module _ (c : tie.Start) where
   low_column = c.requires.1.column
 
   -- the limit stays, if no more is possible than before
-  same_low : c.args.possible ≡ c.args.earlier → c.args.probe.low ≡ limitOf c.args.possible (get_or row c.args.probe.column 0)
-  same_low e = c.requires.1.low ∙ ap (λ (b : Bool). limitOf b (get_or row c.args.probe.column 0)) (sym e)
+  same_low : c.args.possible ≡ c.args.earlier → c.args.probe.low ≡ limit_of c.args.possible (get_or row c.args.probe.column 0)
+  same_low e = c.requires.1.low ∙ ap (λ (b : Bool). limit_of b (get_or row c.args.probe.column 0)) (sym e)
 
 probe-at-requires : tie.Need-probe-at-requires
 probe-at-requires c κs = low_column c.before.before.before
 
 returns : tie.Need-returns
-returns c = probe-stands _ _ _ c.probe-at.ensures (low_column c.before.before.before.before)
+returns c = probe_stands _ _ _ c.probe-at.ensures (low_column c.before.before.before.before)
 
 add-if2 : tie.Need-overflow-add-if2
 add-if2 c = omega (arith, low_column c.before.before.before)
@@ -70,7 +70,7 @@ probe-at-requires-2 : tie.Need-probe-at-requires-2
 probe-at-requires-2 c κs = omega (arith, low_column c.before.before.before.before.before.before.before.before)
 
 returns-4 : tie.Need-returns-4
-returns-4 c = probe-stands _ _ _ c.probe-at2.ensures (omega (arith, low_column c.before.before.before.before.before.before.before.before.before))
+returns-4 c = probe_stands _ _ _ c.probe-at2.ensures (omega (arith, low_column c.before.before.before.before.before.before.before.before.before))
 
 probe-at-requires-3 : tie.Need-probe-at-requires-3
 probe-at-requires-3 c κs = let low = low_column c.before.before.before.before.before.before.before.before in omega (arith, low, c.if4.false)
@@ -78,7 +78,7 @@ probe-at-requires-3 c κs = let low = low_column c.before.before.before.before.b
 returns-5 : tie.Need-returns-5
 returns-5 c =
     let low = low_column c.before.before.before.before.before.before.before.before.before in
-    probe-stands _ _ _ c.probe-at3.ensures (omega (arith, low, c.before.if4.false))
+    probe_stands _ _ _ c.probe-at3.ensures (omega (arith, low, c.before.if4.false))
 
 pub next-probe-spec : {M : Type 1} → statement M
 next-probe-spec =

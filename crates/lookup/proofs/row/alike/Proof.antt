@@ -5,22 +5,22 @@ use mathlib.Core.List.{List, ◌∷◌}
 use native.Mathlib.Omega.{arith}
 use lib.ListN.{length, get_or, drop}
 use Rattle.lookup.specs.Matching.{alike}
-use Rattle.lookup.specs.Place.{cellsAt}
+use Rattle.lookup.specs.Place.{cells_at}
 use Rattle.lookup.proofs.Columns.{cells-step, row-end}
-use Rattle.lookup.proofs.Alike.{alike_end, alike_same, alike-differs}
-use Rattle.calculus.proofs.Lists.{drop-step}
+use Rattle.lookup.proofs.Alike.{alike_end, alike_same, alike_differs}
+use Rattle.calculus.proofs.Lists.{drop_step}
 use Rattle.lookup.proofs.row.alike.Statement.{statement}
 use Rattle.lookup.proofs.row.alike.Tie as tie
 
 abbrev invariant-loop : tie.invariant-loop
 invariant-loop words place row i₀ i =
-    (i ≤ length row) × (alike row (cellsAt words place (length row)) ≡ i + alike (drop i row) (drop i (cellsAt words place (length row))))
+    (i ≤ length row) × (alike row (cells_at words place (length row)) ≡ i + alike (drop i row) (drop i (cells_at words place (length row))))
 
 abbrev decreases-loop : tie.decreases-loop
 decreases-loop words place row i₀ i = length row - i
 
-loop-holds : tie.Need-loop-init invariant-loop decreases-loop
-loop-holds c = (omega arith, omega arith)
+loop_holds : tie.Need-loop-init invariant-loop decreases-loop
+loop_holds c = (omega arith, omega arith)
 
 mul-if1 : tie.Need-overflow-mul-if1 invariant-loop decreases-loop
 mul-if1 c = omega arith
@@ -55,15 +55,15 @@ module _ (c : tie.In-loop invariant-loop decreases-loop) where
   i = c.before.loop.i
 
   abbrev cells : List ℕ
-  cells = cellsAt words place (length row)
+  cells = cells_at words place (length row)
 
   seen : alike row cells ≡ i + alike (get_or row i 0 ∷ drop (i + 1) row) (get_or words (place + 1 + i) 0 ∷ drop (i + 1) cells)
   seen =
       c.before.loop.invariant.1
-      ∙ ap₂ (λ (xs ys : List ℕ). i + alike xs ys) (drop-step row i (omega arith)) (cells-step words place (length row) i (omega arith) (omega arith))
+      ∙ ap₂ (λ (xs ys : List ℕ). i + alike xs ys) (drop_step row i (omega arith)) (cells-step words place (length row) i (omega arith) (omega arith))
 
 returns : tie.Need-returns invariant-loop decreases-loop
-returns c = let b = c.before.before.before in omega (arith, seen b, alike-differs _ _ (drop (i b + 1) (row b)) (drop (i b + 1) (cells b)) c.if1.true)
+returns c = let b = c.before.before.before in omega (arith, seen b, alike_differs _ _ (drop (i b + 1) (row b)) (drop (i b + 1) (cells b)) c.if1.true)
 
 add-i : tie.Need-overflow-add-i invariant-loop decreases-loop
 add-i c = omega arith
@@ -80,7 +80,7 @@ returns-2 : tie.Need-returns-2 invariant-loop decreases-loop
 returns-2 c =
     let a = c.before.before.args in
     let l : length a.row.now ≤ c.before.loop.i = omega arith in
-    omega (arith, c.before.loop.invariant.1, alike_end (drop c.before.loop.i a.row.now) (drop c.before.loop.i (cellsAt a.words.now a.place (length a.row.now))) (row-end a.row.now c.before.loop.i l))
+    omega (arith, c.before.loop.invariant.1, alike_end (drop c.before.loop.i a.row.now) (drop c.before.loop.i (cells_at a.words.now a.place (length a.row.now))) (row-end a.row.now c.before.loop.i l))
 
 pub alike_spec : {M : Type 1} → statement M
 alike_spec =
@@ -88,7 +88,7 @@ alike_spec =
     (tie.spec
     invariant-loop
     decreases-loop
-    loop-holds
+    loop_holds
     mul-if1
     shared-slice-read-if1
     add-if1

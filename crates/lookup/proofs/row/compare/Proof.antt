@@ -5,13 +5,13 @@ use mathlib.Core.Logic.{⊎_elim}
 use mathlib.Core.List.{List, ◌∷◌}
 use native.Mathlib.Omega.{arith}
 use lib.ListN.{length, get_or, drop}
-use Rattle.calculus.specs.Unify.{bind, unifiesWith}
-use Rattle.calculus.proofs.Lists.{drop-step}
+use Rattle.calculus.specs.Unify.{bind, unifies_with}
+use Rattle.calculus.proofs.Lists.{drop_step}
 use Rattle.lookup.specs.declared.row.Match.{Match}
 use Rattle.lookup.specs.Matching.{alike, unified, matching}
-use Rattle.lookup.specs.Place.{cellsAt, comparedAt}
-use Rattle.lookup.proofs.Alike.{alike-identical, alike-other, matching-past}
-use Rattle.lookup.proofs.Columns.{cells-size, cells_at, cells-step}
+use Rattle.lookup.specs.Place.{cells_at, compared_at}
+use Rattle.lookup.proofs.Alike.{alike-identical, alike-other, matching_past}
+use Rattle.lookup.proofs.Columns.{cells-size, cells_at_lem, cells-step}
 use Rattle.lookup.proofs.Matching.{matching-apart, matching-left, matching-right}
 use Rattle.lookup.proofs.Meaning.{row_told}
 use Rattle.lookup.proofs.row.compare.Statement.{statement}
@@ -35,7 +35,7 @@ module _ (c : tie.After-alike) where
   row = start.args.row.now
 
   abbrev cells : List ℕ
-  cells = cellsAt words place (length row)
+  cells = cells_at words place (length row)
 
   abbrev i : ℕ
   i = c.alike.result
@@ -75,14 +75,14 @@ module _ (c : tie.Else1) where
   ne : x ≡ y → ⊥
   ne e =
       let differ = (alike-other (row at) (cells at) (size at) (λ e. c.if1.false (is at ∙ e))).2 in
-      let same : get_or (row at) (i at) 0 ≡ get_or (cells at) (i at) 0 = e ∙ sym (cells_at (words at) (place at) (length (row at)) (i at) low) in
+      let same : get_or (row at) (i at) 0 ≡ get_or (cells at) (i at) 0 = e ∙ sym (cells_at_lem (words at) (place at) (length (row at)) (i at) low) in
       differ (subst (λ (k : ℕ). get_or (row at) k 0 ≡ get_or (cells at) k 0) (is at) same)
 
-  seen : comparedAt (words at) (place at) (row at) ≡ matching (x ∷ xs) (y ∷ ys)
+  seen : compared_at (words at) (place at) (row at) ≡ matching (x ∷ xs) (y ∷ ys)
   seen =
-      matching-past (row at) (cells at)
+      matching_past (row at) (cells at)
       ∙ ap (λ (k : ℕ). matching (drop k (row at)) (drop k (cells at))) (sym (is at))
-      ∙ ap₂ matching (drop-step (row at) (i at) low) (cells-step (words at) (place at) (length (row at)) (i at) (start at).pre.0 low)
+      ∙ ap₂ matching (drop_step (row at) (i at) low) (cells-step (words at) (place at) (length (row at)) (i at) (start at).pre.0 low)
 
 mul-asked : tie.Need-overflow-mul-asked
 mul-asked c = omega (arith, low c)
@@ -113,9 +113,9 @@ module _ (c : tie.Joined2) where
   here = c.before.before.before
 
   abbrev after : ℕ → ℕ → Match
-  after null cell = unified (unifiesWith (bind null cell) (xs here) (ys here))
+  after null cell = unified (unifies_with (bind null cell) (xs here) (ys here))
 
-  bound : comparedAt (words (at here)) (place (at here)) (row (at here)) ≡ after c.if2.null c.if2.cell
+  bound : compared_at (words (at here)) (place (at here)) (row (at here)) ≡ after c.if2.null c.if2.cell
   bound =
       seen here ∙
       ⊎_elim

@@ -8,7 +8,7 @@ use mathlib.Core.List.{List}
 use lib.ListN.{get_or}
 use Rattle.calculus.specs.Unify.{bind}
 use Rattle.lookup.specs.Matching.{through}
-use Rattle.lookup.proofs.Matching.{through-step}
+use Rattle.lookup.proofs.Matching.{through_step}
 use Rattle.lookup.proofs.row.put_through.Statement.{statement}
 use Rattle.lookup.proofs.row.put_through.Tie as tie
 
@@ -18,9 +18,9 @@ invariant-loop from to count cell c₀ k₀ c k = (k ≤ count) × (c ≡ throug
 abbrev decreases-loop : tie.decreases-loop
 decreases-loop from to count cell c₀ k₀ c k = count - k
 
-loop-holds : tie.Need-loop-init invariant-loop decreases-loop
+loop_holds : tie.Need-loop-init invariant-loop decreases-loop
 unfolding through
-loop-holds c = (omega arith, refl)
+loop_holds c = (omega arith, refl)
 
 mul-if1 : tie.Need-overflow-mul-if1 invariant-loop decreases-loop
 mul-if1 c = omega arith
@@ -46,7 +46,7 @@ module _ (c : tie.In-loop invariant-loop decreases-loop) where
   k = c.before.loop.k
 
   step : (d : ℕ) → d ≡ bind (get_or from k 0) (get_or to k 0) c.before.loop.c → d ≡ through from to (k + 1) c.before.before.args.cell
-  step d e = e ∙ ap (bind (get_or from k 0) (get_or to k 0)) c.before.loop.invariant.1 ∙ sym (through-step from to k c.before.before.args.cell)
+  step d e = e ∙ ap (bind (get_or from k 0) (get_or to k 0)) c.before.loop.invariant.1 ∙ sym (through_step from to k c.before.before.args.cell)
 
 add-k : tie.Need-overflow-add-k invariant-loop decreases-loop
 add-k c = omega arith
@@ -70,7 +70,7 @@ put-through-spec =
     (tie.spec
     invariant-loop
     decreases-loop
-    loop-holds
+    loop_holds
     mul-if1
     element-copy-out-if1
     mul-c

@@ -6,10 +6,10 @@ use mathlib.Core.List.{List, ◌∷◌}
 use native.Mathlib.Omega.{arith}
 use lib.ListN.{length, get_or, drop}
 use Rattle.calculus.specs.Cell.{constants}
-use Rattle.calculus.specs.Unify.{bind, unifiesWith}
-use Rattle.calculus.proofs.Lists.{drop-step}
+use Rattle.calculus.specs.Unify.{bind, unifies_with}
+use Rattle.calculus.proofs.Lists.{drop_step}
 use Rattle.lookup.specs.Matching.{unified}
-use Rattle.lookup.specs.Place.{cellsAt}
+use Rattle.lookup.specs.Place.{cells_at}
 use Rattle.lookup.proofs.Columns.{cells-step, cells-end, row-end}
 use Rattle.lookup.proofs.Matching.{unify-alike, unify-apart}
 use Rattle.lookup.proofs.row.unify.Statement.{statement}
@@ -17,14 +17,14 @@ use Rattle.lookup.proofs.row.unify.Tie as tie
 
 abbrev invariant-loop : tie.invariant-loop
 invariant-loop words place row first null cell i₀ i =
-    unifiesWith (bind null cell) (drop first row) (drop first (cellsAt words place (length row)))
-    ≡ unifiesWith (bind null cell) (drop i row) (drop i (cellsAt words place (length row)))
+    unifies_with (bind null cell) (drop first row) (drop first (cells_at words place (length row)))
+    ≡ unifies_with (bind null cell) (drop i row) (drop i (cells_at words place (length row)))
 
 abbrev decreases-loop : tie.decreases-loop
 decreases-loop words place row first null cell i₀ i = length row - i
 
-loop-holds : tie.Need-loop-init invariant-loop decreases-loop
-loop-holds c = refl
+loop_holds : tie.Need-loop-init invariant-loop decreases-loop
+loop_holds c = refl
 
 mul-bound : tie.Need-overflow-mul-bound invariant-loop decreases-loop
 mul-bound c = omega arith
@@ -77,7 +77,7 @@ module _ (c : tie.After-bound2 invariant-loop decreases-loop) where
   y = c.bound2.result
 
   abbrev cells : List ℕ
-  cells = cellsAt words place (length row)
+  cells = cells_at words place (length row)
 
   abbrev xs : List ℕ
   xs = drop (i + 1) row
@@ -89,14 +89,14 @@ module _ (c : tie.After-bound2 invariant-loop decreases-loop) where
   given c = bind start.args.null start.args.cell c
 
   abbrev answer : Bool
-  answer = unifiesWith given (drop start.args.first row) (drop start.args.first cells)
+  answer = unifies_with given (drop start.args.first row) (drop start.args.first cells)
 
-  seen : answer ≡ unifiesWith given (get_or row i 0 ∷ xs) (get_or words (place + 1 + i) 0 ∷ ys)
+  seen : answer ≡ unifies_with given (get_or row i 0 ∷ xs) (get_or words (place + 1 + i) 0 ∷ ys)
   seen =
       loop.before.loop.inv
-      ∙ ap₂ (unifiesWith given) (drop-step row i (omega arith)) (cells-step words place (length row) i (omega arith) (omega arith))
+      ∙ ap₂ (unifies_with given) (drop_step row i (omega arith)) (cells-step words place (length row) i (omega arith) (omega arith))
 
-  alike : x ≡ y → answer ≡ unifiesWith given xs ys
+  alike : x ≡ y → answer ≡ unifies_with given xs ys
   alike e = seen ∙ unify-alike given _ _ x y (sym c.before.before.bound.ensures) (sym c.bound2.ensures) xs ys e
 
   apart : (x ≡ y → ⊥) → x < constants → y < constants → answer ≡ false
@@ -121,7 +121,7 @@ loop-again : tie.Need-loop-preserved invariant-loop decreases-loop
 loop-again c = alike c.before c.if1.false
 
 returns-3 : tie.Need-returns-3 invariant-loop decreases-loop
-unfolding unifiesWith
+unfolding unifies_with
 returns-3 c =
     let a = c.before.before.before.before.args in
     let l : length a.row.now ≤ c.before.loop.i = omega arith in
@@ -133,7 +133,7 @@ unify-spec =
     (tie.spec
     invariant-loop
     decreases-loop
-    loop-holds
+    loop_holds
     mul-bound
     shared-slice-read-bound
     bound-requires

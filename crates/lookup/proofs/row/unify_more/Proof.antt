@@ -7,11 +7,11 @@ use mathlib.Core.List.{List, ◌∷◌}
 use native.Mathlib.Omega.{arith}
 use lib.ListN.{length, get_or, set, drop, length-set}
 use Rattle.calculus.specs.Cell.{constants}
-use Rattle.calculus.specs.Unify.{bind, unifiesWith}
-use Rattle.calculus.proofs.Lists.{drop-step}
-use Rattle.instance.specs.Header.{maxColumns}
+use Rattle.calculus.specs.Unify.{bind, unifies_with}
+use Rattle.calculus.proofs.Lists.{drop_step}
+use Rattle.instance.specs.Header.{max_columns}
 use Rattle.lookup.specs.Matching.{through}
-use Rattle.lookup.specs.Place.{cellsAt}
+use Rattle.lookup.specs.Place.{cells_at}
 use Rattle.lookup.proofs.Columns.{cells-step, cells-end, row-end}
 use Rattle.lookup.proofs.Matching.{unify-alike, unify-apart, unify-left, unify-right, unify-more}
 use Rattle.lookup.proofs.row.unify_more.Statement.{statement}
@@ -19,16 +19,16 @@ use Rattle.lookup.proofs.row.unify_more.Tie as tie
 
 abbrev invariant-loop : tie.invariant-loop
 invariant-loop words place row first null cell from₀ to₀ count₀ i₀ from to count i =
-    (count ≤ i) × (length from ≡ maxColumns) × (length to ≡ maxColumns)
-    × (unifiesWith (bind null cell) (drop first row) (drop first (cellsAt words place (length row)))
-    ≡ unifiesWith (λ c. through from to count (bind null cell c)) (drop i row) (drop i (cellsAt words place (length row))))
+    (count ≤ i) × (length from ≡ max_columns) × (length to ≡ max_columns)
+    × (unifies_with (bind null cell) (drop first row) (drop first (cells_at words place (length row)))
+    ≡ unifies_with (λ c. through from to count (bind null cell c)) (drop i row) (drop i (cells_at words place (length row))))
 
 abbrev decreases-loop : tie.decreases-loop
 decreases-loop words place row first null cell from₀ to₀ count₀ i₀ from to count i = length row - i
 
-loop-holds : tie.Need-loop-init invariant-loop decreases-loop
+loop_holds : tie.Need-loop-init invariant-loop decreases-loop
 unfolding through
-loop-holds c = (omega arith, refl, refl, refl)
+loop_holds c = (omega arith, refl, refl, refl)
 
 mul-bound : tie.Need-overflow-mul-bound invariant-loop decreases-loop
 mul-bound c = omega arith
@@ -99,7 +99,7 @@ module _ (c : tie.After-put-through2 invariant-loop decreases-loop) where
   y = c.put-through2.result
 
   abbrev cells : List ℕ
-  cells = cellsAt words place (length row)
+  cells = cells_at words place (length row)
 
   abbrev xs : List ℕ
   xs = drop (i + 1) row
@@ -115,35 +115,35 @@ module _ (c : tie.After-put-through2 invariant-loop decreases-loop) where
   bindings c = through from to count (given c)
 
   abbrev answer : Bool
-  answer = unifiesWith given (drop start.args.first row) (drop start.args.first cells)
+  answer = unifies_with given (drop start.args.first row) (drop start.args.first cells)
 
-  seen : answer ≡ unifiesWith bindings (get_or row i 0 ∷ xs) (get_or words (place + 1 + i) 0 ∷ ys)
+  seen : answer ≡ unifies_with bindings (get_or row i 0 ∷ xs) (get_or words (place + 1 + i) 0 ∷ ys)
   seen =
       loop.before.loop.inv.3
-      ∙ ap₂ (unifiesWith bindings) (drop-step row i (omega arith)) (cells-step words place (length row) i (omega arith) (omega arith))
+      ∙ ap₂ (unifies_with bindings) (drop_step row i (omega arith)) (cells-step words place (length row) i (omega arith) (omega arith))
 
   sent : bindings (get_or row i 0) ≡ x
   sent = sym (after_one.put-through.ensures ∙ ap (through from to count) after_one.before.bound.ensures)
 
-  sent-too : bindings (get_or words (place + 1 + i) 0) ≡ y
-  sent-too = sym (c.put-through2.ensures ∙ ap (through from to count) c.before.bound2.ensures)
+  sent_too : bindings (get_or words (place + 1 + i) 0) ≡ y
+  sent_too = sym (c.put-through2.ensures ∙ ap (through from to count) c.before.bound2.ensures)
 
-  alike : x ≡ y → answer ≡ unifiesWith bindings xs ys
-  alike e = seen ∙ unify-alike bindings _ _ x y sent sent-too xs ys e
+  alike : x ≡ y → answer ≡ unifies_with bindings xs ys
+  alike e = seen ∙ unify-alike bindings _ _ x y sent sent_too xs ys e
 
   apart : (x ≡ y → ⊥) → x < constants → y < constants → answer ≡ false
-  apart ne p q = seen ∙ unify-apart bindings _ _ x y sent sent-too xs ys ne p q
+  apart ne p q = seen ∙ unify-apart bindings _ _ x y sent sent_too xs ys ne p q
 
-  left : (x ≡ y → ⊥) → constants ≤ x → answer ≡ unifiesWith (λ c. through (set from count x) (set to count y) (count + 1) (given c)) xs ys
+  left : (x ≡ y → ⊥) → constants ≤ x → answer ≡ unifies_with (λ c. through (set from count x) (set to count y) (count + 1) (given c)) xs ys
   left ne p =
-      seen ∙ unify-left bindings _ _ x y sent sent-too xs ys ne p
+      seen ∙ unify-left bindings _ _ x y sent sent_too xs ys ne p
       ∙ unify-more given from to x y count (omega arith) (omega arith) xs ys
 
   right :
       (x ≡ y → ⊥) → x < constants → constants ≤ y →
-      answer ≡ unifiesWith (λ c. through (set from count y) (set to count x) (count + 1) (given c)) xs ys
+      answer ≡ unifies_with (λ c. through (set from count y) (set to count x) (count + 1) (given c)) xs ys
   right ne p q =
-      seen ∙ unify-right bindings _ _ x y sent sent-too xs ys ne p q
+      seen ∙ unify-right bindings _ _ x y sent sent_too xs ys ne p q
       ∙ unify-more given from to y x count (omega arith) (omega arith) xs ys
 
 returns : tie.Need-returns invariant-loop decreases-loop
@@ -205,7 +205,7 @@ loop-again c =
     c.if1.branch
 
 returns-2 : tie.Need-returns-2 invariant-loop decreases-loop
-unfolding unifiesWith
+unfolding unifies_with
 returns-2 c =
     let a = c.before.before.before.before.args in
     let l : length a.row.now ≤ c.before.loop.i = omega arith in
@@ -217,7 +217,7 @@ unify-more-spec =
     (tie.spec
     invariant-loop
     decreases-loop
-    loop-holds
+    loop_holds
     mul-bound
     shared-slice-read-bound
     bound-requires

@@ -6,37 +6,37 @@ use mathlib.Core.List.{List, ◌∷◌}
 use native.Mathlib.Omega.{arith}
 use lib.ListN.{length, get_or, take, drop}
 use Rattle.calculus.specs.Closed.{tuples}
-use Rattle.instance.specs.Header.{arityOf, maxRelations, maxColumns}
+use Rattle.instance.specs.Header.{arity_of, max_relations, max_columns}
 use Rattle.instance.specs.Rows.{rows_from}
-use Rattle.instance.proofs.Walk.{relation-few, arity-few}
-use Rattle.known.specs.Known.{aritiesIn}
-use Rattle.lookup.specs.Passing.{RowsLeft, toldApart, passing, wordsPassed}
-use Rattle.lookup.specs.Place.{cellsAt}
-use Rattle.lookup.proofs.Columns.{cells_at}
-use Rattle.lookup.proofs.Left.{fewer-left, more_left, same_step, same-stops, same-goes-on, same-within, same_left}
-use Rattle.lookup.proofs.Passing.{passing-stops, passing-goes-on, told_same, told-high, told-low}
+use Rattle.instance.proofs.Walk.{relation-few, arity_few}
+use Rattle.known.specs.Known.{arities_in}
+use Rattle.lookup.specs.Passing.{RowsLeft, told_apart, passing, words_passed}
+use Rattle.lookup.specs.Place.{cells_at}
+use Rattle.lookup.proofs.Columns.{cells_at_lem}
+use Rattle.lookup.proofs.Left.{fewer_left, more_left, same_step, same_stops, same-goes-on, same-within, same_left}
+use Rattle.lookup.proofs.Passing.{passing_stops, passing-goes_on, told_same, told-high, told-low}
 use Rattle.lookup.proofs.rows.next_near.Statement.{statement}
 use Rattle.lookup.proofs.rows.next_near.Tie as tie
 
 abbrev invariant-loop : tie.invariant-loop
 invariant-loop words known relation column asked limit place most step more₀ i₀ more i =
-    RowsLeft (aritiesIn known) words relation i more
-    × (passing (toldApart column asked limit) (take more (tuples relation (rows_from (aritiesIn known) 0 (drop i words))))
-    ≡ passing (toldApart column asked limit) (take most (tuples relation (rows_from (aritiesIn known) 0 (drop place words)))))
-    × (i + wordsPassed (toldApart column asked limit) relation more (rows_from (aritiesIn known) 0 (drop i words))
-    ≡ place + wordsPassed (toldApart column asked limit) relation most (rows_from (aritiesIn known) 0 (drop place words)))
+    RowsLeft (arities_in known) words relation i more
+    × (passing (told_apart column asked limit) (take more (tuples relation (rows_from (arities_in known) 0 (drop i words))))
+    ≡ passing (told_apart column asked limit) (take most (tuples relation (rows_from (arities_in known) 0 (drop place words)))))
+    × (i + words_passed (told_apart column asked limit) relation more (rows_from (arities_in known) 0 (drop i words))
+    ≡ place + words_passed (told_apart column asked limit) relation most (rows_from (arities_in known) 0 (drop place words)))
 
 abbrev decreases-loop : tie.decreases-loop
 decreases-loop words known relation column asked limit place most step more₀ i₀ more i = more
 
 module _ (c : tie.Start invariant-loop decreases-loop) where
-  relation-low : c.args.relation < maxRelations
-  relation-low = relation-few _ (aritiesIn c.args.known.now) c.args.words.now _ c.requires.0.given.well-formed c.requires.0.known
+  relation-low : c.args.relation < max_relations
+  relation-low = relation-few _ (arities_in c.args.known.now) c.args.words.now _ c.requires.0.given.well_formed c.requires.0.known
 
-  narrow : arityOf (aritiesIn c.args.known.now) c.args.relation ≤ maxColumns
-  narrow = arity-few _ (aritiesIn c.args.known.now) c.args.words.now _ c.requires.0.given.well-formed c.requires.0.known
+  narrow : arity_of (arities_in c.args.known.now) c.args.relation ≤ max_columns
+  narrow = arity_few _ (arities_in c.args.known.now) c.args.words.now _ c.requires.0.given.well_formed c.requires.0.known
 
-  column-low : c.args.column < arityOf (aritiesIn c.args.known.now) c.args.relation
+  column-low : c.args.column < arity_of (arities_in c.args.known.now) c.args.relation
   column-low = c.requires.2
 
 arity-in-requires : tie.Need-arity-in-requires invariant-loop decreases-loop
@@ -48,12 +48,12 @@ cast-step c = omega (arith, c.arity-in.ensures, narrow c.before.before)
 add_step : tie.Need-overflow-add-step invariant-loop decreases-loop
 add_step c = omega (arith, c.arity-in.ensures, narrow c.before.before)
 
-loop-holds : tie.Need-loop-init invariant-loop decreases-loop
-loop-holds c = (c.before.before.requires.0, refl, refl)
+loop_holds : tie.Need-loop-init invariant-loop decreases-loop
+loop_holds c = (c.before.before.requires.0, refl, refl)
 
 next-row-requires : tie.Need-next-row-requires invariant-loop decreases-loop
 next-row-requires c κs =
-    (fewer-left _ _ _ _ c.before.loop.invariant.0 1 (omega (arith, c.loop-test.true)), c.before.before.before.before.requires.1)
+    (fewer_left _ _ _ _ c.before.loop.invariant.0 1 (omega (arith, c.loop-test.true)), c.before.before.before.before.requires.1)
 
 -- the relation's next row
 module _ (c : tie.After-next-row invariant-loop decreases-loop) where
@@ -61,7 +61,7 @@ module _ (c : tie.After-next-row invariant-loop decreases-loop) where
   start = c.before.before.before.before.before
 
   abbrev ars : List ℕ
-  ars = aritiesIn start.args.known.now
+  ars = arities_in start.args.known.now
 
   abbrev ws : List ℕ
   ws = start.args.words.now
@@ -70,7 +70,7 @@ module _ (c : tie.After-next-row invariant-loop decreases-loop) where
   relation = start.args.relation
 
   abbrev arity : ℕ
-  arity = arityOf ars relation
+  arity = arity_of ars relation
 
   abbrev more : ℕ
   more = c.before.before.loop.more
@@ -79,13 +79,13 @@ module _ (c : tie.After-next-row invariant-loop decreases-loop) where
   place = c.next_row.result
 
   abbrev apart : List ℕ → Bool
-  apart = toldApart start.args.column start.args.asked start.args.limit
+  apart = told_apart start.args.column start.args.asked start.args.limit
 
   abbrev all : List (List ℕ)
   all = passing apart (take start.args.most (tuples relation (rows_from ars 0 (drop start.args.place ws))))
 
   abbrev this : List ℕ
-  this = cellsAt ws place arity
+  this = cells_at ws place arity
 
   abbrev behind : List (List ℕ)
   behind = tuples relation (rows_from ars 0 (drop (place + (1 + arity)) ws))
@@ -117,11 +117,11 @@ module _ (c : tie.After-next-row invariant-loop decreases-loop) where
 
   -- its cell in the column
   cell : get_or this start.args.column 0 ≡ get_or ws (place + 1 + start.args.column) 0
-  cell = cells_at ws place arity start.args.column (column-low start)
+  cell = cells_at_lem ws place arity start.args.column (column-low start)
 
   -- where passing over leads from here
   abbrev passed : ℕ → ℕ → ℕ
-  passed n k = wordsPassed apart relation n (rows_from ars 0 (drop k ws))
+  passed n k = words_passed apart relation n (rows_from ars 0 (drop k ws))
 
   abbrev goal : ℕ
   goal = start.args.place + passed start.args.most start.args.place
@@ -137,8 +137,8 @@ module _ (c : tie.After-next-row invariant-loop decreases-loop) where
       (take more (tuples relation (rows_from ars 0 (drop place ws))) ≡ all)
       × (RowsLeft ars ws relation place more × ((0 < more → get_or ws place 0 ≡ relation) × (place ≡ goal)))
   stops e =
-      let none = same-stops _ _ _ _ left some is apart (more - 1) e in
-      (here ∙ sym (passing-stops apart this _ e) ∙ kept, (left, (λ _. is, omega (arith, none, leads))))
+      let none = same_stops _ _ _ _ left some is apart (more - 1) e in
+      (here ∙ sym (passing_stops apart this _ e) ∙ kept, (left, (λ _. is, omega (arith, none, leads))))
 
 add-cell : tie.Need-overflow-add-cell invariant-loop decreases-loop
 add-cell c = omega (arith, within c, column-low (start c))
@@ -173,21 +173,21 @@ loop-again c =
     let low = told-low (start b).args.column (start b).args.asked (start b).args.limit (this b) (λ e. c.before.if1.false (sym (cell b) ∙ e)) (omega (arith, cell b, c.if2.false)) in
     rw (stepped b) (
       same_left _ _ _ _ (left b) (some b) (is b) (more b - 1) (omega (arith, some b)),
-      sym (passing-goes-on (apart b) (this b) _ low) ∙ kept b,
+      sym (passing-goes_on (apart b) (this b) _ low) ∙ kept b,
       sym (same-goes-on _ _ _ _ (left b) (some b) (is b) (apart b) (more b - 1) low) ∙ leads b,
     )
 
 returns-3 : tie.Need-returns-3 invariant-loop decreases-loop
-unfolding passing wordsPassed
+unfolding passing words_passed
 returns-3 c =
     let a = c.before.before.before.before.args in
     let none : c.before.loop.more ≡ 0 = omega (arith, c.loop-test.false) in
-    let apart = toldApart a.column a.asked a.limit in
-    let rows = rows_from (aritiesIn a.known.now) 0 (drop c.before.loop.i a.words.now) in
-    let zero : wordsPassed apart a.relation c.before.loop.more rows ≡ 0 = ap (λ (k : ℕ). wordsPassed apart a.relation k rows) none in (
+    let apart = told_apart a.column a.asked a.limit in
+    let rows = rows_from (arities_in a.known.now) 0 (drop c.before.loop.i a.words.now) in
+    let zero : words_passed apart a.relation c.before.loop.more rows ≡ 0 = ap (λ (k : ℕ). words_passed apart a.relation k rows) none in (
       sym (ap (λ (k : ℕ). passing apart (take k (tuples a.relation rows))) none) ∙ c.before.loop.invariant.1,
       (
-        fewer-left _ _ _ _ c.before.loop.invariant.0 0 (omega arith),
+        fewer_left _ _ _ _ c.before.loop.invariant.0 0 (omega arith),
         (λ less. absurd (omega (arith, less)), omega (arith, zero, c.before.loop.invariant.2)),
       ),
     )
@@ -201,7 +201,7 @@ next-near-spec =
     arity-in-requires
     cast-step
     add_step
-    loop-holds
+    loop_holds
     next-row-requires
     add-cell
     add-cell-2

@@ -7,11 +7,11 @@ use mathlib.Core.List.{List}
 use native.Mathlib.Omega.{arith}
 use lib.ListN.{length, get_or, drop}
 use Rattle.calculus.specs.Closed.{tuples}
-use Rattle.instance.specs.Header.{arityOf, maxRelations}
+use Rattle.instance.specs.Header.{arity_of, max_relations}
 use Rattle.instance.specs.Rows.{rows_from}
 use Rattle.instance.proofs.Walk.{AtRow, relation-few}
-use Rattle.known.specs.Known.{aritiesIn}
-use Rattle.lookup.specs.Passing.{RowsLeft, wordsPassed}
+use Rattle.known.specs.Known.{arities_in}
+use Rattle.lookup.specs.Passing.{RowsLeft, words_passed}
 use Rattle.lookup.proofs.Left.{words_left, row-left, other-same, other-left, other-words}
 use Rattle.lookup.proofs.rows.next_row.Statement.{statement}
 use Rattle.lookup.proofs.rows.next_row.Tie as tie
@@ -21,24 +21,24 @@ abbrev Onward : List ℕ → List ℕ → ℕ → ℕ → ℕ → Type 0
 Onward ars ws relation k j =
     RowsLeft ars ws relation j 1
     × (tuples relation (rows_from ars 0 (drop j ws)) ≡ tuples relation (rows_from ars 0 (drop k ws)))
-    × ((test : List ℕ → Bool) (m : ℕ) → j + wordsPassed test relation (suc m) (rows_from ars 0 (drop j ws))
-    ≡ k + wordsPassed test relation (suc m) (rows_from ars 0 (drop k ws)))
+    × ((test : List ℕ → Bool) (m : ℕ) → j + words_passed test relation (suc m) (rows_from ars 0 (drop j ws))
+    ≡ k + words_passed test relation (suc m) (rows_from ars 0 (drop k ws)))
 
 abbrev invariant-loop : tie.invariant-loop
 invariant-loop words known relation place other₀ step₀ i₀ w₀ other step i w =
-    RowsLeft (aritiesIn known) words relation i 1
-    × (tuples relation (rows_from (aritiesIn known) 0 (drop i words)) ≡ tuples relation (rows_from (aritiesIn known) 0 (drop place words)))
+    RowsLeft (arities_in known) words relation i 1
+    × (tuples relation (rows_from (arities_in known) 0 (drop i words)) ≡ tuples relation (rows_from (arities_in known) 0 (drop place words)))
     × (w ≡ get_or words i 0)
-    × ((other ≡ relation → ⊥) → step ≡ 1 + arityOf (aritiesIn known) other)
-    × ((test : List ℕ → Bool) (n : ℕ) → i + wordsPassed test relation (suc n) (rows_from (aritiesIn known) 0 (drop i words))
-    ≡ place + wordsPassed test relation (suc n) (rows_from (aritiesIn known) 0 (drop place words)))
+    × ((other ≡ relation → ⊥) → step ≡ 1 + arity_of (arities_in known) other)
+    × ((test : List ℕ → Bool) (n : ℕ) → i + words_passed test relation (suc n) (rows_from (arities_in known) 0 (drop i words))
+    ≡ place + words_passed test relation (suc n) (rows_from (arities_in known) 0 (drop place words)))
 
 abbrev decreases-loop : tie.decreases-loop
 decreases-loop words known relation place other₀ step₀ i₀ w₀ other step i w = length words - i
 
 -- past a row of another relation
 passed_over :
-    (ars ws : List ℕ) (relation k step : ℕ) → RowsLeft ars ws relation k 1 → (get_or ws k 0 ≡ relation → ⊥) → step ≡ 1 + arityOf ars (get_or ws k 0) →
+    (ars ws : List ℕ) (relation k step : ℕ) → RowsLeft ars ws relation k 1 → (get_or ws k 0 ≡ relation → ⊥) → step ≡ 1 + arity_of ars (get_or ws k 0) →
     Onward ars ws relation k (k + step)
 passed_over ars ws relation k step left ne e =
     rw e (other-left _ _ _ _ left (omega arith) ne, other-same _ _ _ _ left (omega arith) ne, other-words _ _ _ _ left (omega arith) ne)
@@ -49,8 +49,8 @@ mul-w c = omega (arith, words_left _ _ _ _ c.before.requires.0 (omega arith))
 shared-slice-read-w : tie.Need-shared-slice-read-w invariant-loop decreases-loop
 shared-slice-read-w c = words_left _ _ _ _ c.before.before.requires.0 (omega arith)
 
-loop-holds : tie.Need-loop-init invariant-loop decreases-loop
-loop-holds c = (c.before.before.requires.0, refl, refl, λ ne. absurd (ne refl), λ test n. refl)
+loop_holds : tie.Need-loop-init invariant-loop decreases-loop
+loop_holds c = (c.before.before.requires.0, refl, refl, λ ne. absurd (ne refl), λ test n. refl)
 
 -- the row at index i, which is of another relation
 module _ (c : tie.In-loop invariant-loop decreases-loop) where
@@ -58,7 +58,7 @@ module _ (c : tie.In-loop invariant-loop decreases-loop) where
   start = c.before.before.before.before
 
   abbrev ars : List ℕ
-  ars = aritiesIn start.args.known.now
+  ars = arities_in start.args.known.now
 
   abbrev ws : List ℕ
   ws = start.args.words.now
@@ -81,15 +81,15 @@ module _ (c : tie.In-loop invariant-loop decreases-loop) where
   here : AtRow left.given.relations ars ws i
   here = row-left _ _ _ _ left (omega arith)
 
-  few : w < maxRelations
-  few = rw is (relation-few _ ars ws _ left.given.well-formed here.relation)
+  few : w < max_relations
+  few = rw is (relation-few _ ars ws _ left.given.well_formed here.relation)
 
   differs : get_or ws i 0 ≡ relation → ⊥
   differs e = c.loop-test.true (is ∙ e)
 
   -- the length of this row
   abbrev size : ℕ
-  size = 1 + arityOf ars (get_or ws i 0)
+  size = 1 + arity_of ars (get_or ws i 0)
 
   kept : (step : ℕ) → step ≡ size → Onward ars ws relation i (i + step)
   kept step e = passed_over ars ws relation i step left differs e
@@ -106,7 +106,7 @@ module _ (c : tie.After-arity-in invariant-loop decreases-loop) where
   at_row = c.before.before
 
   row_ends : i at_row + (1 + c.arity-in.result) ≤ length (ws at_row)
-  row_ends = omega (arith, (here at_row).next.within, c.arity-in.ensures, ap (arityOf (ars at_row)) (is at_row))
+  row_ends = omega (arith, (here at_row).next.within, c.arity-in.ensures, ap (arity_of (ars at_row)) (is at_row))
 
 cast-step : tie.Need-overflow-cast-step invariant-loop decreases-loop
 cast-step c = omega (arith, row_ends c)
@@ -125,26 +125,26 @@ module _ (c : tie.Joined1 invariant-loop decreases-loop) where
   abbrev step : ℕ
   step = c.if1.step
 
-  known : (other ≡ w at) × (step ≡ 1 + arityOf (ars at) (w at))
+  known : (other ≡ w at) × (step ≡ 1 + arity_of (ars at) (w at))
   known =
       ⊎_elim
       (λ a. (a.2, a.3 ∙ ap (λ (k : ℕ). 1 + k) a.1.ensures))
       (λ a.
       let same : w at ≡ at.before.loop.other = a.0.left in
-      (a.1 ∙ sym same, a.2 ∙ at.before.loop.inv.3 (λ f. at.loop-test.taken (same ∙ f)) ∙ ap (λ (r : ℕ). 1 + arityOf (ars at) r) (sym same)))
+      (a.1 ∙ sym same, a.2 ∙ at.before.loop.inv.3 (λ f. at.loop-test.taken (same ∙ f)) ∙ ap (λ (r : ℕ). 1 + arity_of (ars at) r) (sym same)))
       c.if1.branch
 
   other_differs : other ≡ relation at → ⊥
   other_differs e = at.loop-test.taken (sym known.0 ∙ e)
 
-  stepped : step ≡ 1 + arityOf (ars at) other
-  stepped = known.1 ∙ ap (λ (r : ℕ). 1 + arityOf (ars at) r) (sym known.0)
+  stepped : step ≡ 1 + arity_of (ars at) other
+  stepped = known.1 ∙ ap (λ (r : ℕ). 1 + arity_of (ars at) r) (sym known.0)
 
   abbrev next : ℕ
   next = i at + step
 
   one : Onward (ars at) (ws at) (relation at) (i at) next
-  one = kept at step (known.1 ∙ ap (λ (r : ℕ). 1 + arityOf (ars at) r) (is at))
+  one = kept at step (known.1 ∙ ap (λ (r : ℕ). 1 + arity_of (ars at) r) (is at))
 
   further : next < length (ws at)
   further = words_left _ _ _ _ one.0 (omega arith)
@@ -154,10 +154,10 @@ module _ (c : tie.Joined1 invariant-loop decreases-loop) where
     two : Onward (ars at) (ws at) (relation at) next (next + step)
     two =
         passed_over (ars at) (ws at) (relation at) next step one.0 (λ e. other_differs (sym again ∙ e))
-        (stepped ∙ ap (λ (r : ℕ). 1 + arityOf (ars at) r) (sym again))
+        (stepped ∙ ap (λ (r : ℕ). 1 + arity_of (ars at) r) (sym again))
 
-    further-two : next + step < length (ws at)
-    further-two = words_left _ _ _ _ two.0 (omega arith)
+    further_two : next + step < length (ws at)
+    further_two = words_left _ _ _ _ two.0 (omega arith)
 
 add-i : tie.Need-overflow-add-i invariant-loop decreases-loop
 add-i c = omega (arith, further c.before)
@@ -169,16 +169,16 @@ shared-slice-read-w-2 : tie.Need-shared-slice-read-w-2 invariant-loop decreases-
 shared-slice-read-w-2 c = further c.before.before
 
 add-i-2 : tie.Need-overflow-add-i-2 invariant-loop decreases-loop
-add-i-2 c = omega (arith, further-two c.before.before.before c.if2.true)
+add-i-2 c = omega (arith, further_two c.before.before.before c.if2.true)
 
 mul-w-3 : tie.Need-overflow-mul-w-3 invariant-loop decreases-loop
-mul-w-3 c = omega (arith, further-two c.before.before.before c.if2.true)
+mul-w-3 c = omega (arith, further_two c.before.before.before c.if2.true)
 
 shared-slice-read-w-3 : tie.Need-shared-slice-read-w-3 invariant-loop decreases-loop
-shared-slice-read-w-3 c = further-two c.before.before.before.before c.before.if2.true
+shared-slice-read-w-3 c = further_two c.before.before.before.before c.before.if2.true
 
 loop-less : tie.Need-loop-smaller invariant-loop decreases-loop
-loop-less c = let j = c.before.before.before.before in omega (arith, further-two j c.before.if2.true, (known j).1)
+loop-less c = let j = c.before.before.before.before in omega (arith, further_two j c.before.if2.true, (known j).1)
 
 loop-again : tie.Need-loop-preserved invariant-loop decreases-loop
 loop-again c =
@@ -203,7 +203,7 @@ next-row-spec =
     decreases-loop
     mul-w
     shared-slice-read-w
-    loop-holds
+    loop_holds
     cast-arity-in
     arity-in-requires
     cast-step

@@ -7,8 +7,8 @@ use native.Mathlib.Omega.{arith}
 use borrow.Author.Rules.{rules}
 use lib.Dec.{lit<}
 use lib.ListN.{drop}
-use Rattle.parse.specs.Number.{readDigits, readNumber}
-use Rattle.parse.proofs.Numbers.{digit-more}
+use Rattle.parse.specs.Number.{read_digits, read_number}
+use Rattle.parse.proofs.Numbers.{digit_more}
 use Rattle.parse.proofs.number.number.Statement.{statement}
 use Rattle.parse.proofs.number.number.Tie as tie
 
@@ -16,7 +16,7 @@ abbrev invariant-loop : tie.invariant-loop
 invariant-loop bytes at width number₀ left₀ number left =
     (left ≤ width)
     × (number < 256 ^ (width - left))
-    × (readNumber width (drop at bytes) ≡ readDigits number left (drop (at + (width - left)) bytes))
+    × (read_number width (drop at bytes) ≡ read_digits number left (drop (at + (width - left)) bytes))
 
 abbrev decreases-loop : tie.decreases-loop
 decreases-loop bytes at width number₀ left₀ number left = left
@@ -25,8 +25,8 @@ decreases-loop bytes at width number₀ left₀ number left = left
 high : (c : tie.In-loop invariant-loop decreases-loop) → c.before.loop.number < 256 ^ 3
 high c = lt_of_lt_of_le c.before.loop.invariant.1 (pow-le-pow_right {n = 256} (lit< tt) {j = 3} (omega arith))
 
-loop-holds : tie.Need-loop-init invariant-loop decreases-loop
-loop-holds c = (omega arith, rw sub_self (omega arith), rw (sub_self, add-zero))
+loop_holds : tie.Need-loop-init invariant-loop decreases-loop
+loop_holds c = (omega arith, rw sub_self (omega arith), rw (sub_self, add-zero))
 
 mul-number : tie.Need-overflow-mul-number invariant-loop decreases-loop
 mul-number c = omega (arith, high c)
@@ -59,11 +59,11 @@ loop-again c =
     let power : 256 ^ suc passed ≡ 256 ^ passed * 256 = pow-suc 256 passed in (
       omega arith,
       rw one (omega arith),
-      rw (one, next, c.byte.ensures.0) (l.invariant.2 ∙ digit-more l.number (l.left - 1) start.args.bytes.now (start.args.at + passed) (omega arith) (omega arith)),
+      rw (one, next, c.byte.ensures.0) (l.invariant.2 ∙ digit_more l.number (l.left - 1) start.args.bytes.now (start.args.at + passed) (omega arith) (omega arith)),
     )
 
 returns : tie.Need-returns invariant-loop decreases-loop
-unfolding readDigits
+unfolding read_digits
 returns c =
     let l = c.before.loop in
     let done : l.left ≡ 0 = omega arith in
@@ -75,7 +75,7 @@ number-spec =
     (tie.spec
     invariant-loop
     decreases-loop
-    loop-holds
+    loop_holds
     mul-number
     sub-byte
     add-byte

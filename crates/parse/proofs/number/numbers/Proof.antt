@@ -1,7 +1,7 @@
 -- `parse::number::numbers` meets its contract: the numbers read so far are at the front, and the others are read after them. Assumes nothing.
 use Prim.Native.Nat.{◌-◌}
 use native.Mathlib.Omega.{arith}
-use Rattle.parse.proofs.Filling.{Filling, fill_start, fill-room, numbers-filled-more, fill_end}
+use Rattle.parse.proofs.Filling.{Filling, fill_start, fill-room, numbers-filled_more, fill_end}
 use Rattle.parse.proofs.number.numbers.Statement.{statement}
 use Rattle.parse.proofs.number.numbers.Tie as tie
 
@@ -11,8 +11,8 @@ invariant-loop out₀ bytes at width count next₀ i₀ out next i = Filling wid
 abbrev decreases-loop : tie.decreases-loop
 decreases-loop out₀ bytes at width count next₀ i₀ out next i = count - i
 
-loop-holds : tie.Need-loop-init invariant-loop decreases-loop
-loop-holds c = fill_start c.before.before.args.width c.before.before.args.count c.before.before.args.at c.before.before.args.bytes.now c.before.before.args.out.now c.before.before.requires.1.0 c.before.before.requires.1.1.0 c.before.before.requires.1.1.1
+loop_holds : tie.Need-loop-init invariant-loop decreases-loop
+loop_holds c = fill_start c.before.before.args.width c.before.before.args.count c.before.before.args.at c.before.before.args.bytes.now c.before.before.args.out.now c.before.before.requires.1.0 c.before.before.requires.1.1.0 c.before.before.requires.1.1.1
 
 number-requires : tie.Need-number-requires invariant-loop decreases-loop
 number-requires c κs = (omega arith, fill-room c.before.loop.invariant c.loop-test.true)
@@ -33,7 +33,7 @@ loop-less : tie.Need-loop-smaller invariant-loop decreases-loop
 loop-less c = omega arith
 
 loop-again : tie.Need-loop-preserved invariant-loop decreases-loop
-loop-again c = numbers-filled-more c.before.before.loop.invariant c.before.loop-test.true c.number.ensures.0
+loop-again c = numbers-filled_more c.before.before.loop.invariant c.before.loop-test.true c.number.ensures.0
 
 same_length : tie.Need-same-length invariant-loop decreases-loop
 same_length c = c.before.loop.invariant.written.same
@@ -47,7 +47,7 @@ numbers-spec =
     (tie.spec
     invariant-loop
     decreases-loop
-    loop-holds
+    loop_holds
     number-requires
     mul-out
     slice-write-out

@@ -8,11 +8,11 @@ use native.Mathlib.Omega.{arith}
 use borrow.Author.Tests.{le-leb, lt-leb, not-true, not-false}
 use lib.ListN.{length}
 use lib.Pow.{pow_pos}
-use Rattle.calculus.specs.Refusal.{bad-candidate}
-use Rattle.instance.specs.Rows.{areCells}
-use Rattle.query.specs.Words.{nodeCount}
-use Rattle.query.specs.Scope.{atTheTop, candidateScope}
-use Rattle.query.specs.Check.{checkNodes, checkQuery}
+use Rattle.calculus.specs.Refusal.{bad_candidate}
+use Rattle.instance.specs.Rows.{are_cells}
+use Rattle.query.specs.Words.{node_count}
+use Rattle.query.specs.Scope.{at_the_top, candidate_scope}
+use Rattle.query.specs.Check.{check_nodes, check_query}
 use Rattle.calculus.specs.Demand.{demand}
 use Rattle.query.specs.Answers.{scopes}
 use Rattle.calculus.proofs.Bits.{shifted}
@@ -27,7 +27,7 @@ cast-if1 : tie.Need-overflow-cast-if1
 cast-if1 c = search rules
 
 returns : tie.Need-returns
-unfolding checkQuery
+unfolding check_query
 returns c = simp (lt-leb _ _ c.if1.true)
 
 are-cells-requires : tie.Need-are-cells-requires
@@ -50,12 +50,12 @@ module _ (c : tie.Else1) where
   abbrev cs : List ℕ
   cs = start.args.candidate.now
 
-  so_far : (b : Bool) → areCells cs ≡ b → checkQuery n ars qs cs ≡ demand b (refused bad-candidate) (checkNodes n ars qs 0 (nodeCount qs) (atTheTop (length cs)))
-  unfolding checkQuery
+  so_far : (b : Bool) → are_cells cs ≡ b → check_query n ars qs cs ≡ demand b (refused bad_candidate) (check_nodes n ars qs 0 (node_count qs) (at_the_top (length cs)))
+  unfolding check_query
   so_far b e = simp (le-leb _ _ c.if1.false, e)
 
 returns-2 : tie.Need-returns-2
-returns-2 c = rw (so_far c.before.before false (sym c.before.are-cells.ensures ∙ not-true _ c.if2.true))
+returns-2 c = rw (so_far c.before.before false (sym c.before.are_cells_lem.ensures ∙ not-true _ c.if2.true))
 
 array-write-named : tie.Need-array-write-named
 array-write-named c = search rules
@@ -80,10 +80,10 @@ check-nodes-requires c κs = let p = c.before.before.before.before.before.before
 returns-3 : tie.Need-returns-3
 returns-3 c =
     let d = c.before.before.before.before.before in
-    let m : (1 * 2 ^ length (cs d)) % 2 ^ 32 - 1 ≡ candidateScope (length (cs d)) = ap (λ (x : ℕ). x - 1) (shifted (length (cs d)) (omega arith)) in
-    rw (so_far d true (sym c.before.before.before.before.are-cells.ensures ∙ not-false _ c.before.before.before.if2.false))
+    let m : (1 * 2 ^ length (cs d)) % 2 ^ 32 - 1 ≡ candidate_scope (length (cs d)) = ap (λ (x : ℕ). x - 1) (shifted (length (cs d)) (omega arith)) in
+    rw (so_far d true (sym c.before.before.before.before.are_cells_lem.ensures ∙ not-false _ c.before.before.before.if2.false))
     (answers_number
-    (checkNodes (n d) (ars d) (qs d) 0 (nodeCount (qs d)) (atTheTop (length (cs d))))
+    (check_nodes (n d) (ars d) (qs d) 0 (node_count (qs d)) (at_the_top (length (cs d))))
     _
     (scopes c.check-nodes.new.1.1.1.0 c.check-nodes.new.1.1.1.1.0)
     (rw m at c.check-nodes.ensures))

@@ -4,12 +4,12 @@ use mathlib.Core.Path.{◌≡◌, refl, ◌∙◌}
 use mathlib.Core.List.{List}
 use native.Mathlib.Nat.{sub-zero}
 use native.Mathlib.Omega.{arith}
-use Rattle.query.specs.Words.{nodeCount}
+use Rattle.query.specs.Words.{node_count}
 use Rattle.query.specs.Scope.{Scopes}
-use Rattle.query.specs.Check.{Checked, passed, checkNode, checkNodes}
+use Rattle.query.specs.Check.{Checked, passed, check_node, check_nodes}
 use Rattle.calculus.specs.Reading.{refused, and_then}
 use Rattle.query.specs.Answers.{scopes, Long}
-use Rattle.query.proofs.Steps.{nodes-rest, answers-passed, answers-refused}
+use Rattle.query.proofs.Steps.{nodes_rest, answers-passed, answers-refused}
 use Rattle.query.proofs.Parts.{node-passed}
 use Rattle.query.proofs.check.check_nodes.Statement.{statement}
 use Rattle.query.proofs.check.check_nodes.Tie as tie
@@ -17,13 +17,13 @@ use Rattle.query.proofs.check.check_nodes.Tie as tie
 abbrev invariant-loop : tie.invariant-loop
 invariant-loop relations arities query named₀ masks₀ count node₀ named masks node =
     (node ≤ count) × Long (scopes named masks)
-    × (checkNodes relations arities query 0 count (scopes named₀ masks₀) ≡ checkNodes relations arities query node (count - node) (scopes named masks))
+    × (check_nodes relations arities query 0 count (scopes named₀ masks₀) ≡ check_nodes relations arities query node (count - node) (scopes named masks))
 
 abbrev decreases-loop : tie.decreases-loop
 decreases-loop relations arities query named₀ masks₀ count node₀ named masks node = count - node
 
-loop-holds : tie.Need-loop-init invariant-loop decreases-loop
-loop-holds c = (omega arith, c.before.requires.3, rw sub-zero)
+loop_holds : tie.Need-loop-init invariant-loop decreases-loop
+loop_holds c = (omega arith, c.before.requires.3, rw sub-zero)
 
 check-node-requires : tie.Need-check-node-requires invariant-loop decreases-loop
 check-node-requires c κs =
@@ -49,11 +49,11 @@ module _ (c : tie.After-check-node invariant-loop decreases-loop) where
   left = scopes c.check-node.new.1.1.1.1.0 c.check-node.new.1.1.1.1.1.0
 
   abbrev check : Checked
-  check = checkNode start.args.relations start.args.arities.now qs node known
+  check = check_node start.args.relations start.args.arities.now qs node known
 
-  seen : checkNodes start.args.relations start.args.arities.now qs 0 (nodeCount qs) (scopes start.args.named.now start.args.masks.now)
-      ≡ and_then check (λ first. checkNodes start.args.relations start.args.arities.now qs (node + 1) (nodeCount qs - (node + 1)))
-  seen = c.before.before.before.before.loop.invariant.2 ∙ nodes-rest _ _ qs (nodeCount qs) node known c.before.before.before.loop-test.true
+  seen : check_nodes start.args.relations start.args.arities.now qs 0 (node_count qs) (scopes start.args.named.now start.args.masks.now)
+      ≡ and_then check (λ first. check_nodes start.args.relations start.args.arities.now qs (node + 1) (node_count qs - (node + 1)))
+  seen = c.before.before.before.before.loop.invariant.2 ∙ nodes_rest _ _ qs (node_count qs) node known c.before.before.before.loop-test.true
 
   first : c.check-node.result ≡ 0 → check ≡ passed left
   first e = answers-passed check _ left c.check-node.ensures e
@@ -77,9 +77,9 @@ loop-again : tie.Need-loop-preserved invariant-loop decreases-loop
 loop-again c = (omega arith, long c.before c.if1.false, seen c.before ∙ rw (first c.before c.if1.false))
 
 returns-2 : tie.Need-returns-2 invariant-loop decreases-loop
-unfolding checkNodes
+unfolding check_nodes
 returns-2 c =
-    let e : nodeCount c.before.before.before.args.query.now - c.before.loop.node ≡ 0 = omega arith in
+    let e : node_count c.before.before.before.args.query.now - c.before.loop.node ≡ 0 = omega arith in
     rw (c.before.loop.invariant.2, e) (refl, refl)
 
 pub check-nodes-spec : {M : Type 1} → statement M
@@ -88,7 +88,7 @@ check-nodes-spec =
     (tie.spec
     invariant-loop
     decreases-loop
-    loop-holds
+    loop_holds
     check-node-requires
     returns
     add-node

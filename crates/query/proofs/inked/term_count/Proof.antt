@@ -2,9 +2,9 @@
 use Prim.Native.Nat.{◌<◌}
 use mathlib.Core.Path.{◌≡◌, refl, sym, ◌∙◌}
 use native.Mathlib.Omega.{arith}
-use Rattle.instance.specs.Header.{maxRelations}
-use Rattle.query.specs.Words.{rowStands, kind_of, word_at}
-use Rattle.query.proofs.KindTerms.{kind-one, kind-two, other-kind, first_word}
+use Rattle.instance.specs.Header.{max_relations}
+use Rattle.query.specs.Words.{row_stands, kind_of, word_at}
+use Rattle.query.proofs.KindTerms.{kind_one, kind-two, other-kind, first_word}
 use borrow.Author.Rules.{rules}
 use Rattle.query.proofs.inked.term_count.Statement.{statement}
 use Rattle.query.proofs.inked.term_count.Tie as tie
@@ -32,12 +32,12 @@ shared-slice-read-result c = search rules
 
 -- a node of kind 1 names one of the eight sheets
 module _ (c : tie.After-shared-slice-known2) where
-  one : kind_of (word_at c.before.before.before.args.query.now c.before.before.before.args.node 0) ≡ rowStands
+  one : kind_of (word_at c.before.before.before.args.query.now c.before.before.before.args.node 0) ≡ row_stands
   one =
       let a = c.before.before.before.args in
-      kind-one _ (first_word a.query.now a.node ∙ c.before.if1.true)
+      kind_one _ (first_word a.query.now a.node ∙ c.before.if1.true)
 
-  few : word_at c.before.before.before.args.query.now c.before.before.before.args.node 1 < maxRelations
+  few : word_at c.before.before.before.args.query.now c.before.before.before.args.node 1 < max_relations
   few = let p = c.before.before.before.requires in p.0.relations c.before.before.before.args.node p.1 one
 
 cast-result : tie.Need-overflow-cast-result

@@ -3,7 +3,7 @@ use Prim.Native.Nat.{◌+◌, ◌≤◌}
 use native.Mathlib.Omega.{arith}
 use borrow.Author.Rules.{rules}
 use lib.ListN.{length}
-use Rattle.query.proofs.KindTerms.{part-lent, terms-within, node_end}
+use Rattle.query.proofs.KindTerms.{part_lent, terms-within, node_end}
 use Rattle.query.proofs.inked.terms_of.Statement.{statement}
 use Rattle.query.proofs.inked.terms_of.Tie as tie
 
@@ -41,7 +41,7 @@ part-result-end : tie.Need-slice-bounds-result-end
 part-result-end c = omega (arith, ends c)
 
 returns : tie.Need-returns
-returns c = part-lent _ _ _ _ _ c.before.before.terms-start.ensures c.before.term-count.ensures
+returns c = part_lent _ _ _ _ _ c.before.before.terms-start.ensures c.before.term-count.ensures
 
 pub terms-of-spec : {M : Type 1} → statement M
 terms-of-spec =

@@ -4,7 +4,7 @@ use mathlib.Core.List.{[]}
 use native.Mathlib.Omega.{arith}
 use borrow.Author.Rules.{rules}
 use Rattle.query.specs.Words.{word_at}
-use Rattle.query.proofs.KindTerms.{kind-one, other-kind, first_word}
+use Rattle.query.proofs.KindTerms.{kind_one, other-kind, first_word}
 use Rattle.query.proofs.inked.terms_start.Statement.{statement}
 use Rattle.query.proofs.inked.terms_start.Tie as tie
 
@@ -26,7 +26,7 @@ add-result c = search rules
 returns : tie.Need-returns
 returns c =
     let a = c.before.before.args in
-    rw (kind-one (word_at a.query.now a.node 0) (first_word a.query.now a.node ∙ c.if1.true)) refl
+    rw (kind_one (word_at a.query.now a.node 0) (first_word a.query.now a.node ∙ c.if1.true)) refl
 
 mul-result-2 : tie.Need-overflow-mul-result-2
 mul-result-2 c = search rules

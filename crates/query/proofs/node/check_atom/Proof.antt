@@ -5,7 +5,7 @@ use mathlib.Core.Path.{refl, sym, ◌∙◌}
 use native.Mathlib.Omega.{arith}
 use borrow.Author.Tests.{lt-ltb, le-ltb, not-true, not-false}
 use lib.Dec.{lit<}
-use Rattle.instance.specs.Header.{arityOf, maxColumns}
+use Rattle.instance.specs.Header.{arity_of, max_columns}
 use Rattle.instance.proofs.Rows.{Headed, headed}
 use Rattle.query.specs.Words.{word_at}
 use borrow.Author.Rules.{rules}
@@ -41,7 +41,7 @@ module _ (c : tie.Else1) where
   head : Headed start.args.relations start.args.arities.now
   head = headed _ _ start.pre.0
 
-  columns : arityOf start.args.arities.now (word_at start.args.query.now start.args.node 1) ≤ maxColumns
+  columns : arity_of start.args.arities.now (word_at start.args.query.now start.args.node 1) ≤ max_columns
   columns = (head.columns _ c.if1.false).1
 
 element-copy-out-arity : tie.Need-element-copy-out-arity

@@ -2,17 +2,17 @@
 use mathlib.Core.Path.{refl}
 use borrow.Author.Tests.{lt-ltb, le-ltb, eq-eqb, ne_eqb}
 use lib.Dec.{lit<}
-use Rattle.query.specs.Check.{checkChild}
+use Rattle.query.specs.Check.{check_child}
 use borrow.Author.Rules.{rules}
 use Rattle.query.proofs.node.check_child.Statement.{statement}
 use Rattle.query.proofs.node.check_child.Tie as tie
 
 returns : tie.Need-returns
-unfolding checkChild
+unfolding check_child
 returns c = simp (le-ltb _ _ c.if1.true) (refl, lit< tt)
 
 returns-2 : tie.Need-returns-2
-unfolding checkChild
+unfolding check_child
 returns-2 c = simp (lt-ltb _ _ c.before.if1.false, le-ltb _ _ c.if2.true) (refl, lit< tt)
 
 mul-if3 : tie.Need-overflow-mul-if3
@@ -22,7 +22,7 @@ element-copy-out-if3 : tie.Need-element-copy-out-if3
 element-copy-out-if3 c = search rules
 
 returns-3 : tie.Need-returns-3
-unfolding checkChild
+unfolding check_child
 returns-3 c = simp (lt-ltb _ _ c.before.before.before.if1.false, lt-ltb _ _ c.before.before.if2.false, ne_eqb _ _ c.if3.true) (refl, lit< tt)
 
 mul-named : tie.Need-overflow-mul-named
@@ -38,7 +38,7 @@ element-write-masks : tie.Need-element-write-masks
 element-write-masks c = search rules
 
 returns-4 : tie.Need-returns-4
-unfolding checkChild
+unfolding check_child
 returns-4 c = simp (lt-ltb _ _ c.before.before.before.if1.false, lt-ltb _ _ c.before.before.if2.false, eq-eqb _ _ c.if3.false) (refl, refl)
 
 pub check-child-spec : {M : Type 1} → statement M

@@ -6,9 +6,9 @@ use lib.Dec.{lit<}
 use Prim.Native.Nat.{ℕ, ◌<◌}
 use mathlib.Core.Bool.{true}
 use mathlib.Core.List.{List}
-use Rattle.query.specs.Words.{word_at, nodeCount}
+use Rattle.query.specs.Words.{word_at, node_count}
 use Rattle.query.specs.Scope.{Scopes}
-use Rattle.query.specs.Check.{Checked, passed, restIsZero, checkChild}
+use Rattle.query.specs.Check.{Checked, passed, rest_is_zero, check_child}
 use Rattle.calculus.specs.Reading.{refused}
 use Rattle.query.specs.Answers.{scopes, Long}
 use native.Mathlib.Omega.{arith}
@@ -40,7 +40,7 @@ check-child-requires : tie.Need-check-child-requires
 check-child-requires c κs = search rules
 
 -- the unnamed words are 0
-zeros : (c : tie.Else1) → restIsZero c.before.before.before.args.query.now c.before.before.before.args.node 3 ≡ true
+zeros : (c : tie.Else1) → rest_is_zero c.before.before.before.args.query.now c.before.before.before.args.node 3 ≡ true
 zeros c = sym c.before.rest-is-zero.ensures ∙ not-false _ c.if1.false
 
 -- the left child
@@ -53,7 +53,7 @@ module _ (c : tie.After-check-child) where
 
   abbrev check : Checked
   check =
-      checkChild (nodeCount qs) start.args.mask start.args.node (word_at qs start.args.node 1)
+      check_child (node_count qs) start.args.mask start.args.node (word_at qs start.args.node 1)
       (scopes start.args.named.now start.args.masks.now)
 
   abbrev left : Scopes

@@ -6,9 +6,9 @@ use native.Mathlib.Omega.{arith}
 use borrow.Author.Tests.{ne_eqb}
 use lib.ListN.{get_or}
 use lib.Dec.{lit<}
-use Rattle.query.specs.Words.{Kind, rowStands, equals, negates, noKind, joins, ranges, kind_of, nodeWords}
+use Rattle.query.specs.Words.{Kind, row_stands, equals, negates, no_such_kind, joins, ranges, kind_of, node_words}
 use Rattle.query.specs.Scope.{Scopes}
-use Rattle.query.specs.Check.{checkBy, checkNode}
+use Rattle.query.specs.Check.{check_by, check_node}
 use Rattle.query.specs.Answers.{scopes}
 use Rattle.query.proofs.Steps.{node_by, joined, ranged, no_kind}
 use borrow.Author.Rules.{rules}
@@ -22,7 +22,7 @@ element-copy-out-if1 : tie.Need-element-copy-out-if1
 element-copy-out-if1 c = search rules
 
 returns : tie.Need-returns
-unfolding checkNode
+unfolding check_node
 returns c = rw (ne_eqb _ _ c.if1.true) (refl, lit< tt)
 
 mul-mask : tie.Need-overflow-mul-mask
@@ -73,11 +73,11 @@ module _ (c : tie.After-shared-slice-known2) where
   s = scopes start.args.named.now start.args.masks.now
 
   abbrev kind : ℕ
-  kind = get_or qs (start.args.node * nodeWords) 0
+  kind = get_or qs (start.args.node * node_words) 0
 
   by : (k : Kind) → kind_of kind ≡ k
-      → checkNode n ars qs start.args.node s
-      ≡ checkBy n ars qs start.args.node (get_or s.masks start.args.node 0) s k
+      → check_node n ars qs start.args.node s
+      ≡ check_by n ars qs start.args.node (get_or s.masks start.args.node 0) s k
   by k e = node_by _ _ qs start.args.node s k c.before.before.if1.false e
 
 -- a kind that is none of the first three
@@ -92,7 +92,7 @@ returns-2 : tie.Need-returns-2
 unfolding kind_of
 returns-2 c =
     let d = c.before.before in
-    rw (by d rowStands (ap kind_of c.before.match.keys1)) (c.check-atom.ensures (s d))
+    rw (by d row_stands (ap kind_of c.before.match.keys1)) (c.check-atom.ensures (s d))
 
 returns-3 : tie.Need-returns-3
 unfolding kind_of
@@ -123,10 +123,10 @@ unfolding kind_of
 returns-7 c =
     let d = c.before.before in
     let z : kind d ≡ 0 = omega (arith, c.if2.true) in
-    rw (by d noKind (ap kind_of z)) (refl, lit< tt)
+    rw (by d no_such_kind (ap kind_of z)) (refl, lit< tt)
 
 returns-8 : tie.Need-returns-8
-returns-8 c = rw (by c.before.before.before.before noKind (no_kind _ c.if4.false)) (refl, lit< tt)
+returns-8 c = rw (by c.before.before.before.before no_such_kind (no_kind _ c.if4.false)) (refl, lit< tt)
 
 pub check-node-spec : {M : Type 1} → statement M
 check-node-spec =

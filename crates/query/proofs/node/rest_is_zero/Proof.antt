@@ -3,20 +3,20 @@ use Prim.Native.Nat.{◌≤◌, ◌-◌}
 use mathlib.Core.Path.{◌≡◌, refl, ◌∙◌}
 use native.Mathlib.Omega.{arith}
 use borrow.Author.Tests.{eq-eqb, ne_eqb}
-use Rattle.query.specs.Words.{nodeWords}
-use Rattle.query.specs.Check.{zerosFrom, restIsZero}
-use Rattle.query.proofs.Steps.{zeros-rest}
+use Rattle.query.specs.Words.{node_words}
+use Rattle.query.specs.Check.{zeros_from, rest_is_zero}
+use Rattle.query.proofs.Steps.{zeros_rest}
 use Rattle.query.proofs.node.rest_is_zero.Statement.{statement}
 use Rattle.query.proofs.node.rest_is_zero.Tie as tie
 
 abbrev invariant-loop : tie.invariant-loop
-invariant-loop query node from j₀ j = (j ≤ nodeWords) × (restIsZero query node from ≡ zerosFrom query node j (nodeWords - j))
+invariant-loop query node from j₀ j = (j ≤ node_words) × (rest_is_zero query node from ≡ zeros_from query node j (node_words - j))
 
 abbrev decreases-loop : tie.decreases-loop
-decreases-loop query node from j₀ j = nodeWords - j
+decreases-loop query node from j₀ j = node_words - j
 
-loop-holds : tie.Need-loop-init invariant-loop decreases-loop
-loop-holds c = (omega arith, refl)
+loop_holds : tie.Need-loop-init invariant-loop decreases-loop
+loop_holds c = (omega arith, refl)
 
 mul-if1 : tie.Need-overflow-mul-if1 invariant-loop decreases-loop
 mul-if1 c = omega arith
@@ -31,7 +31,7 @@ shared-slice-read-if1 : tie.Need-shared-slice-read-if1 invariant-loop decreases-
 shared-slice-read-if1 c = omega arith
 
 returns : tie.Need-returns invariant-loop decreases-loop
-returns c = rw (c.before.before.before.loop.invariant.1, zeros-rest _ _ _ c.before.before.loop-test.true, ne_eqb _ _ c.if1.true)
+returns c = rw (c.before.before.before.loop.invariant.1, zeros_rest _ _ _ c.before.before.loop-test.true, ne_eqb _ _ c.if1.true)
 
 add-j : tie.Need-overflow-add-j invariant-loop decreases-loop
 add-j c = omega arith
@@ -40,11 +40,11 @@ loop-less : tie.Need-loop-smaller invariant-loop decreases-loop
 loop-less c = omega arith
 
 loop-again : tie.Need-loop-preserved invariant-loop decreases-loop
-loop-again c = (omega arith, c.before.before.before.loop.invariant.1 ∙ rw (zeros-rest _ _ _ c.before.before.loop-test.true, eq-eqb _ _ c.if1.false))
+loop-again c = (omega arith, c.before.before.before.loop.invariant.1 ∙ rw (zeros_rest _ _ _ c.before.before.loop-test.true, eq-eqb _ _ c.if1.false))
 
 returns-2 : tie.Need-returns-2 invariant-loop decreases-loop
-unfolding zerosFrom
-returns-2 c = let e : nodeWords - c.before.loop.j ≡ 0 = omega arith in rw (c.before.loop.invariant.1, e)
+unfolding zeros_from
+returns-2 c = let e : node_words - c.before.loop.j ≡ 0 = omega arith in rw (c.before.loop.invariant.1, e)
 
 pub rest-is-zero-spec : {M : Type 1} → statement M
 rest-is-zero-spec =
@@ -52,7 +52,7 @@ rest-is-zero-spec =
     (tie.spec
     invariant-loop
     decreases-loop
-    loop-holds
+    loop_holds
     mul-if1
     add-if1
     mul-if1-2

@@ -3,7 +3,7 @@ use Prim.Native.Nat.{ℕ, ◌≤◌, ◌+◌, ◌-◌}
 use mathlib.Core.Path.{◌≡◌, refl, sym, ◌∙◌}
 use mathlib.Core.Bool.{Bool, true, false}
 use mathlib.Core.List.{List}
-use Rattle.calculus.specs.Refusal.{bad-node, unbound-variable}
+use Rattle.calculus.specs.Refusal.{bad_node, unbound_variable}
 use native.Mathlib.Omega.{arith}
 use native.Mathlib.Nat.{add-zero, sub-zero}
 use borrow.Author.Rules.{rules}
@@ -11,21 +11,21 @@ use borrow.Author.Tests.{not-true, not-false}
 use lib.Dec.{lit<}
 use Rattle.query.specs.Words.{word_at}
 use Rattle.query.specs.Scope.{Scopes}
-use Rattle.query.specs.Check.{isTerm, isBound, checkTerms}
+use Rattle.query.specs.Check.{is_term, is_bound, check_terms}
 use Rattle.calculus.specs.Demand.{demand}
-use Rattle.query.proofs.Steps.{terms-rest}
+use Rattle.query.proofs.Steps.{terms_rest}
 use Rattle.query.proofs.term.check_terms.Statement.{statement}
 use Rattle.query.proofs.term.check_terms.Tie as tie
 use Rattle.calculus.specs.Reading.{refused}
 
 abbrev invariant-loop : tie.invariant-loop
-invariant-loop query mask node from count k₀ k = (k ≤ count) × ((s : Scopes) → checkTerms query mask node from count s ≡ checkTerms query mask node (from + k) (count - k) s)
+invariant-loop query mask node from count k₀ k = (k ≤ count) × ((s : Scopes) → check_terms query mask node from count s ≡ check_terms query mask node (from + k) (count - k) s)
 
 abbrev decreases-loop : tie.decreases-loop
 decreases-loop query mask node from count k₀ k = count - k
 
-loop-holds : tie.Need-loop-init invariant-loop decreases-loop
-loop-holds c = (omega arith, λ s. simp (add-zero, sub-zero))
+loop_holds : tie.Need-loop-init invariant-loop decreases-loop
+loop_holds c = (omega arith, λ s. simp (add-zero, sub-zero))
 
 mul-w : tie.Need-overflow-mul-w invariant-loop decreases-loop
 mul-w c = omega arith
@@ -59,26 +59,26 @@ module _ (c : tie.After-is-term invariant-loop decreases-loop) where
   abbrev w : ℕ
   w = word_at qs start.args.node (start.args.from + k)
 
-  is-term : (b : Bool) → c.is-term.result ≡ b → isTerm w ≡ b
-  is-term b e = sym c.is-term.ensures ∙ e
+  is_term_lem : (b : Bool) → c.is_term_lem.result ≡ b → is_term w ≡ b
+  is_term_lem b e = sym c.is_term_lem.ensures ∙ e
 
   seen : (s : Scopes)
-      → checkTerms qs start.args.mask start.args.node start.args.from start.args.count s
-      ≡ demand (isTerm w) (refused bad-node)
-      (demand (isBound start.args.mask w) (refused unbound-variable)
-      (checkTerms qs start.args.mask start.args.node (start.args.from + (k + 1)) (start.args.count - (k + 1)) s))
-  seen s = c.before.before.before.loop.invariant.1 s ∙ terms-rest _ _ _ _ _ _ s (omega arith)
+      → check_terms qs start.args.mask start.args.node start.args.from start.args.count s
+      ≡ demand (is_term w) (refused bad_node)
+      (demand (is_bound start.args.mask w) (refused unbound_variable)
+      (check_terms qs start.args.mask start.args.node (start.args.from + (k + 1)) (start.args.count - (k + 1)) s))
+  seen s = c.before.before.before.loop.invariant.1 s ∙ terms_rest _ _ _ _ _ _ s (omega arith)
 
 returns : tie.Need-returns invariant-loop decreases-loop
-returns c = λ s. rw (seen c.before s, is-term c.before false (not-true _ c.if1.true)) (refl, lit< tt)
+returns c = λ s. rw (seen c.before s, is_term_lem c.before false (not-true _ c.if1.true)) (refl, lit< tt)
 
 is-bound-requires : tie.Need-is-bound-requires invariant-loop decreases-loop
-is-bound-requires c κs = is-term c.before true (not-false _ c.if1.false)
+is-bound-requires c κs = is_term_lem c.before true (not-false _ c.if1.false)
 
 returns-2 : tie.Need-returns-2 invariant-loop decreases-loop
 returns-2 c =
     λ s.
-    let e = is-term c.before.before.before true (not-false _ c.before.before.if1.false) in
+    let e = is_term_lem c.before.before.before true (not-false _ c.before.before.if1.false) in
     rw (seen c.before.before.before s, e, sym c.before.is_bound.ensures ∙ not-true _ c.if2.true) (refl, lit< tt)
 
 add-k : tie.Need-overflow-add-k invariant-loop decreases-loop
@@ -91,12 +91,12 @@ loop-again : tie.Need-loop-preserved invariant-loop decreases-loop
 loop-again c = (
   omega arith,
   λ s.
-      let e = is-term c.before.before.before true (not-false _ c.before.before.if1.false) in
+      let e = is_term_lem c.before.before.before true (not-false _ c.before.before.if1.false) in
       seen c.before.before.before s ∙ rw (e, sym c.before.is_bound.ensures ∙ not-false _ c.if2.false),
 )
 
 returns-3 : tie.Need-returns-3 invariant-loop decreases-loop
-unfolding checkTerms
+unfolding check_terms
 returns-3 c =
     λ s.
     let e : c.before.before.before.args.count - c.before.loop.k ≡ 0 = omega arith in
@@ -108,7 +108,7 @@ check-terms-spec =
     (tie.spec
     invariant-loop
     decreases-loop
-    loop-holds
+    loop_holds
     mul-w
     add-w
     add-w-2

@@ -13,8 +13,8 @@ invariant-loop n last query₀ i₀ query i = (length query ≡ 808) × (i ≤ n
 abbrev decreases-loop : tie.decreases-loop
 decreases-loop n last query₀ i₀ query i = n - i
 
-loop-holds : tie.Need-loop-init invariant-loop decreases-loop
-loop-holds c = search rules
+loop_holds : tie.Need-loop-init invariant-loop decreases-loop
+loop_holds c = search rules
 
 mul_at : tie.Need-overflow-mul-at invariant-loop decreases-loop
 mul_at c = omega arith
@@ -91,7 +91,7 @@ chain-spec =
     (tie.spec
     invariant-loop
     decreases-loop
-    loop-holds
+    loop_holds
     mul_at
     add-i
     mul-query

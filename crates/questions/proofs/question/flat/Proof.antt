@@ -13,8 +13,8 @@ invariant-loop nodes words₀ i₀ words i = (i ≤ 56) × (length words ≡ 56)
 abbrev decreases-loop : tie.decreases-loop
 decreases-loop nodes words₀ i₀ words i = 56 - i
 
-loop-holds : tie.Need-loop-init invariant-loop decreases-loop
-loop-holds c = (omega arith, length-replicate {A = ℕ} 56 0)
+loop_holds : tie.Need-loop-init invariant-loop decreases-loop
+loop_holds c = (omega arith, length-replicate {A = ℕ} 56 0)
 
 mul_words : tie.Need-overflow-mul-words invariant-loop decreases-loop
 mul_words c = omega arith
@@ -52,7 +52,7 @@ flat-spec =
     (tie.spec
     invariant-loop
     decreases-loop
-    loop-holds
+    loop_holds
     mul_words
     mul-words-2
     index-1-words

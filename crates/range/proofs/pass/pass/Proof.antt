@@ -3,7 +3,7 @@ use Prim.Native.Nat.{◌%◌}
 use native.Mathlib.Omega.{arith}
 use borrow.Author.Rules.{rules}
 use Rattle.calculus.proofs.Bits.{shifted}
-use Rattle.range.proofs.Places.{set-flag}
+use Rattle.range.proofs.Places.{set_flag}
 use Rattle.range.proofs.pass.pass.Statement.{statement}
 use Rattle.range.proofs.pass.pass.Tie as tie
 
@@ -34,7 +34,7 @@ element-write-known c = search rules
 returns : tie.Need-returns
 returns c =
     let a = c.before.args in
-    rw (shifted (a.place % 32) (omega arith)) (set-flag a.known.now a.place (omega arith))
+    rw (shifted (a.place % 32) (omega arith)) (set_flag a.known.now a.place (omega arith))
 
 pub pass_spec : {M : Type 1} → statement M
 pass_spec = tie.close (tie.spec cast-v add-known mul-known element-copy-out-known shl-known add-known-2 mul-known-2 element-write-known returns)

@@ -7,7 +7,7 @@ use borrow.Author.Rules.{rules}
 use lib.ListN.{get_or, set}
 use Rattle.calculus.specs.Listed.{listed}
 use Rattle.range.specs.Cache.{head_of, Head, Cached}
-use Rattle.range.specs.Flagged.{Flagged, stoodBefore}
+use Rattle.range.specs.Flagged.{Flagged, stood_before}
 use Rattle.range.proofs.Cache.{cached-cell}
 use Rattle.range.proofs.pass.pass_again.Statement.{statement}
 use Rattle.range.proofs.pass.pass_again.Tie as tie
@@ -29,15 +29,15 @@ module _ (c : tie.Start) where
   cell = get_or ws place 0
 
   abbrev vs : List ℕ
-  vs = stoodBefore known ws place
+  vs = stood_before known ws place
 
   -- the cell's head
   head_at : (bucket : ℕ) → bucket ≡ head_of cell → Head ws vs place cell (get_or heads bucket 0)
-  head_at bucket e = rw e (c.requires.1.heads-of cell)
+  head_at bucket e = rw e (c.requires.1.heads_of cell)
 
   -- what is promised, once the flag is right
   done : (bucket : ℕ) → bucket ≡ head_of cell → (after : List ℕ) → Flagged known place (listed cell vs) after
-      → Flagged known place (listed cell vs) after × Cached (set heads bucket (place + 1)) ws (stoodBefore after ws (place + 1)) (place + 1)
+      → Flagged known place (listed cell vs) after × Cached (set heads bucket (place + 1)) ws (stood_before after ws (place + 1)) (place + 1)
   done bucket e after f = (f, cached-cell bucket e c.requires.0.1 c.requires.1 f)
 
 abbrev from : tie.After-bucket-of → tie.Start

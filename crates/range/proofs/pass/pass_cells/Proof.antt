@@ -5,10 +5,10 @@ use mathlib.Core.List.{List}
 use mathlib.Core.Logic.{⊎_elim}
 use native.Mathlib.Omega.{arith}
 use lib.ListN.{length, get_or}
-use Rattle.instance.specs.Header.{arityOf, maxRelations}
+use Rattle.instance.specs.Header.{arity_of, max_relations}
 use Rattle.instance.specs.InstanceWellFormed.{InstanceOf}
 use Rattle.instance.proofs.Walk.{relation-few}
-use Rattle.known.specs.Known.{knownWords, aritiesIn}
+use Rattle.known.specs.Known.{known_words, arities_in}
 use Rattle.known.proofs.Parts.{arities-kept}
 use Rattle.range.proofs.Passing.{Passing, passing-starts, passing-relation, passing-row, passing-cell, passing-ends, passing-cached}
 use Rattle.range.proofs.pass.pass_cells.Statement.{statement}
@@ -16,17 +16,17 @@ use Rattle.range.proofs.pass.pass_cells.Tie as tie
 
 abbrev invariant-loop : tie.invariant-loop
 invariant-loop words known₀ heads₀ left₀ more₀ known heads left more =
-    (g : InstanceOf (aritiesIn known₀) words) × Passing g.relations (aritiesIn known₀) words known₀ known heads left (length words - more) × (more ≤ length words)
+    (g : InstanceOf (arities_in known₀) words) × Passing g.relations (arities_in known₀) words known₀ known heads left (length words - more) × (more ≤ length words)
 
 abbrev decreases-loop : tie.decreases-loop
 decreases-loop words known₀ heads₀ left₀ more₀ known heads left more = more
 
-loop-holds : tie.Need-loop-init invariant-loop decreases-loop
-loop-holds c =
+loop_holds : tie.Need-loop-init invariant-loop decreases-loop
+loop_holds c =
     let p = c.before.requires in
     let ws = c.before.args.words.now in
     let none : length ws - length ws ≡ 0 = omega arith in
-    (p.0.0, rw (none, p.0.1) (passing-starts _ _ _ _ p.0.0.well-formed.words p.1.1), omega arith)
+    (p.0.0, rw (none, p.0.1) (passing-starts _ _ _ _ p.0.0.well_formed.words p.1.1), omega arith)
 
 module _ (c : tie.In-loop invariant-loop decreases-loop) where
   abbrev start : tie.Start invariant-loop decreases-loop
@@ -53,23 +53,23 @@ module _ (c : tie.In-loop invariant-loop decreases-loop) where
   next : length ws - (more - 1) ≡ i + 1
   next = omega (arith, c.loop-test.true, c.before.loop.invariant.2)
 
-  abbrev given : InstanceOf (aritiesIn before) ws
+  abbrev given : InstanceOf (arities_in before) ws
   given = c.before.loop.invariant.0
 
-  abbrev so_far : Passing given.relations (aritiesIn before) ws before known c.before.loop.heads c.before.loop.left i
+  abbrev so_far : Passing given.relations (arities_in before) ws before known c.before.loop.heads c.before.loop.left i
   so_far = c.before.loop.invariant.1
 
-  long : length known ≡ knownWords
+  long : length known ≡ known_words
   long = so_far.size ∙ start.pre.1.0
 
   low : i < 4096
-  low = omega (arith, inside, given.well-formed.few)
+  low = omega (arith, inside, given.well_formed.few)
 
-  few : c.before.loop.left ≡ 0 → get_or ws i 0 < maxRelations
-  few e = relation-few given.relations (aritiesIn before) ws (get_or ws i 0) given.well-formed (passing-relation so_far inside e)
+  few : c.before.loop.left ≡ 0 → get_or ws i 0 < max_relations
+  few e = relation-few given.relations (arities_in before) ws (get_or ws i 0) given.well_formed (passing-relation so_far inside e)
 
-  arity : arityOf (aritiesIn known) (get_or ws i 0) ≡ arityOf (aritiesIn before) (get_or ws i 0)
-  arity = ap (λ (l : List ℕ). arityOf l (get_or ws i 0)) (arities-kept known before long start.pre.1.0 so_far.kept)
+  arity : arity_of (arities_in known) (get_or ws i 0) ≡ arity_of (arities_in before) (get_or ws i 0)
+  arity = ap (λ (l : List ℕ). arity_of l (get_or ws i 0)) (arities-kept known before long start.pre.1.0 so_far.kept)
 
 sub-i : tie.Need-overflow-sub-i invariant-loop decreases-loop
 sub-i c = c.before.loop.invariant.2
@@ -129,7 +129,7 @@ pass-cells-spec =
     (tie.spec
     invariant-loop
     decreases-loop
-    loop-holds
+    loop_holds
     sub-i
     mul-arity-in
     shared-slice-read-arity-in

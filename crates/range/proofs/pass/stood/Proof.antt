@@ -7,7 +7,7 @@ use borrow.Author.Tests.{not-true, not-false}
 use lib.ListN.{length, drop}
 use Rattle.calculus.specs.Listed.{listed}
 use Rattle.known.specs.Known.{unpassed}
-use Rattle.range.proofs.Places.{scan-here, scan-other, scan-passed, scan-end}
+use Rattle.range.proofs.Places.{scan_here, scan_other, scan_passed, scan_end}
 use Rattle.range.proofs.pass.stood.Statement.{statement}
 use Rattle.range.proofs.pass.stood.Tie as tie
 
@@ -17,8 +17,8 @@ invariant-loop known first words cell j₀ j = listed cell (unpassed known first
 abbrev decreases-loop : tie.decreases-loop
 decreases-loop known first words cell j₀ j = length words - j
 
-loop-holds : tie.Need-loop-init invariant-loop decreases-loop
-loop-holds c = let e : c.before.args.first + 0 ≡ c.before.args.first = omega arith in rw e refl
+loop_holds : tie.Need-loop-init invariant-loop decreases-loop
+loop_holds c = let e : c.before.args.first + 0 ≡ c.before.args.first = omega arith in rw e refl
 
 mul-if1 : tie.Need-overflow-mul-if1 invariant-loop decreases-loop
 mul-if1 c = omega arith
@@ -36,7 +36,7 @@ returns : tie.Need-returns invariant-loop decreases-loop
 returns c =
     let l = c.before.before.before.before in
     let clear = sym c.before.passed.ensures ∙ not-true _ c.if2.true in
-    sym (l.before.loop.invariant ∙ scan-here _ _ _ _ _ l.loop-test.true c.before.before.if1.true clear)
+    sym (l.before.loop.invariant ∙ scan_here _ _ _ _ _ l.loop-test.true c.before.before.if1.true clear)
 
 add-j : tie.Need-overflow-add-j invariant-loop decreases-loop
 add-j c = omega arith
@@ -49,12 +49,12 @@ loop-again c =
     let b = c.before.before in
     b.before.loop.invariant ∙
     ⊎_elim
-    (λ a. scan-passed _ _ _ _ _ b.loop-test.true (sym a.1.ensures ∙ not-false _ a.2.left))
-    (λ a. scan-other _ _ _ _ _ b.loop-test.true a.left)
+    (λ a. scan_passed _ _ _ _ _ b.loop-test.true (sym a.1.ensures ∙ not-false _ a.2.left))
+    (λ a. scan_other _ _ _ _ _ b.loop-test.true a.left)
     c.if1.branch
 
 returns-2 : tie.Need-returns-2 invariant-loop decreases-loop
-returns-2 c = sym (c.before.loop.invariant ∙ scan-end _ _ _ _ _ c.loop-test.false)
+returns-2 c = sym (c.before.loop.invariant ∙ scan_end _ _ _ _ _ c.loop-test.false)
 
 pub stood-spec : {M : Type 1} → statement M
-stood-spec = tie.close (tie.spec invariant-loop decreases-loop loop-holds mul-if1 shared-slice-read-if1 add-passed passed-requires returns add-j loop-less loop-again returns-2)
+stood-spec = tie.close (tie.spec invariant-loop decreases-loop loop_holds mul-if1 shared-slice-read-if1 add-passed passed-requires returns add-j loop-less loop-again returns-2)

@@ -5,7 +5,7 @@ use native.Mathlib.Omega.{arith}
 use borrow.Author.Rules.{rules}
 use lib.Seq.{length-take-le}
 use Rattle.calculus.specs.Listed.{listed}
-use Rattle.range.specs.Flagged.{stoodBefore}
+use Rattle.range.specs.Flagged.{stood_before}
 use Rattle.range.proofs.pass.stood_earlier.Statement.{statement}
 use Rattle.range.proofs.pass.stood_earlier.Tie as tie
 
@@ -25,7 +25,7 @@ returns-2 : tie.Need-returns-2
 returns-2 c =
     let s = c.before.before.before.before in
     let a = s.args in
-    let vs = stoodBefore a.known.now a.words.now a.place in
+    let vs = stood_before a.known.now a.words.now a.place in
     sym (ap (λ (x : ℕ). listed x vs) (sym c.if2.true) ∙ s.requires.1.stood (omega (arith, c.before.before.if1.false)))
 
 slice-aggregate-stood : tie.Need-slice-aggregate-stood

@@ -8,7 +8,7 @@ use borrow.Author.Tests.{not-true, not-false, le-ltb}
 use lib.ListN.{length, get_or}
 use lib.Seq.{length-take-le, take-length}
 use Rattle.range.specs.Cache.{head_of, Head}
-use Rattle.range.specs.Flagged.{stoodBefore}
+use Rattle.range.specs.Flagged.{stood_before}
 use Rattle.range.proofs.Asked.{not_new, new-here}
 use Rattle.range.proofs.terms.is_new.Statement.{statement}
 use Rattle.range.proofs.terms.is_new.Tie as tie
@@ -46,10 +46,10 @@ module _ (c : tie.After-bucket-of) where
   abbrev w : ℕ
   w = get_or start.args.query.now start.args.place 0
 
-  found : Head start.args.words.now (stoodBefore start.args.known.now start.args.words.now (length start.args.words.now)) (length start.args.words.now) w (get_or start.args.heads.now (c.bucket-of.result / 2) 0)
+  found : Head start.args.words.now (stood_before start.args.known.now start.args.words.now (length start.args.words.now)) (length start.args.words.now) w (get_or start.args.heads.now (c.bucket-of.result / 2) 0)
   found =
       let half : c.bucket-of.result / 2 ≡ head_of w = ap (λ (k : ℕ). k / 2) c.bucket-of.ensures in
-      rw (half, take-length start.args.words.now) (start.pre.0.cached.heads-of w)
+      rw (half, take-length start.args.words.now) (start.pre.0.cached.heads_of w)
 
 cast-head : tie.Need-overflow-cast-head
 cast-head c = omega (arith, (found c.before).within)

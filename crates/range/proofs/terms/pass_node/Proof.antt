@@ -7,23 +7,23 @@ use mathlib.Core.List.{List}
 use native.Mathlib.Omega.{arith}
 use borrow.Author.Rules.{rules}
 use lib.ListN.{length, take, drop}
-use Rattle.known.specs.Known.{flagAt}
-use Rattle.query.specs.Words.{nodeWords}
-use Rattle.query.specs.Named.{constantsAmong}
+use Rattle.known.specs.Known.{flag_at}
+use Rattle.query.specs.Words.{node_words}
+use Rattle.query.specs.Named.{constants_among}
 use Rattle.range.specs.Flagged.{Flagged, Passed}
-use Rattle.range.proofs.Asked.{passed-starts, among_first, among-last, asking-kept, node-step}
+use Rattle.range.proofs.Asked.{passed-starts, among_first, among_last, asking-kept, node-step}
 use Rattle.range.proofs.terms.pass_node.Statement.{statement}
 use Rattle.range.proofs.terms.pass_node.Tie as tie
 
 abbrev invariant-loop : tie.invariant-loop
 invariant-loop words query known₀ heads first start end place₀ known place =
-    (first ≤ place) × (place ≤ first + 8) × Passed words query known₀ first (constantsAmong (take (place - start) (take (end - start) (drop start query)))) known place
+    (first ≤ place) × (place ≤ first + 8) × Passed words query known₀ first (constants_among (take (place - start) (take (end - start) (drop start query)))) known place
 
 abbrev decreases-loop : tie.decreases-loop
 decreases-loop words query known₀ heads first start end place₀ known place = first + 8 - place
 
-loop-holds : tie.Need-loop-init invariant-loop decreases-loop
-loop-holds c =
+loop_holds : tie.Need-loop-init invariant-loop decreases-loop
+loop_holds c =
     let s = c.before.before in
     let a = s.args in
     let p = s.requires.1 in (
@@ -37,11 +37,11 @@ add-loop : tie.Need-overflow-add-loop invariant-loop decreases-loop
 add-loop c = omega (arith, c.before.before.before.requires.1.3)
 
 -- the flag of a word that is not new is set, and that of a new one stays
-not-new-flag : (new : Bool) → not new ≡ true → true ≡ not new
-not-new-flag new e = sym e
+not_new_flag : (new : Bool) → not new ≡ true → true ≡ not new
+not_new_flag new e = sym e
 
-kept-flag : {known : List ℕ} {p : ℕ} (new : Bool) → not new ≡ false → flagAt known p ≡ false → Flagged known p (not new) known
-kept-flag new e clear = record { size = refl; kept = refl; here = clear ∙ sym e; other = λ q ne. refl }
+kept_flag : {known : List ℕ} {p : ℕ} (new : Bool) → not new ≡ false → flag_at known p ≡ false → Flagged known p (not new) known
+kept_flag new e clear = record { size = refl; kept = refl; here = clear ∙ sym e; other = λ q ne. refl }
 
 -- the word at `place`
 module _ (c : tie.After-is-new invariant-loop decreases-loop) where
@@ -60,7 +60,7 @@ module _ (c : tie.After-is-new invariant-loop decreases-loop) where
   abbrev known : List ℕ
   known = c.before.before.before.before.loop.known
 
-  abbrev so_far : Passed ws qs from.args.known.now from.args.first (constantsAmong (take (place - from.args.start) (take (from.args.end - from.args.start) (drop from.args.start qs)))) known place
+  abbrev so_far : Passed ws qs from.args.known.now from.args.first (constants_among (take (place - from.args.start) (take (from.args.end - from.args.start) (drop from.args.start qs)))) known place
   so_far = c.before.before.before.before.loop.invariant.2
 
   inside : place < length qs
@@ -69,7 +69,7 @@ module _ (c : tie.After-is-new invariant-loop decreases-loop) where
   -- the flag is set unless the word is new
   next :
       (after : List ℕ) → Flagged known (length ws + place) (not c.is-new.result) after →
-      Passed ws qs from.args.known.now from.args.first (constantsAmong (take (place + 1 - from.args.start) (take (from.args.end - from.args.start) (drop from.args.start qs)))) after (place + 1)
+      Passed ws qs from.args.known.now from.args.first (constants_among (take (place + 1 - from.args.start) (take (from.args.end - from.args.start) (drop from.args.start qs)))) after (place + 1)
   next after f =
       let p = from.pre.1 in
       node-step from.args.start from.args.end p.1 (omega (arith, p.2, p.3)) inside so_far c.before.before.between.result c.before.before.between.ensures
@@ -103,8 +103,8 @@ loop-again c =
       omega (arith, b.before.before.before.before.loop.invariant.0),
       omega (arith, b.before.before.before.loop-test.true),
       ⊎_elim
-          (λ a. rw a.3 (next b _ (rw (not-new-flag b.is-new.result a.0.taken) at a.2.ensures)))
-          (λ a. rw a.1 (next b _ (kept-flag b.is-new.result a.0.left ((so_far b).later (length (ws b) + place b) (omega arith)))))
+          (λ a. rw a.3 (next b _ (rw (not_new_flag b.is-new.result a.0.taken) at a.2.ensures)))
+          (λ a. rw a.1 (next b _ (kept_flag b.is-new.result a.0.left ((so_far b).later (length (ws b) + place b) (omega arith)))))
           c.if1.branch,
     )
 
@@ -113,8 +113,8 @@ returns c =
     let s = c.before.before.before.before in
     let a = s.args in
     let p = s.requires.1 in
-    let e : c.before.loop.place ≡ a.first + nodeWords = omega (arith, c.before.loop.invariant.1, c.loop-test.false) in
-    let all = rw (among-last a.query.now a.start a.end c.before.loop.place p.1 (omega (arith, p.2, p.3)) (omega (arith, e, p.2))) at c.before.loop.invariant.2 in
+    let e : c.before.loop.place ≡ a.first + node_words = omega (arith, c.before.loop.invariant.1, c.loop-test.false) in
+    let all = rw (among_last a.query.now a.start a.end c.before.loop.place p.1 (omega (arith, p.2, p.3)) (omega (arith, e, p.2))) at c.before.loop.invariant.2 in
     rw e at all
 
 pub pass-node-spec : {M : Type 1} → statement M
@@ -123,7 +123,7 @@ pass-node-spec =
     (tie.spec
     invariant-loop
     decreases-loop
-    loop-holds
+    loop_holds
     add-loop
     between-requires
     is-new-requires

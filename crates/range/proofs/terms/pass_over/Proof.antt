@@ -19,7 +19,7 @@ pass-terms-requires : tie.Need-pass-terms-requires
 pass-terms-requires c κs =
     let s = c.before.before.before.before.before.before.before in
     let done = c.before.before.pass-cells.ensures in (
-      record { size = done.0.0; short = s.requires.0.0.well-formed.few; few = s.requires.0.3; cached = done.1.1 },
+      record { size = done.0.0; short = s.requires.0.0.well_formed.few; few = s.requires.0.3; cached = done.1.1 },
       λ q l. done.1.0 q ∙ none-behind _ s.args.words.now q l,
       s.requires.0.1,
     )

@@ -13,7 +13,7 @@ use Rattle.calculus.specs.Cell.{nulls, put}
 use Rattle.calculus.specs.Model.{Fill}
 use Rattle.calculus.proofs.Bools.{and_parts}
 use Rattle.instance.specs.declared.header.Header.{Header}
-use Rattle.instance.specs.Header.{maxWords}
+use Rattle.instance.specs.Header.{max_words}
 use Rattle.instance.proofs.Accepted.{substitute-accepted}
 use Rattle.rerun.specs.Fills.{wanted, fed}
 use Rattle.rerun.proofs.FillLaws.{count-few, same-filled}
@@ -44,7 +44,7 @@ module _ (c : tie.After-fill-instance) where
   abbrev left : Answer → List ℕ
   left a = after a (map (put f.mark f.cell) start.args.candidate.now) start.args.candidate.now
 
-  few : (k : ℕ) → c.fill-instance.result.answer ≡ Done k → k ≤ maxWords
+  few : (k : ℕ) → c.fill-instance.result.answer ≡ Done k → k ≤ max_words
   few k e = count-few h f ws k (sym c.fill-instance.ensures.0 ∙ e)
 
 replace-requires : tie.Need-replace-requires

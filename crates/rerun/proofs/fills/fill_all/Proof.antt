@@ -6,22 +6,22 @@ use native.Mathlib.Omega.{arith}
 use borrow.Author.Rules.{rules}
 use lib.ListN.{length, take, drop, length-drop}
 use Rattle.calculus.specs.declared.answer.Answer.{Answer}
-use Rattle.instance.proofs.Parts.{part_to_end, put-to-end}
-use Rattle.rerun.specs.Fills.{filledWith, answerWords}
-use Rattle.rerun.proofs.FillLaws.{wantedAt, Going, begin, step, finish}
+use Rattle.instance.proofs.Parts.{part_to_end, put_to_end}
+use Rattle.rerun.specs.Fills.{filled_with, answer_words}
+use Rattle.rerun.proofs.FillLaws.{wanted_at, Going, begin, step, finish}
 use Rattle.rerun.proofs.fills.fill_all.Statement.{statement}
 use Rattle.rerun.proofs.fills.fill_all.Tie as tie
 
 abbrev invariant-loop : tie.invariant-loop
 invariant-loop header instance₀ candidate₀ log₀ used fills answers₀ last₀ i₀ instance candidate log answers last i =
     (i ≤ length fills) × (length instance ≡ length instance₀) × (length candidate ≡ length candidate₀) × (length log ≡ length log₀) × (length answers ≡ length answers₀) ×
-    Going header fills (filledWith instance₀ candidate₀ log₀ used) answers₀ (filledWith instance candidate log last) answers i
+    Going header fills (filled_with instance₀ candidate₀ log₀ used) answers₀ (filled_with instance candidate log last) answers i
 
 abbrev decreases-loop : tie.decreases-loop
 decreases-loop header instance₀ candidate₀ log₀ used fills answers₀ last₀ i₀ instance candidate log answers last i = length fills - i
 
-loop-holds : tie.Need-loop-init invariant-loop decreases-loop
-loop-holds c = (omega arith, refl, refl, refl, refl, begin _ _ _ _)
+loop_holds : tie.Need-loop-init invariant-loop decreases-loop
+loop_holds c = (omega arith, refl, refl, refl, refl, begin _ _ _ _)
 
 add-loop : tie.Need-overflow-add-loop invariant-loop decreases-loop
 add-loop c = omega arith
@@ -96,19 +96,19 @@ loop-again c =
     let args = (begins fill).before.before.before.before.before.before.args in
     let filled = fill.fill in
     let out = at.answers in
-    let w = wantedAt args.fills.now at.i in
+    let w = wanted_at args.fills.now at.i in
     let is-stored =
-    put-to-end out at.i c.before.before.store.new.0 (room fill).1 ∙
+    put_to_end out at.i c.before.before.store.new.0 (room fill).1 ∙
     ap (λ (l : List ℕ). take at.i out ++ l) c.before.before.store.ensures ∙
-    ap (λ (l : List ℕ). take at.i out ++ (answerWords w filled.result.answer ++ drop 3 l)) (part_to_end out at.i) ∙
-    ap (λ (a : Answer). take at.i out ++ (answerWords w a ++ drop 3 (drop at.i out))) filled.ensures.0
+    ap (λ (l : List ℕ). take at.i out ++ (answer_words w filled.result.answer ++ drop 3 l)) (part_to_end out at.i) ∙
+    ap (λ (a : Answer). take at.i out ++ (answer_words w a ++ drop 3 (drop at.i out))) filled.ensures.0
     in (
       omega (arith, (room fill).0),
       search rules,
       search rules,
       search rules,
       search rules,
-      step args.header args.fills.now _ args.answers.now (filledWith at.instance at.candidate at.log at.last) out at.i at.inv.5
+      step args.header args.fills.now _ args.answers.now (filled_with at.instance at.candidate at.log at.last) out at.i at.inv.5
           (omega (arith, (room fill).0)) (room fill).1 _ _ filled.ensures.1.0 is-stored,
     )
 
@@ -133,7 +133,7 @@ fill-all-spec =
     (tie.spec
     invariant-loop
     decreases-loop
-    loop-holds
+    loop_holds
     add-loop
     add-next
     mul-mark

@@ -2,7 +2,7 @@
 use mathlib.Core.Path.{refl}
 use native.Mathlib.Omega.{arith}
 use borrow.Author.Tests.{lt-ltb, le-ltb}
-use Rattle.log.specs.Log.{loggedLog, loggedUsed}
+use Rattle.log.specs.Log.{logged_log, logged_used}
 use borrow.Author.Rules.{rules}
 use Rattle.rerun.proofs.fills.fill_instance.Statement.{statement}
 use Rattle.rerun.proofs.fills.fill_instance.Tie as tie
@@ -29,7 +29,7 @@ same-length-3 : tie.Need-same-length-3
 same-length-3 c = search rules
 
 returns-2 : tie.Need-returns-2
-unfolding loggedLog loggedUsed
+unfolding logged_log logged_used
 returns-2 c =
     let some = c.before.before.before.before.before.before.before in
     let e = lt-ltb 0 some.before.before.before.args.logs (omega (arith, some.if1.false)) in

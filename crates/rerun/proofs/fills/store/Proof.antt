@@ -10,16 +10,16 @@ use borrow.Author.Tests.{lt-ltb, le-ltb}
 use lib.ListN.{length, drop, set, length-set}
 use lib.Dec.{ltb}
 use Rattle.calculus.specs.declared.answer.Answer.{Answer}
-use Rattle.calculus.specs.Fill.{entryLength}
-use Rattle.rerun.specs.Fills.{wanted, answerWords}
+use Rattle.calculus.specs.Fill.{entry_length}
+use Rattle.rerun.specs.Fills.{wanted, answer_words}
 use Rattle.rerun.proofs.fills.store.Statement.{statement}
 use Rattle.rerun.proofs.fills.store.Tie as tie
 
-three-set : (l : List ℕ) (a b c : ℕ) → 3 ≤ length l → set (set (set l 0 a) 1 b) 2 c ≡ a ∷ b ∷ c ∷ drop 3 l
-three-set [] a b c e = absurd (omega arith)
-three-set (x ∷ []) a b c e = absurd (omega arith)
-three-set (x ∷ y ∷ []) a b c e = absurd (omega arith)
-three-set (x ∷ y ∷ z ∷ l) a b c e = refl
+three_set : (l : List ℕ) (a b c : ℕ) → 3 ≤ length l → set (set (set l 0 a) 1 b) 2 c ≡ a ∷ b ∷ c ∷ drop 3 l
+three_set [] a b c e = absurd (omega arith)
+three_set (x ∷ []) a b c e = absurd (omega arith)
+three_set (x ∷ y ∷ []) a b c e = absurd (omega arith)
+three_set (x ∷ y ∷ z ∷ l) a b c e = refl
 
 either : (b : Bool) → ◌≡◌ {A = ℕ} 0 (cond b 0 0)
 either true = refl
@@ -61,14 +61,14 @@ returns c =
     let out = start.args.answers.now in
     let logs = start.args.logs in
     let count = c.before.before.answer.given.0.0 in
-    let third : c.if1.answers ≡ cond (ltb 0 logs) (entryLength count) 0 =
+    let third : c.if1.answers ≡ cond (ltb 0 logs) (entry_length count) 0 =
     ⊎_elim
     (λ a. let e = le-ltb 0 logs (omega (arith, a.0.taken)) in a.1 ∙ rw e refl)
     (λ a. let e = lt-ltb 0 logs (omega (arith, a.0.left)) in a.1 ∙ rw e refl)
     c.if1.branch
     in
-    three-set out _ _ _ start.requires.0 ∙ ap (λ (x : ℕ). 0 ∷ count ∷ x ∷ drop 3 out) third ∙
-    sym (ap (λ (a : Answer). answerWords (wanted start.args.mark start.args.cell logs) a ++ drop 3 out) c.before.before.answer.given.1)
+    three_set out _ _ _ start.requires.0 ∙ ap (λ (x : ℕ). 0 ∷ count ∷ x ∷ drop 3 out) third ∙
+    sym (ap (λ (a : Answer). answer_words (wanted start.args.mark start.args.cell logs) a ++ drop 3 out) c.before.before.answer.given.1)
 
 same-length-2 : tie.Need-same-length-2
 same-length-2 c = search rules
@@ -78,8 +78,8 @@ returns-2 c =
     let start = c.before.before.before in
     let out = start.args.answers.now in
     let w = wanted start.args.mark start.args.cell start.args.logs in
-    three-set out _ _ _ start.requires.0 ∙ ap (λ (x : ℕ). c.before.answer2.given.0.0 ∷ 0 ∷ x ∷ drop 3 out) (either (ltb 0 start.args.logs)) ∙
-    sym (ap (λ (a : Answer). answerWords w a ++ drop 3 out) c.before.answer2.given.1)
+    three_set out _ _ _ start.requires.0 ∙ ap (λ (x : ℕ). c.before.answer2.given.0.0 ∷ 0 ∷ x ∷ drop 3 out) (either (ltb 0 start.args.logs)) ∙
+    sym (ap (λ (a : Answer). answer_words w a ++ drop 3 out) c.before.answer2.given.1)
 
 pub store_spec : {M : Type 1} → statement M
 store_spec =

@@ -5,8 +5,8 @@ use mathlib.Core.List.{List}
 use native.Mathlib.Omega.{arith}
 use Rattle.answer.specs.declared.asked.Asked.{Asked}
 use Rattle.answer.specs.declared.asked.Asked.TheVariants.{Verdict}
-use Rattle.rerun.specs.Rerun.{bothRuns, Given, given, runA, Reruns}
-use Rattle.rerun.proofs.Endings.{no_place, refused, few-cells, both-asked}
+use Rattle.rerun.specs.Rerun.{both_runs, Given, given, run_a, Reruns}
+use Rattle.rerun.proofs.Endings.{no_place, refused, few-cells, both_asked}
 use borrow.Author.Rules.{rules}
 use Rattle.rerun.proofs.rerun.rerun.Statement.{statement}
 use Rattle.rerun.proofs.rerun.rerun.Tie as tie
@@ -27,7 +27,7 @@ module _ (c : tie.After-truth-a) where
   abbrev verdict : Asked
   verdict = Verdict c.truth-a.given.0.0 c.truth-a.given.0.1.0
 
-  is-verdict : verdict ≡ runA (g start) (ws start)
+  is-verdict : verdict ≡ run_a (g start) (ws start)
   is-verdict = sym c.truth-a.given.1 ∙ c.before.before.before.before.ask-by.ensures.0
 
 -- run B was asked
@@ -40,12 +40,12 @@ module _ (c : tie.After-ask-by2) where
 
   ended :
       (b : Asked) → c.ask-by2.result ≡ b →
-      Reruns (g (start first)) (ws (start first)) (bothRuns (verdict first) b)
+      Reruns (g (start first)) (ws (start first)) (both_runs (verdict first) b)
       made.fill-all.last.1.0 made.fill-all.last.1.1.0 first.before.before.before.before.ask-by.last.1.1.1.1.1.0 made.fill-all.last.1.1.1.1.1.1.0 made.fill-all.last.1.1.1.0 made.fill-all.result
       c.ask-by2.new.1.1.1.1.1.0
   ended b is =
       let told = made.fill-all.ensures in
-      both-asked (g (start first)) (ws (start first)) first.before.before.before.before.before.before.before.before.if1.left _ _ (is-verdict first)
+      both_asked (g (start first)) (ws (start first)) first.before.before.before.before.before.before.before.before.if1.left _ _ (is-verdict first)
       _ _ _ _ _ _ _ b first.before.before.before.before.ask-by.ensures.1.0 told.0 told.1 (sym is ∙ c.ask-by2.ensures.0) c.ask-by2.ensures.1.0
 
 returns : tie.Need-returns

@@ -11,8 +11,8 @@ invariant-loop list i₀ i = i ≤ length list
 abbrev decreases-loop : tie.decreases-loop
 decreases-loop list i₀ i = length list - i
 
-loop-holds : tie.Need-loop-init invariant-loop decreases-loop
-loop-holds c = search rules
+loop_holds : tie.Need-loop-init invariant-loop decreases-loop
+loop_holds c = search rules
 
 shared-slice-read-hex-item : tie.Need-shared-slice-read-hex-item invariant-loop decreases-loop
 shared-slice-read-hex-item c = search rules
@@ -38,7 +38,7 @@ hex-items-spec =
     (tie.spec
     invariant-loop
     decreases-loop
-    loop-holds
+    loop_holds
     shared-slice-read-hex-item
     hex-item-requires
     add-i

@@ -11,8 +11,8 @@ invariant-loop list i₀ i = i ≤ length list
 abbrev decreases-loop : tie.decreases-loop
 decreases-loop list i₀ i = length list - i
 
-loop-holds : tie.Need-loop-init invariant-loop decreases-loop
-loop-holds c = search rules
+loop_holds : tie.Need-loop-init invariant-loop decreases-loop
+loop_holds c = search rules
 
 mul-item : tie.Need-overflow-mul-item invariant-loop decreases-loop
 mul-item c = search rules
@@ -41,7 +41,7 @@ items-spec =
     (tie.spec
     invariant-loop
     decreases-loop
-    loop-holds
+    loop_holds
     mul-item
     shared-slice-read-item
     item-requires
