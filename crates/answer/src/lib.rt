@@ -1,4 +1,7 @@
 // Asking a question of an instance.
+
+#![tactic(auto)]
+
 mod admit;
 pub mod ask;
 pub mod asked;

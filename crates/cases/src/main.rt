@@ -1,4 +1,7 @@
 // Worked inputs for the calls that read, change and write plots; the file stdout has what this prints.
+
+#![tactic(auto)]
+
 mod decoding;
 mod encoding;
 mod entering;

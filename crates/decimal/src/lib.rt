@@ -1,4 +1,7 @@
 // Numbers in decimal.
+
+#![tactic(auto)]
+
 ghost use Rattle.std.specs.Prelude.{◌≡◌, ◌≤◌, length};
 ghost use Rattle.calculus.specs.Overwrite.{overwrite};
 ghost use Rattle.decimal.specs.Decimal.{digits};

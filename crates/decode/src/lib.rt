@@ -1,4 +1,7 @@
 // Reading a card into an instance.
+
+#![tactic(auto)]
+
 ghost use Rattle.std.specs.Prelude.{◌≡◌};
 ghost use Rattle.calculus.specs.declared.answer.Answer.TheVariants.{Done, Refused};
 ghost use Rattle.instance.specs.Header.{header_with};

@@ -1,5 +1,8 @@
 // What quantifiers range over: an instance's cells and then a question's inked terms, each value once, in order of
 // first occurrence.
+
+#![tactic(auto)]
+
 ghost use Rattle.std.specs.Prelude.{◌≡◌, ◌++◌, ◌≤◌, length};
 ghost use Rattle.calculus.specs.Row.{cells_of};
 ghost use Rattle.calculus.specs.Domain.{range_over};

@@ -1,4 +1,7 @@
 // Writing an instance as a card, every column written.
+
+#![tactic(auto)]
+
 ghost use Rattle.std.specs.Prelude.{◌≡◌, true, ◌∷◌, ◌++◌, ℕ, ◌+◌, ◌/◌, ◌%◌, ◌≤◌, ◌<◌, ◌*◌, length, take, drop};
 ghost use Rattle.instance.specs.Header.{header_well_formed, arity_of, max_relations, max_columns};
 ghost use Rattle.instance.specs.Rows.{words_well_formed, rows_from};

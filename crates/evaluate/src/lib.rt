@@ -1,4 +1,7 @@
 // Evaluation of a checked question within a budget.
+
+#![tactic(auto)]
+
 pub mod evaluated;
 pub mod nodes;
 mod terms;

@@ -1,4 +1,7 @@
 // The calls for a host in C, on numbers and slices: each returns 0 if it is accepted, otherwise the number of the refusal.
+
+#![tactic(auto)]
+
 ghost use Rattle.std.specs.Prelude.{◌≡◌};
 ghost use Rattle.calculus.specs.Answer.{number_of, value_of};
 ghost use Rattle.answer.specs.Ask.{list, none};

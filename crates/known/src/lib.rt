@@ -1,4 +1,7 @@
 // What evaluation knows of an instance besides its words, in one array.
+
+#![tactic(auto)]
+
 ghost use Rattle.std.specs.Prelude.{◌≡◌, ◌∷◌, ◌++◌, length, replicate};
 ghost use Rattle.instance.specs.Header.{max_relations};
 ghost use Rattle.known.specs.Known.{known_words, flag_words, places_in};

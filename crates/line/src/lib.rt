@@ -1,4 +1,7 @@
 // The line that plotask prints.
+
+#![tactic(auto)]
+
 ghost use Rattle.std.specs.Prelude.{◌≡◌};
 ghost use Rattle.line.specs.Line.{line_length, line_out};
 

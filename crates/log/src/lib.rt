@@ -1,5 +1,8 @@
 // The undo log (document 02, request 1: the log of noted fills): words that the caller lends, of which the first are in use. What the calls that use
 // it return.
+
+#![tactic(auto)]
+
 use calculus::answer::Answer;
 use instance::header::Header;
 

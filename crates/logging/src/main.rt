@@ -1,4 +1,7 @@
 // Worked inputs for the calls that use the undo log; the file stdout has what this prints.
+
+#![tactic(auto)]
+
 mod filling;
 mod history;
 mod plot;

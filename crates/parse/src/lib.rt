@@ -1,2 +1,5 @@
 // Reading bytes from the front: numbers of one to four bytes.
+
+#![tactic(auto)]
+
 pub mod number;

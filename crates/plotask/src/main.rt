@@ -1,4 +1,7 @@
 // The program: the input's bytes in, the line's bytes out. Reads one byte past the limit, to detect input that is too long.
+
+#![tactic(auto)]
+
 use line::{INPUT, LINE, line};
 
 fn main() {

@@ -1,4 +1,7 @@
 // The question: the check of its words.
+
+#![tactic(auto)]
+
 pub mod check;
 pub mod inked;
 mod node;

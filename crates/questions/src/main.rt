@@ -1,4 +1,7 @@
 // Worked questions and worked reruns; the file stdout has what this prints.
+
+#![tactic(auto)]
+
 mod asking;
 mod charges;
 mod limits;

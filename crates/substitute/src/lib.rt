@@ -1,4 +1,7 @@
 // A fill: replaces a null by a cell, in every cell that holds the null.
+
+#![tactic(auto)]
+
 ghost use Rattle.std.specs.Prelude.{◌≡◌, ◌≤◌, map, length};
 ghost use Rattle.calculus.specs.Cell.{null, nulls, put};
 ghost use Rattle.instance.specs.Header.{max_words};

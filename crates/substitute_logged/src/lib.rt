@@ -1,4 +1,7 @@
 // A fill that is logged (noted): an entry after the log's words in use says which cells held the null.
+
+#![tactic(auto)]
+
 ghost use Rattle.std.specs.Prelude.{◌≡◌, ◌≤◌, [], ◌∷◌, ◌++◌, map, length};
 ghost use Rattle.calculus.specs.Answer.{Tells};
 ghost use Rattle.calculus.specs.Cell.{null, nulls, put};

@@ -1,4 +1,7 @@
 // Undo: takes the latest logged fill back.
+
+#![tactic(auto)]
+
 ghost use Rattle.std.specs.Prelude.{◌≡◌, true, ℕ, ◌≤◌, ◌<◌, length, get_or};
 ghost use Rattle.calculus.specs.Answer.{Tells};
 ghost use Rattle.instance.specs.InstanceWellFormed.{InstanceWellFormed};

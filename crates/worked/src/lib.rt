@@ -1,3 +1,6 @@
 // What the worked programs share: the headers of their plots, and printing.
+
+#![tactic(auto)]
+
 pub mod plots;
 pub mod show;
