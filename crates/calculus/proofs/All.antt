@@ -15,6 +15,7 @@ module _ {A : Type 0} (test : A → Bool) where
   all_parts x xs e = and_parts (test x) (all test xs) e
 
   pub all_member : {x : A} (xs : List A) → Memᴰ x xs → all test xs ≡ true → test x ≡ true
+  all_member [] x3 e = elim x3 [ ]
   all_member (y ∷ xs) (Memᴰ.head same) e = ap test same ∙ (all_parts y xs e).0
   all_member (y ∷ xs) (Memᴰ.tail m) e = all_member xs m (all_parts y xs e).1
 
