@@ -10,7 +10,6 @@ use Rattle.instance.specs.Header.{max_relations}
 use Rattle.known.specs.Known.{places_at, flag_words}
 use Rattle.known.proofs.Parts.{front_size, layout_size}
 use Rattle.known.proofs.describe.Goals as goal
-use Rattle.known.proofs.describe.Lts.View.{at-After-put_eight}
 use Rattle.known.proofs.describe.Goals.{After-put_eight, After-slice_known-3-1, Start}
 
 -- the zeros after the counts
@@ -39,7 +38,7 @@ put_eight-requires-2 c =
 -- after the arities were written
 module _ (c : After-slice_known-3-1) where
   abbrev before : After-put_eight
-  before = (at-After-put_eight _ _ _ c.before.before.before.before.before.before)
+  before = c.before.before.before.before.before.before
 
   abbrev arities : List ℕ
   arities = before.args.arities.now
