@@ -9,6 +9,7 @@ use Rattle.query.specs.Named.{constants_among}
 use Rattle.query.proofs.KindTerms.{among_more, among_same}
 use Rattle.domain.proofs.Chains.{added_none, added_then}
 use Rattle.domain.proofs.Listing.{among_room, same-added}
+use Rattle.domain.specs.Chains.{Chained, Added}
 use Rattle.domain.proofs.chain.add_constants.Goals as goal
 use Rattle.domain.proofs.chain.add_constants.Goals.{In-loop-i, Start, else-words-i-lt-CONSTANTS, then-words-i-lt-CONSTANTS}
 
@@ -36,7 +37,11 @@ loop-i-preserved c =
     let ws = start.args.words.now in
     let i = c.loop-i.i in
     let inv = c.loop-i.invariant in
-    (omega arith, (elim c.if-words-i-lt-CONSTANTS.branch [ then-words-i-lt-CONSTANTS a ↦ same-added a.list-is a.heads-is a.count-is a.add_value-count.ensures.0 (rw (← among_more ws i c.loop-i-test.true (omega (arith, a.if-words-i-lt-CONSTANTS.true))) at (added_then inv.2 a.add_value-count.ensures.1)) | else-words-i-lt-CONSTANTS a ↦ same-added a.list-is a.heads-is a.count-is inv.1 (rw (← among_same ws i c.loop-i-test.true (omega (arith, a.if-words-i-lt-CONSTANTS.false))) at inv.2) ]))
+    let r : Chained c.if-words-i-lt-CONSTANTS.heads c.if-words-i-lt-CONSTANTS.list c.if-words-i-lt-CONSTANTS.count ×
+        Added c.args.list.now c.args.n (constants_among (take (c.loop-i.i + 1) c.args.words.now)) c.if-words-i-lt-CONSTANTS.list c.if-words-i-lt-CONSTANTS.count =
+    (elim c.if-words-i-lt-CONSTANTS.branch [ then-words-i-lt-CONSTANTS a ↦ same-added a.list-is a.heads-is a.count-is a.add_value-count.ensures.chained (rw (← among_more ws i c.loop-i-test.true (omega (arith, a.if-words-i-lt-CONSTANTS.true))) at (added_then inv.2 a.add_value-count.ensures.added)) | else-words-i-lt-CONSTANTS a ↦ same-added a.list-is a.heads-is a.count-is inv.1 (rw (← among_same ws i c.loop-i-test.true (omega (arith, a.if-words-i-lt-CONSTANTS.false))) at inv.2) ])
+    in
+    (omega arith, r.0, r.1)
 
 pub shape_of-list : goal.shape_of-list
 shape_of-list c = c.loop-i.invariant.2.long
