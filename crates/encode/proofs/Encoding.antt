@@ -17,7 +17,6 @@ use Rattle.calculus.proofs.Answers.{two_demands, tells}
 use Rattle.instance.specs.declared.header.Header.{Header}
 use Rattle.instance.specs.Header.{max_relations}
 use Rattle.instance.specs.Sound.{sound, rows}
-use Rattle.instance.proofs.Rows.{headed}
 use Rattle.card.specs.Encode.{head_bytes, records_bytes, card_bytes, encoded, encoded_bytes}
 use Rattle.instance.proofs.Parts.{part_to_end, put_to_end}
 use Rattle.encode.proofs.RecordSteps.{records-size}

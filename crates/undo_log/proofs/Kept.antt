@@ -21,9 +21,9 @@ use Rattle.instance.proofs.Blanks.{null-cell}
 use Rattle.instance.proofs.Headers.{rows-sound, Alike, header-alike, alike_refl, alike_trans}
 use Rattle.instance.proofs.Rows.{row_parts, row_well_formed_lem}
 use Rattle.instance.proofs.Sound.{sound_gives}
-use Rattle.log.specs.Log.{last_mark, last_places, undone, undone_words}
-use Rattle.log.specs.Places.{is_place, are_places, put_at}
-use Rattle.log.proofs.Accepted.{undo_accepted}
+use Rattle.undo_log.specs.Log.{last_mark, last_places, undone, undone_words}
+use Rattle.undo_log.specs.Places.{is_place, are_places, put_at}
+use Rattle.undo_log.proofs.Accepted.{undo_accepted}
 
 set_past : (xs ys : List ℕ) (i x : ℕ) → length xs ≤ i → set (xs ++ ys) i x ≡ xs ++ set ys (i - length xs) x
 set_past [] ys i x l = ap (λ (k : ℕ). set ys k x) (omega arith)

@@ -12,7 +12,7 @@ use Rattle.instance.specs.declared.header.Header.{Header}
 use Rattle.instance.specs.Rows.{words_of}
 use Rattle.instance.specs.Sound.{sound, rows, header_for}
 use Rattle.instance.specs.Insert.{enterable, inserted, inserted_header, inserted_words}
-use Rattle.log.specs.Log.{fresh, entry_of, logged, logged_words, logged_log, logged_used, undone, undone_words, undone_used}
+use Rattle.undo_log.specs.Log.{fresh, entry_of, logged, logged_words, logged_log, logged_used, undone, undone_words, undone_used}
 
 -- ---- the calls
 

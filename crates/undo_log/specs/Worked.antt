@@ -1,5 +1,5 @@
 -- Worked histories, as one table under one claim: what the calls return and leave, and what the history says of them.
-use Rattle.std.specs.Prelude.{ℕ, ◌+◌, ◌≡◌, List, [], ◌∷◌, ◌++◌, map, take, replicate}
+use Rattle.std.specs.Prelude.{ℕ, ◌≡◌, List, [], ◌∷◌, ◌++◌, map, take, replicate}
 use Rattle.calculus.specs.declared.answer.Answer.{Answer}
 use Rattle.calculus.specs.declared.answer.Answer.TheVariants.{Done, Refused}
 use Rattle.calculus.specs.Cell.{null}
@@ -8,7 +8,7 @@ use Rattle.calculus.specs.Row.{Row, cells_of}
 use Rattle.instance.specs.declared.header.Header.{Header}
 use Rattle.instance.specs.Rows.{words_of}
 use Rattle.instance.specs.Sound.{rows, header_for}
-use Rattle.log.specs.History.{Step, fills, undoes, inserts, State, Event, step_answers, state_after, start, answers_by, history, rows_by, entries_by}
+use Rattle.undo_log.specs.History.{Step, fills, undoes, inserts, State, Event, step_answers, state_after, start, answers_by, history, rows_by, entries_by}
 
 -- what steps return, the cells of the rows that they leave, and the log's words in use
 pub record Result : Type 0 where

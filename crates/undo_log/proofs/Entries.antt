@@ -8,9 +8,9 @@ use lib.Seq.{take_at, drop_at, get_or-append-add}
 use Rattle.calculus.specs.Cell.{null}
 use Rattle.calculus.specs.Fill.{entry_length, held}
 use Rattle.calculus.specs.Row.{Row}
-use Rattle.log.specs.Places.{places_of}
-use Rattle.log.specs.Log.{entry_of, last_count, last_mark}
-use Rattle.log.proofs.Places.{places_count}
+use Rattle.undo_log.specs.Places.{places_of}
+use Rattle.undo_log.specs.Log.{entry_of, last_count, last_mark}
+use Rattle.undo_log.proofs.Places.{places_count}
 
 pub entry_length_lem : (m : ℕ) (rs : List Row) → length (entry_of m rs) ≡ entry_length (held m rs)
 unfolding entry_of

@@ -13,7 +13,7 @@ use Rattle.calculus.specs.Row.{Row}
 use Rattle.instance.specs.declared.header.Header.{Header}
 use Rattle.instance.specs.Sound.{sound, rows}
 use Rattle.instance.specs.Substitute.{substituted, substituted_words}
-use Rattle.log.specs.Places.{places_of, are_places, put_at}
+use Rattle.undo_log.specs.Places.{places_of, are_places, put_at}
 
 abbrev pub fresh : ℕ
 fresh = 0

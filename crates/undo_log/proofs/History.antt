@@ -35,13 +35,13 @@ use Rattle.instance.proofs.Headers.{Holds, rows-sound, Alike, words-alike, heade
 use Rattle.instance.proofs.Kept.{map-well-formed}
 use Rattle.instance.proofs.Rows.{words_append, row_well_formed_lem}
 use Rattle.instance.proofs.Sound.{sound_gives}
-use Rattle.log.specs.Places.{places_of, are_places, put_at}
-use Rattle.log.specs.Log.{entry_of, logged, logged_words, logged_log, logged_used, entry_well_formed, undone, undone_words, undone_used}
-use Rattle.log.specs.History.{Step, fills, undoes, inserts, State, step_answer, step_state, step_answers, state_after, Event, insertion, filling}
-use Rattle.log.specs.History.{rows_by, entries_by, struck, undo_by, answer_by, events_after, answers_by, history, Follows, start}
-use Rattle.log.specs.History.{fills_in, HistoryHolds, NeverBad, EmptyIfNoFillCounts}
-use Rattle.log.proofs.Places.{filled-places, put_back}
-use Rattle.log.proofs.Entries.{entry_length_lem, entry_used, entry-within, entry-count, entry-mark, entry_front, entry-places, entry-before}
+use Rattle.undo_log.specs.Places.{places_of, are_places, put_at}
+use Rattle.undo_log.specs.Log.{entry_of, logged, logged_words, logged_log, logged_used, entry_well_formed, undone, undone_words, undone_used}
+use Rattle.undo_log.specs.History.{Step, fills, undoes, inserts, State, step_answer, step_state, step_answers, state_after, Event, insertion, filling}
+use Rattle.undo_log.specs.History.{rows_by, entries_by, struck, undo_by, answer_by, events_after, answers_by, history, Follows, start}
+use Rattle.undo_log.specs.History.{fills_in, HistoryHolds, NeverBad, EmptyIfNoFillCounts}
+use Rattle.undo_log.proofs.Places.{filled-places, put_back}
+use Rattle.undo_log.proofs.Entries.{entry_length_lem, entry_used, entry-within, entry-count, entry-mark, entry_front, entry-places, entry-before}
 
 refused_not_done : {A : Type 0} {r k : ℕ} → Refused r ≡ Done k → A
 refused_not_done e = let z : ◌≡◌ {A = ℕ} 0 1 = cc in absurd (zero_not_one z)

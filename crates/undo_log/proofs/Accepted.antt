@@ -14,8 +14,8 @@ use Rattle.calculus.proofs.Answers.{demand_done}
 use Rattle.calculus.proofs.Bools.{and_parts}
 use Rattle.instance.specs.declared.header.Header.{Header}
 use Rattle.instance.specs.Sound.{sound, rows}
-use Rattle.log.specs.Places.{are_places}
-use Rattle.log.specs.Log.{last_count, last_mark, last_places, entry_well_formed, undone}
+use Rattle.undo_log.specs.Places.{are_places}
+use Rattle.undo_log.specs.Log.{last_count, last_mark, last_places, entry_well_formed, undone}
 
 module _ (h : Header) (ws log : List ℕ) (used : ℕ) where
   -- what a well_formed entry says

@@ -19,8 +19,8 @@ use Rattle.instance.specs.Sound.{sound, rows}
 use Rattle.instance.proofs.Fills.{held-words}
 use Rattle.instance.proofs.Rows.{at_row, at_cell, cells-first}
 use Rattle.instance.proofs.Sound.{sound_gives}
-use Rattle.log.specs.Places.{places_in, places_of}
-use Rattle.log.specs.Log.{entry_of}
+use Rattle.undo_log.specs.Places.{places_in, places_of}
+use Rattle.undo_log.specs.Log.{entry_of}
 
 module _ (x : ℕ) where
   -- the places from index i on, by the element there

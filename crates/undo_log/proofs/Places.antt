@@ -18,7 +18,7 @@ use Rattle.calculus.proofs.Cells.{put_other}
 use Rattle.calculus.proofs.Counts.{count_of-append}
 use Rattle.instance.specs.Rows.{words_of}
 use Rattle.instance.proofs.Rows.{words_append}
-use Rattle.log.specs.Places.{places_in, places_of, is_place, are_places, put_at}
+use Rattle.undo_log.specs.Places.{places_in, places_of, is_place, are_places, put_at}
 
 -- ---- how many they are
 

@@ -1,0 +1,80 @@
+-- `insert::check_insert` meets its contract: each test is one demand of the definition, in its order. Assumes nothing.
+use Prim.Native.Nat.{ℕ, ◌+◌}
+use mathlib.Core.Path.{◌≡◌, sym, ◌∙◌}
+use mathlib.Core.Bool.{Bool, true, false}
+use mathlib.Core.List.{List}
+use native.Mathlib.Omega.{arith}
+use borrow.Author.Tests.{lt-ltb, le-ltb, eq-eqb, ne_eqb, leb-true}
+use lib.ListN.{length}
+use Rattle.calculus.specs.declared.answer.Answer.TheVariants.{Done, Refused}
+use Rattle.calculus.specs.Demand.{demand}
+use Rattle.calculus.specs.Refusal.{not_a_cell, no_room}
+use Rattle.instance.specs.declared.header.Header.{Header}
+use Rattle.instance.specs.Rows.{are_cells}
+use Rattle.instance.specs.Sound.{sound, scanned}
+use Rattle.instance.specs.Insert.{inserted, enterable}
+use Rattle.instance.specs.Room.{has_room}
+use Rattle.instance.proofs.Sound.{scanned-sound, scanned-unsound, sound_gives}
+use Rattle.calculus.proofs.Bools.{and_parts}
+use lib.Dec.{leb}
+use Rattle.instance.specs.Header.{max_words}
+use Rattle.instance.specs.declared.scan.Scanned.{Scanned}
+use Rattle.instance.specs.declared.scan.Scanned.TheVariants.{Rows}
+use Rattle.insert.proofs.check_insert.Goals as goal
+use Rattle.insert.proofs.check_insert.Goals.{After-are_cells}
+
+-- what a result of the scan says
+counted_sound : (h : Header) (ws : List ℕ) (n : ℕ) (s : Scanned) → s ≡ scanned h ws → s ≡ Rows n → sound h ws ≡ true
+counted_sound h ws n s e f = scanned-sound h ws n (sym e ∙ f)
+
+pub returns-in_default : goal.returns-in_default
+unfolding inserted enterable
+returns-in_default c = simp (scanned-unsound _ _ (sym c.scan.ensures.answer ∙ c.in_default.is))
+
+pub returns-then-header-relation : goal.returns-then-header-relation
+unfolding inserted enterable
+returns-then-header-relation c =
+    simp (counted_sound _ _ _ _ c.scan.ensures.answer c.in-Rows.is, le-ltb _ _ c.if-header-relation.true)
+
+pub bounds-arities-relation : goal.bounds-arities-relation
+bounds-arities-relation c =
+    omega (arith, (sound_gives _ _ (counted_sound _ _ _ _ c.scan.ensures.answer c.in-Rows.is)).headed.few)
+
+pub returns-then-cells-arities : goal.returns-then-cells-arities
+unfolding inserted enterable
+returns-then-cells-arities c =
+    simp (counted_sound _ _ _ _ c.scan.ensures.answer c.in-Rows.is, lt-ltb _ _ c.if-header-relation.false, ne_eqb _ _ c.if-cells-arities.true)
+
+-- what is left to demand once the relation and the length are right
+module _ (c : After-are_cells) where
+  abbrev cells : List ℕ
+  cells = c.args.cells.now
+
+  abbrev needed : ℕ
+  needed = c.args.header.used + (1 + length cells)
+
+  so_far : (b : Bool) → c.are_cells.result ≡ b
+      → inserted c.args.header c.args.instance.now c.args.relation cells ≡ demand b (Refused not_a_cell) (demand (has_room needed (length c.args.instance.now)) (Refused no_room) (Done needed))
+  unfolding inserted enterable
+  so_far b e =
+      let f : are_cells cells ≡ b = sym c.are_cells.ensures ∙ e in
+      simp (counted_sound _ _ _ _ c.scan.ensures.answer c.in-Rows.is, lt-ltb _ _ c.if-header-relation.false, eq-eqb _ _ c.if-cells-arities.false, f)
+
+pub returns-then-not-are_cells : goal.returns-then-not-are_cells
+returns-then-not-are_cells c = sym (so_far (goal.at.returns-then-not-are_cells c).After-are_cells false c.if-not-are_cells.true)
+
+pub returns-then-not-has_room : goal.returns-then-not-has_room
+returns-then-not-has_room c =
+    rw (so_far (goal.at.returns-then-not-has_room c).After-are_cells true c.if-not-are_cells.false)
+    (simp (sym c.has_room.ensures ∙ c.if-not-has_room.true))
+
+pub overflow_cast-result : goal.overflow_cast-result
+overflow_cast-result c =
+    let a = (goal.at.overflow_cast-result c).After-are_cells in
+    let room : has_room (needed a) (length c.args.instance.now) ≡ true = sym c.has_room.ensures ∙ c.if-not-has_room.false in
+    omega (arith, leb-true (needed a) max_words (and_parts (leb (needed a) max_words) (leb (needed a) (length c.args.instance.now)) room).0)
+
+pub returns : goal.returns
+returns c =
+    rw (so_far (goal.at.returns c).After-are_cells true c.if-not-are_cells.false)
+    (simp (sym c.has_room.ensures ∙ c.if-not-has_room.false))
