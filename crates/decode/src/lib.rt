@@ -7,7 +7,7 @@ ghost use Rattle.calculus.specs.declared.answer.Answer.TheVariants.{Done, Refuse
 ghost use Rattle.instance.specs.Header.{header_with};
 ghost use Rattle.calculus.specs.Answer.{Tells};
 ghost use Rattle.card.specs.Decode.{decoded, no_header};
-ghost use Rattle.log.specs.Log.{fresh};
+ghost use Rattle.undo_log.specs.Log.{fresh};
 
 use calculus::answer::Answer;
 use calculus::cell::NULLS;
@@ -15,7 +15,7 @@ use calculus::refusal::{BYTES_LEFT_OVER, NO_ROOM, NULLS_EXHAUSTED};
 use head::read_head;
 use instance::header::header_with;
 use instance::room::has_room;
-use log::{FRESH, Restarted};
+use undo_log::{FRESH, Restarted};
 use measure::{Needed, measure};
 use write::write_rows;
 

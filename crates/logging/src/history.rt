@@ -2,7 +2,7 @@
 use super::steps::{show_fill, show_undo};
 use insert::insert;
 use instance::header::Header;
-use log::FRESH;
+use undo_log::FRESH;
 use worked::plots::two_sheets;
 use worked::show;
 

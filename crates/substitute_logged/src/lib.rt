@@ -9,14 +9,14 @@ ghost use Rattle.calculus.specs.Fill.{count_of, entry_length, held};
 ghost use Rattle.calculus.specs.Overwrite.{overwrite};
 ghost use Rattle.instance.specs.Header.{max_words};
 ghost use Rattle.instance.specs.Sound.{rows};
-ghost use Rattle.log.specs.Places.{places_in};
-ghost use Rattle.log.specs.Log.{logged, logged_words, logged_log, logged_used};
+ghost use Rattle.undo_log.specs.Places.{places_in};
+ghost use Rattle.undo_log.specs.Log.{logged, logged_words, logged_log, logged_used};
 
 use calculus::answer::Answer;
 use calculus::cell::CONSTANTS;
 use calculus::refusal::{LOG_TOO_SHORT, NULL_ABSENT};
 use instance::header::Header;
-use log::Logged;
+use undo_log::Logged;
 use substitute::test_fill;
 
 // How often a null occurs in words. A relation's number is below every null, so the pass need not tell relation numbers from cells.

@@ -11,8 +11,8 @@ use Rattle.calculus.specs.Answer.{Tells}
 use Rattle.calculus.specs.Fill.{entry_length}
 use Rattle.calculus.proofs.Answers.{tells}
 use Rattle.instance.specs.declared.header.Header.{Header}
-use Rattle.log.specs.Log.{last_count, last_places, entry_well_formed, undone}
-use Rattle.log.proofs.Accepted.{undo_accepted}
+use Rattle.undo_log.specs.Log.{last_count, last_places, entry_well_formed, undone}
+use Rattle.undo_log.proofs.Accepted.{undo_accepted}
 
 -- the places stand before the mark, as many as the count n says
 pub places-lent :

@@ -12,8 +12,8 @@ use Rattle.calculus.specs.Row.{Row}
 use Rattle.calculus.proofs.All.{all_parts}
 use Rattle.instance.specs.Header.{arity_of}
 use Rattle.instance.specs.Rows.{words_well_formed, rows_from, words_of}
-use Rattle.log.specs.Places.{is_place, are_places}
-use Rattle.log.proofs.Places.{place_past}
+use Rattle.undo_log.specs.Places.{is_place, are_places}
+use Rattle.undo_log.proofs.Places.{place_past}
 use Rattle.instance.proofs.Walk.{AtRow}
 use Rattle.undo.specs.RowStart.{RowOf}
 use Rattle.undo.proofs.RowStarts.{row_at, start-rows, start-length, start-row}

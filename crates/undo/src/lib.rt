@@ -7,8 +7,8 @@ ghost use Rattle.calculus.specs.Answer.{Tells};
 ghost use Rattle.instance.specs.InstanceWellFormed.{InstanceWellFormed};
 ghost use Rattle.instance.specs.Rows.{rows_from};
 ghost use Rattle.instance.specs.Sound.{sound};
-ghost use Rattle.log.specs.Places.{are_places, put_at};
-ghost use Rattle.log.specs.Log.{last_count, entry_well_formed, undone, undone_words, undone_used};
+ghost use Rattle.undo_log.specs.Places.{are_places, put_at};
+ghost use Rattle.undo_log.specs.Log.{last_count, entry_well_formed, undone, undone_words, undone_used};
 ghost use Rattle.undo.specs.RowStart.{RowStart, RowOf};
 
 use calculus::answer::Answer;
@@ -16,7 +16,7 @@ use calculus::cell::{CONSTANTS, NULLS};
 use calculus::refusal::{BAD_LOG, LOG_EMPTY, UNSOUND};
 use instance::header::Header;
 use instance::scan::{Scanned, scan};
-use log::Logged;
+use undo_log::Logged;
 
 // The start of the row that has a place, by a walk from row to row; a row starts at `from`, at or before the place.
 fn row_of(words: &[u32], arities: &[u32; 8], relations: u32, from: usize, place: usize) -> usize

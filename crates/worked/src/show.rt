@@ -3,7 +3,7 @@ use answer::asked::Asked;
 use calculus::answer::Answer;
 use calculus::truth::Truth;
 use instance::header::Header;
-use log::Logged;
+use undo_log::Logged;
 use rerun::reran::Reran;
 
 fn text(bytes: &[u8]) {

@@ -10,9 +10,9 @@ use lib.Seq.{drop-length}
 use Rattle.calculus.specs.Cell.{null, put}
 use Rattle.calculus.specs.Fill.{count_of}
 use Rattle.calculus.proofs.Stores.{Written, written_begin, written_store, written_finish}
-use Rattle.log.specs.Places.{places_in}
-use Rattle.log.proofs.Joins.{in-drop-step}
-use Rattle.log.proofs.Places.{in_count}
+use Rattle.undo_log.specs.Places.{places_in}
+use Rattle.undo_log.proofs.Joins.{in-drop-step}
+use Rattle.undo_log.proofs.Places.{in_count}
 use Rattle.substitute.proofs.Filling.{Filling, filling-starts, filling-here, filling-null, filling-other, filling_ends}
 use Rattle.substitute_logged.proofs.note.Statement.{statement}
 use Rattle.substitute_logged.proofs.note.Tie as tie

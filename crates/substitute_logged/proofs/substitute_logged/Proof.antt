@@ -21,8 +21,8 @@ use Rattle.instance.proofs.Fills.{held-words, filled_words_lem}
 use Rattle.instance.proofs.Fillable.{Fillable, fillable_met, early_refused, none-held, no_room-held, all_held, words_done, words-refused}
 use Rattle.instance.proofs.Parts.{part_to_end, put_to_end}
 use Rattle.instance.proofs.Told.{fill-told}
-use Rattle.log.specs.Log.{logged, logged_words, logged_log, logged_used, entry_of}
-use Rattle.log.proofs.Joins.{entry-words}
+use Rattle.undo_log.specs.Log.{logged, logged_words, logged_log, logged_used, entry_of}
+use Rattle.undo_log.proofs.Joins.{entry-words}
 use Rattle.substitute_logged.proofs.substitute_logged.Statement.{statement}
 use Rattle.substitute_logged.proofs.substitute_logged.Tie as tie
 

@@ -12,7 +12,7 @@ use Rattle.calculus.specs.Row.{Row}
 use Rattle.calculus.proofs.All.{all_rest}
 use Rattle.instance.specs.Rows.{rows_from}
 use Rattle.instance.proofs.Rows.{words_back}
-use Rattle.log.specs.Places.{is_place, are_places}
+use Rattle.undo_log.specs.Places.{is_place, are_places}
 use Rattle.undo.specs.RowStart.{RowStart}
 use Rattle.undo.proofs.RowStarts.{row-start_0}
 use Rattle.undo.proofs.Places.{place_beyond, place_of-relation, place_of-cell}

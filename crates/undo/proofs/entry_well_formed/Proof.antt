@@ -11,8 +11,8 @@ use Rattle.calculus.specs.Fill.{entry_length}
 use Rattle.instance.specs.declared.header.Header.{Header}
 use Rattle.instance.specs.Sound.{rows}
 use Rattle.instance.proofs.Sound.{Sound, sound_gives}
-use Rattle.log.specs.Places.{are_places}
-use Rattle.log.specs.Log.{last_count, last_mark, entry_well_formed}
+use Rattle.undo_log.specs.Places.{are_places}
+use Rattle.undo_log.specs.Log.{last_count, last_mark, entry_well_formed}
 use Rattle.undo.proofs.Entries.{places-lent, entry-short}
 use borrow.Author.Rules.{rules}
 use Rattle.undo.proofs.entry_well_formed.Statement.{statement}

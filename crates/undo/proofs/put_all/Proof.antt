@@ -6,7 +6,7 @@ use native.Mathlib.Omega.{arith}
 use lib.ListN.{length, get_or, drop, length-set}
 use lib.Seq.{drop-length}
 use Rattle.calculus.proofs.Lists.{drop_step}
-use Rattle.log.specs.Places.{put_at}
+use Rattle.undo_log.specs.Places.{put_at}
 use Rattle.undo.proofs.put_all.Statement.{statement}
 use Rattle.undo.proofs.put_all.Tie as tie
 

@@ -5,8 +5,8 @@ use native.Mathlib.Omega.{arith}
 use borrow.Author.Tests.{le-ltb, lt-ltb, not-true, not-false}
 use Rattle.instance.specs.Sound.{sound}
 use Rattle.instance.proofs.Sound.{scanned-sound, scanned-unsound}
-use Rattle.log.specs.Log.{entry_well_formed, undone}
-use Rattle.log.proofs.Accepted.{Entry, entry_met}
+use Rattle.undo_log.specs.Log.{entry_well_formed, undone}
+use Rattle.undo_log.proofs.Accepted.{Entry, entry_met}
 use borrow.Author.Rules.{rules}
 use Rattle.undo.proofs.test_undo.Statement.{statement}
 use Rattle.undo.proofs.test_undo.Tie as tie

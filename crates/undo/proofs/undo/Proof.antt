@@ -9,10 +9,10 @@ use Rattle.calculus.specs.Cell.{null}
 use Rattle.instance.specs.declared.header.Header.{Header}
 use Rattle.instance.specs.Sound.{rows}
 use Rattle.instance.proofs.Sound.{sound_gives}
-use Rattle.log.specs.Places.{put_at}
-use Rattle.log.specs.Log.{last_mark, last_places, undone, undone_words, undone_used}
+use Rattle.undo_log.specs.Places.{put_at}
+use Rattle.undo_log.specs.Log.{last_mark, last_places, undone, undone_words, undone_used}
 use Rattle.undo.proofs.Places.{places_below}
-use Rattle.log.proofs.Accepted.{Undone, undo_accepted}
+use Rattle.undo_log.proofs.Accepted.{Undone, undo_accepted}
 use Rattle.undo.proofs.Entries.{undo-told, places-lent}
 use borrow.Author.Rules.{rules}
 use Rattle.undo.proofs.undo.Statement.{statement}
