@@ -30,13 +30,17 @@ use Rattle.answer.proofs.AskLaws.{admitted-refused, refused-asked, refused-buffe
 use Rattle.answer.proofs.Need.{cells_count, need_few}
 use Rattle.answer.proofs.AskLaws.{listed_part}
 use Rattle.answer.proofs.Told.{ask-told}
-use Rattle.answer.proofs.ask.ask.Statement.{statement}
-use Rattle.answer.proofs.ask.ask.Tie as tie
+use Rattle.answer.proofs.ask.ask.Goals as goal
+use Rattle.answer.proofs.ask.ask.Lts.View.{up-Else-buffer-cells, up-After-admit, up-After-arities-1, up-After-count_named}
+use Rattle.answer.proofs.ask.ask.Goals.{After-admit, After-arities-1, After-buffer-1, After-count_named, After-list_range-n, Else-buffer-cells, Start}
+
+by_answer_buffer_told : {A B C : Type 0} → A × (B × C) → record { answer : A; buffer : B; told : C }
+by_answer_buffer_told p = record { answer = p.0; buffer = p.1.0; told = p.1.1 }
 
 -- after the tests that do not turn on the list
-module _ (c : tie.After-admit) where
-  abbrev start : tie.Start
-  start = c.before.before.before.before.before
+module _ (c : After-admit) where
+  abbrev start : Start
+  start = c.before.before.before.before.before.before
 
   abbrev h : Header
   h = start.args.header
@@ -74,15 +78,15 @@ module _ (c : tie.After-admit) where
     answers = sym c.admit.ensures ∙ is
 
 -- the question is admitted
-module _ (c : tie.After-arities) where
-  abbrev at : tie.After-admit
-  at = c.before.before.before.before.before
+module _ (c : After-arities-1) where
+  abbrev at : After-admit
+  at = (up-After-admit _ _ _ _ c.before.before.before.before)
 
   abbrev count : ℕ
-  count = c.before.before.before.count.given.0.0
+  count = c.in-Done.count
 
   passes : Admitted (h at) (ws at) (qs at) (cs at) count
-  passes = admitted_done (h at) (ws at) (qs at) (cs at) count (answers at (answer.Done count) c.before.before.before.count.given.1)
+  passes = admitted_done (h at) (ws at) (qs at) (cs at) count (answers at (answer.Done count) c.in-Done.is)
 
   abbrev given : Sound (h at) (ws at)
   given = sound_gives (h at) (ws at) passes.is_sound
@@ -97,144 +101,108 @@ module _ (c : tie.After-arities) where
   eight = search rules
 
 -- the need of the list: cells and inked terms
-module _ (c : tie.After-count-named) where
-  abbrev of : tie.After-arities
-  of = c.before.before
+module _ (c : After-count_named) where
+  abbrev of : After-arities-1
+  of = (up-After-arities-1 _ _ _ _ c.before.before.before)
 
-  need : (h (at of)).used - count of + c.count-named.result ≡ length (needed (h (at of)) (ws (at of)) (qs (at of)))
+  need : (h (at of)).used - count of + c.count_named.result ≡ length (needed (h (at of)) (ws (at of)) (qs (at of)))
   need =
       omega (
         arith,
         cells of,
-        c.count-named.ensures,
+        c.count_named.ensures,
         length-append (cells_of (rows (h (at of)) (ws (at of)))) (named_in (h (at of)).arities (qs (at of))),
       )
 
 -- the list is long enough
-module _ (c : tie.Else1) where
-  abbrev counted : tie.After-count-named
-  counted = c.before
+module _ (c : Else-buffer-cells) where
+  abbrev counted : After-count_named
+  counted = (up-After-count_named _ _ _ _ c.before.before)
 
-  abbrev first : tie.After-arities
-  first = counted.before.before
+  abbrev first : After-arities-1
+  first = (up-After-arities-1 _ _ _ _ counted.before.before.before)
 
   long : length (needed (h (at first)) (ws (at first)) (qs (at first))) ≤ length (buffer (at first))
-  long = omega (arith, need counted, c.if1.false)
+  long = omega (arith, need counted, c.if-buffer-cells.false)
 
   asks : Asks (h (at first)) (ws (at first)) (qs (at first)) (cs (at first)) (list (buffer (at first)))
   asks = long-list (h (at first)) (ws (at first)) (qs (at first)) (cs (at first)) (buffer (at first)) (count first) (passes first) long
 
 -- after the values were listed
-module _ (c : tie.After-buffer) where
-  abbrev tested : tie.Else1
-  tested = c.before.before.before.before.before
+module _ (c : After-buffer-1) where
+  abbrev tested : Else-buffer-cells
+  tested = (up-Else-buffer-cells _ _ _ _ c.before.before.before.before.before)
 
-  abbrev begins : tie.After-admit
+  abbrev begins : After-admit
   begins = at (first tested)
 
   abbrev left : List ℕ
-  left = c.before.list-range.new.1.1.1.0
+  left = c.list_range-n.new.buffer
 
   abbrev values : List ℕ
   values = range_over (named_in (h begins).arities (qs begins)) (rows_from (h begins).arities 0 (take (h begins).used (ws begins)))
 
-  are_listed : (c.before.list-range.result ≤ length left) × (take c.before.list-range.result left ≡ values)
-  are_listed = listed_part values (buffer begins) left c.before.list-range.result c.before.list-range.ensures.0 c.before.list-range.ensures.1
+  are_listed : (c.list_range-n.result ≤ length left) × (take c.list_range-n.result left ≡ values)
+  are_listed = listed_part values (buffer begins) left c.list_range-n.result c.list_range-n.ensures.number c.list_range-n.ensures.values
 
-admit-requires : tie.Need-admit-requires
-admit-requires c κs = search rules
+pub overflow_sub-cells : goal.overflow_sub-cells
+overflow_sub-cells c = omega (arith, cells c)
 
-enum-known-why : tie.Need-enum-known-why
-enum-known-why c = search rules
-
-enum-known-count : tie.Need-enum-known-count
-enum-known-count c = search rules
-
-cast-used : tie.Need-overflow-cast-used
-cast-used c = search rules
-
-cast-cells : tie.Need-overflow-cast-cells
-cast-cells c = search rules
-
-sub_cells : tie.Need-overflow-sub-cells
-sub_cells c = omega (arith, cells c)
-
-count-named-requires : tie.Need-count-named-requires
-count-named-requires c κs =
-    let f = c.before in
+pub count_named-requires : goal.count_named-requires
+count_named-requires c =
+    let f = (goal.at.count_named-requires c).After-arities-1 in
     let b = at f in
     has_terms (h b) (ws b) (qs b) (cs b) (count f) (passes f) (eight f)
 
-add-if1 : tie.Need-overflow-add-if1
-add-if1 c =
+pub overflow_add-cells : goal.overflow_add-cells
+overflow_add-cells c =
     let f = of c in
     let b = at f in
     omega (arith, need c, need_few (h b) (ws b) (qs b) (cs b) (count f) (passes f))
 
-returns : tie.Need-returns
-returns c =
-    let n = c.before in
+pub returns-then-buffer-cells : goal.returns-then-buffer-cells
+returns-then-buffer-cells c =
+    let n = (goal.at.returns-then-buffer-cells c).After-count_named in
     let f = of n in
-    let b = at f in
-    refused-told b _ (short-list (h b) (ws b) (qs b) (cs b) (buffer b) (count f) (passes f) (omega (arith, need n, c.if1.true)))
+    let b = at f in by_answer_buffer_told (refused-told b _ (short-list (h b) (ws b) (qs b) (cs b) (buffer b) (count f) (passes f) (omega (arith, need n, c.if-buffer-cells.true))))
 
-slice-aggregate-list-range : tie.Need-slice-aggregate-list-range
-slice-aggregate-list-range c = sym (given (first c.before)).in_use
+pub slice_bounds-list_range-end : goal.slice_bounds-list_range-end
+slice_bounds-list_range-end c = sym (given (first (goal.at.slice_bounds-list_range-end c).Else-buffer-cells)).in_use
 
-list-range-requires : tie.Need-list-range-requires
+pub list_range-n-requires : goal.list_range-n-requires
 unfolding rows
-list-range-requires c κs =
-    let t = c.before.before.before in
+list_range-n-requires c =
+    let t = (goal.at.list_range-n-requires c).Else-buffer-cells in
     let f = first t in
-    let b = at f in
-    ((lent f, has_terms (h b) (ws b) (qs b) (cs b) (count f) (passes f) (eight f)), (long t, omega (arith, need_few (h b) (ws b) (qs b) (cs b) (count f) (passes f))))
+    let b = at f in record {
+      instance_of = (lent f, has_terms (h b) (ws b) (qs b) (cs b) (count f) (passes f) (eight f));
+      query_in_bounds = long t;
+      query_len_bound = omega (arith, need_few (h b) (ws b) (qs b) (cs b) (count f) (passes f));
+    }
 
-slice-reshare-prefix-answer-listed : tie.Need-slice-reshare-prefix-answer-listed
-slice-reshare-prefix-answer-listed c = (are_listed c.before).0
+pub slice_bounds-answer_listed-end : goal.slice_bounds-answer_listed-end
+slice_bounds-answer_listed-end c = (are_listed (goal.at.slice_bounds-answer_listed-end c).After-buffer-1).0
 
-slice-aggregate-answer-listed : tie.Need-slice-aggregate-answer-listed
-slice-aggregate-answer-listed c = sym (length-take-le _ _ (are_listed c.before.before).0)
+pub slice_bounds-answer_listed-end-in-Done : goal.slice_bounds-answer_listed-end-in-Done
+slice_bounds-answer_listed-end-in-Done c = sym (length-take-le _ _ (are_listed (goal.at.slice_bounds-answer_listed-end-in-Done c).After-buffer-1).0)
 
-answer-listed-requires : tie.Need-answer-listed-requires
+pub answer_listed-requires : goal.answer_listed-requires
 unfolding rows
-answer-listed-requires c κs = let l = c.before.before in let f = first (tested l) in ((count f, passes f), (are_listed l).1)
+answer_listed-requires c =
+    let l = (goal.at.answer_listed-requires c).After-buffer-1 in let f = first (tested l) in record {
+      by_index = (count f, passes f);
+      values_value = (are_listed l).1;
+    }
 
-returns-2 : tie.Need-returns-2
-returns-2 c =
-    let b = c.before.before.before in
-    refused-told b _ (admitted-refused (h b) (ws b) (qs b) (cs b) (list (buffer b)) _ (answers b _ c.before.why.given.1))
+pub returns-in-Refused : goal.returns-in-Refused
+returns-in-Refused c =
+    let b = (goal.at.returns-in-Refused c).After-admit in by_answer_buffer_told (refused-told b _ (admitted-refused (h b) (ws b) (qs b) (cs b) (list (buffer b)) _ (answers b _ c.in-Refused.is)))
 
-same_length : tie.Need-same-length
-same_length c = search rules
-
-returns-3 : tie.Need-returns-3
+pub returns-else-buffer-cells : goal.returns-else-buffer-cells
 unfolding rows
-returns-3 c =
-    let l = c.before.before.before in
+returns-else-buffer-cells c =
+    let l = (goal.at.returns-else-buffer-cells c).After-buffer-1 in
     let t = tested l in
-    let b = begins l in
-    told b
-    (c.answer-listed.ensures ∙ evaluated-asked (h b) (ws b) (qs b) (cs b) (list (buffer b)) (budget b) (asks t))
-    (l.before.list-range.ensures.1 ∙ evaluated_buffer (h b) (ws b) (qs b) (cs b) (buffer b) (asks t))
-
-pub ask-spec : {M : Type 1} → statement M
-ask-spec =
-    tie.close
-    (tie.spec
-    admit-requires
-    enum-known-why
-    enum-known-count
-    cast-used
-    cast-cells
-    sub_cells
-    count-named-requires
-    add-if1
-    returns
-    slice-aggregate-list-range
-    list-range-requires
-    slice-reshare-prefix-answer-listed
-    slice-aggregate-answer-listed
-    answer-listed-requires
-    returns-2
-    same_length
-    returns-3)
+    let b = begins l in by_answer_buffer_told (told b
+    (c.answer_listed.ensures ∙ evaluated-asked (h b) (ws b) (qs b) (cs b) (list (buffer b)) (budget b) (asks t))
+    (c.list_range-n.ensures.values ∙ evaluated_buffer (h b) (ws b) (qs b) (cs b) (buffer b) (asks t)))

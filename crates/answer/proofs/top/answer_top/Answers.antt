@@ -3,7 +3,6 @@ use Prim.Native.Nat.{ℕ}
 use mathlib.Core.Path.{◌≡◌, ap, sym, ◌∙◌}
 use mathlib.Core.List.{List}
 use native.Mathlib.Omega.{arith}
-use borrow.Author.Rules.{rules}
 use Rattle.query.specs.Words.{node_count}
 use Rattle.query.specs.Tree.{formula_of}
 use Rattle.calculus.specs.Eval.{eval}
@@ -12,25 +11,13 @@ use Rattle.evaluate.specs.Ready.{world}
 use Rattle.evaluate.specs.Within.{within}
 use Rattle.known.specs.Known.{arities_in}
 use Rattle.answer.specs.Ask.{evaluated_as}
-use Rattle.answer.proofs.top.answer_top.Statement.{statement}
-use Rattle.answer.proofs.top.answer_top.Tie as tie
-
-assigned-requires : tie.Need-assigned-requires
-assigned-requires c κs = search rules
-
-evaluate-requires : tie.Need-evaluate-requires
-evaluate-requires c κs = search rules
-
-enum-known-truth : tie.Need-enum-known-truth
-enum-known-truth c = search rules
-
-enum_told : tie.Need-enum-told
-enum_told c = search rules
+use Rattle.answer.proofs.top.answer_top.Goals as goal
+use Rattle.answer.proofs.top.answer_top.Goals.{After-evaluate, Start}
 
 -- the outcome of the whole question within the budget
-module _ (c : tie.After-evaluate) where
-  abbrev start : tie.Start
-  start = c.before.before.before.before.before.before.before
+module _ (c : After-evaluate) where
+  abbrev start : Start
+  start = c.before.before.before.before.before.before.before.before
 
   whole :
       c.evaluate.result ≡
@@ -38,18 +25,15 @@ module _ (c : tie.After-evaluate) where
       (eval (world (arities_in start.args.known.now) start.args.words.now start.args.query.now) (formula_of (arities_in start.args.known.now) start.args.query.now)
       (assignment start.args.candidate.now))
   whole =
-      c.evaluate.ensures.1 (node_count start.args.query.now) (omega arith) ∙
+      c.evaluate.ensures.right (node_count start.args.query.now) (omega arith) ∙
       ap
       (λ (e : List ℕ).
       within start.args.budget
       (eval (world (arities_in start.args.known.now) start.args.words.now start.args.query.now) (formula_of (arities_in start.args.known.now) start.args.query.now) e))
-      c.before.before.assigned.ensures
+      c.assigned-env.ensures
 
-returns : tie.Need-returns
-returns c = ap evaluated_as (sym c.before.truth.given.1 ∙ whole c.before.before.before)
+pub returns-in-Verdict : goal.returns-in-Verdict
+returns-in-Verdict c = ap evaluated_as (sym c.in-Verdict.is ∙ whole (goal.at.returns-in-Verdict c).After-evaluate)
 
-returns-2 : tie.Need-returns-2
-returns-2 c = ap evaluated_as (sym c.enum_told.given.1 ∙ whole c.before.before)
-
-pub answer-top-spec : {M : Type 1} → statement M
-answer-top-spec = tie.close (tie.spec assigned-requires evaluate-requires enum-known-truth enum_told returns returns-2)
+pub returns-in-Spent : goal.returns-in-Spent
+returns-in-Spent c = ap evaluated_as (sym c.in-Spent.is ∙ whole (goal.at.returns-in-Spent c).After-evaluate)
