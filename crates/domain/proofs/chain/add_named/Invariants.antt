@@ -1,0 +1,16 @@
+use Prim.Native.Nat.{◌+◌, ◌-◌, ◌≤◌, ◌<◌}
+use mathlib.Core.Path.{◌≡◌}
+use mathlib.Core.List.{◌++◌}
+use Rattle.query.specs.Words.{node_count}
+use Rattle.query.specs.Named.{named_from, named_in}
+use Rattle.domain.specs.Chains.{Chained}
+use Rattle.domain.proofs.Listing.{Naming}
+use Rattle.domain.proofs.chain.add_named.Given as goal
+
+abbrev pub invariant-loop-node : goal.invariant-loop-node
+invariant-loop-node l =
+    (l.node ≤ node_count l.query) × Chained l.heads l.list l.count
+    × Naming (named_in l.arities l.query) l.initial.list l.n l.list l.count (named_from l.arities l.query l.node (node_count l.query - l.node))
+
+abbrev pub decreases-loop-node : goal.decreases-loop-node
+decreases-loop-node l = node_count l.query - l.node

@@ -1,0 +1,72 @@
+-- `domain::chain::add_value` meets its contract: the cell is found in the chain of its bucket, or added to it. Assumes nothing.
+use Prim.Native.Nat.{ℕ, ◌+◌, ◌*◌}
+use mathlib.Core.Path.{◌≡◌, sym, ◌∙◌}
+use mathlib.Core.Bool.{false}
+use mathlib.Core.List.{List, [], ◌∷◌}
+use native.Mathlib.Omega.{arith}
+use lib.ListN.{get_or, set}
+use Rattle.calculus.specs.Listed.{listed}
+use Rattle.domain.specs.Bucket.{bucket_of}
+use Rattle.domain.specs.Chains.{link_unit, values_of, Chain, Chained, Added}
+use Rattle.domain.proofs.Chains.{chained_more, added_new, added_old}
+use Rattle.domain.proofs.chain.add_value.Goals as goal
+use Rattle.domain.proofs.chain.add_value.Goals.{After-bucket_of-bucket, Start}
+
+by_chained_added : {A B : Type 0} → A × B → record { chained : A; added : B }
+by_chained_added p = record { chained = p.0; added = p.1 }
+
+module _ (c : Start) where
+  abbrev list : List ℕ
+  list = c.args.list.now
+
+  abbrev heads : List ℕ
+  heads = c.args.heads.now
+
+  abbrev n : ℕ
+  n = c.args.n
+
+  abbrev cell : ℕ
+  cell = c.args.cell
+
+  -- the start of the chain of the cell's bucket
+  start : (bucket : ℕ) → bucket ≡ bucket_of cell → Chain list cell n (get_or heads bucket 0)
+  start bucket e = rw e (c.requires.3.starts cell)
+
+  -- what was added to it
+  more : (bucket : ℕ) → bucket ≡ bucket_of cell → listed cell (values_of n list) ≡ false
+      → Chained (set heads bucket (n + 1)) (set list n (cell + link_unit * get_or heads bucket 0)) (n + 1)
+      × Added list n (cell ∷ []) (set list n (cell + link_unit * get_or heads bucket 0)) (n + 1)
+  more bucket e new = rw e (chained_more c.requires.3 c.requires.0 cell c.requires.2, added_new c.requires.3 c.requires.0 cell c.requires.2 new)
+
+abbrev found : (c : After-bucket_of-bucket) → Chain (list c.before.before.before) (cell c.before.before.before) (n c.before.before.before) (get_or (heads c.before.before.before) c.bucket_of-bucket.result 0)
+found c = start c.before.before.before c.bucket_of-bucket.result c.bucket_of-bucket.ensures
+
+pub overflow_cast-head : goal.overflow_cast-head
+overflow_cast-head c = omega (arith, (found (goal.at.overflow_cast-head c).After-bucket_of-bucket).within)
+
+pub find-requires : goal.find-requires
+find-requires c =
+    let s = (goal.at.find-requires c).After-bucket_of-bucket in
+    let l = (found s).within in
+    (omega arith, λ i d m e. c.requires.3.links i d (omega arith) e, (found s).bucket)
+
+pub returns-then-find : goal.returns-then-find
+returns-then-find c =
+    let b = (goal.at.returns-then-find c).After-bucket_of-bucket in
+    let s = (goal.at.returns-then-find c).Start in record {
+      chained = s.requires.3;
+      added = added_old (list s) (n s) (cell s) ((found b).same ∙ sym c.find.ensures ∙ c.if-find.true);
+    }
+
+pub overflow_cast-list : goal.overflow_cast-list
+overflow_cast-list c = omega (arith, (found (goal.at.overflow_cast-list c).After-bucket_of-bucket).within)
+
+pub overflow_mul-list : goal.overflow_mul-list
+overflow_mul-list c = omega (arith, (found (goal.at.overflow_mul-list c).After-bucket_of-bucket).within)
+
+pub overflow_add-list : goal.overflow_add-list
+overflow_add-list c = omega (arith, (found (goal.at.overflow_add-list c).After-bucket_of-bucket).within)
+
+pub returns : goal.returns
+returns c =
+    let b = (goal.at.returns c).After-bucket_of-bucket in by_chained_added (more (goal.at.returns c).Start c.bucket_of-bucket.result c.bucket_of-bucket.ensures ((found b).same ∙ sym c.find.ensures ∙ c.if-find.false))

@@ -1,0 +1,66 @@
+-- `domain::list_range` meets its contract: the cells are added to the list, then the inked terms. Assumes nothing.
+use Prim.Native.Nat.{ℕ, ◌+◌, ◌≤◌}
+use mathlib.Core.Path.{sym, ap, ◌∙◌}
+use mathlib.Core.List.{List, ◌++◌}
+use native.Mathlib.Omega.{arith}
+use lib.ListN.{length, take, drop, length-map, length-append}
+use lib.Seq.{length-take-le, length_front}
+use Rattle.calculus.specs.Row.{cells_of}
+use Rattle.instance.specs.Rows.{rows_from}
+use Rattle.query.specs.Named.{named_in}
+use Rattle.domain.specs.Chains.{word_value, Added}
+use Rattle.domain.proofs.Chains.{chained_starts, added_then}
+use Rattle.domain.proofs.Listing.{added_fits, added_number, added_ends}
+use Rattle.domain.proofs.list_range.Goals as goal
+use Rattle.domain.proofs.list_range.Goals.{After-add_named-n, Start}
+
+pub list_cells-cells-requires : goal.list_cells-cells-requires
+list_cells-cells-requires c =
+    let start = (goal.at.list_cells-cells-requires c).Start in
+    let ars = c.args.arities.now in record {
+      instance_of = (c.requires.instance_of.0, chained_starts _);
+      words_in_bounds = omega (arith, c.requires.query_in_bounds, length-append (cells_of (rows_from ars 0 c.args.words.now)) (named_in ars c.args.query.now));
+    }
+
+pub add_named-n-requires : goal.add_named-n-requires
+add_named-n-requires c =
+    let call = c.list_cells-cells in
+    let start = (goal.at.add_named-n-requires c).Start in
+    let ars = c.args.arities.now in
+    let both = length-append (cells_of (rows_from ars 0 c.args.words.now)) (named_in ars c.args.query.now) in record {
+      has_terms = (c.requires.instance_of.1, call.ensures.chained);
+      query_in_bounds = (omega (arith, both, c.requires.query_in_bounds, call.ensures.added.most, call.ensures.added.long), omega (arith, both, c.requires.query_len_bound, call.ensures.added.most));
+    }
+
+-- cells and terms are added
+module _ (c : After-add_named-n) where
+  abbrev start : Start
+  start = c.before.before.before.before.before.before.before.before.before.before.before.before
+
+  abbrev all : List ℕ
+  all = cells_of (rows_from start.args.arities.now 0 start.args.words.now) ++ named_in start.args.arities.now start.args.query.now
+
+  added : Added start.args.buffer.now 0 all c.add_named-n.new.list c.add_named-n.result
+  added = added_then c.list_cells-cells.ensures.added c.add_named-n.ensures.added
+
+  room : length all ≤ length start.args.buffer.now
+  room = start.requires.query_in_bounds
+
+pub slice_bounds-unlink-end : goal.slice_bounds-unlink-end
+slice_bounds-unlink-end c = let b = (goal.at.slice_bounds-unlink-end c).After-add_named-n in added_fits (added b) (room b)
+
+pub slice_bounds-unlink-end-2 : goal.slice_bounds-unlink-end-2
+slice_bounds-unlink-end-2 c = let b = (goal.at.slice_bounds-unlink-end-2 c).After-add_named-n in sym (length-take-le _ _ (added_fits (added b) (room b)))
+
+pub shape_of-buffer : goal.shape_of-buffer
+shape_of-buffer c =
+    let b = (goal.at.shape_of-buffer c).After-add_named-n in
+    let l = ap length c.unlink.ensures ∙ length-map (take c.add_named-n.result c.add_named-n.new.list) word_value in
+    length_front c.add_named-n.new.list c.unlink.new.list c.add_named-n.result l ∙ (added b).long
+
+pub returns : goal.returns
+returns c =
+    let b = (goal.at.returns c).After-add_named-n in record {
+      number = added_number (added b) (room b);
+      values = ap (λ (l : List ℕ). l ++ drop c.add_named-n.result c.add_named-n.new.list) c.unlink.ensures ∙ added_ends (added b) (room b);
+    }

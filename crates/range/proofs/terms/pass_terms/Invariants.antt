@@ -1,0 +1,15 @@
+use Prim.Native.Nat.{ℕ, ◌+◌, ◌-◌, ◌*◌, ◌≤◌, ◌<◌}
+use mathlib.Core.Path.{◌≡◌, ◌∙◌}
+use mathlib.Core.List.{List, ◌++◌}
+use Rattle.query.specs.Words.{node_count, node_words}
+use Rattle.query.specs.Named.{named_from, named_in}
+use Rattle.range.specs.Flagged.{Passed}
+use Rattle.range.proofs.terms.pass_terms.Given as goal
+
+abbrev pub invariant-loop-node : goal.invariant-loop-node
+invariant-loop-node l =
+    (seen : List ℕ) × (l.node ≤ node_count l.query) × (seen ++ named_from l.arities l.query l.node (node_count l.query - l.node) ≡ named_in l.arities l.query)
+    × Passed l.words l.query l.initial.known 0 seen l.known (l.node * node_words)
+
+abbrev pub decreases-loop-node : goal.decreases-loop-node
+decreases-loop-node l = node_count l.query - l.node
