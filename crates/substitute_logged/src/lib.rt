@@ -16,8 +16,8 @@ use calculus::answer::Answer;
 use calculus::cell::CONSTANTS;
 use calculus::refusal::{LOG_TOO_SHORT, NULL_ABSENT};
 use instance::header::Header;
-use undo_log::Logged;
 use substitute::test_fill;
+use undo_log::Logged;
 
 // How often a null occurs in words. A relation's number is below every null, so the pass need not tell relation numbers from cells.
 fn held(words: &[u32], mark: u32) -> u32
