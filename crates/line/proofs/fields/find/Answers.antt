@@ -11,13 +11,13 @@ use Rattle.parse.proofs.Numbers.{numbers-whole}
 use Rattle.line.specs.Fields.{read_input, wholly}
 use Rattle.line.proofs.Finding.{from_card, from_words, from_cells, too_long, cut_size, to_card, cut_card, to_words, cut_words, to_cells, cut_cells, to_end, left_over, read_whole}
 use Rattle.line.proofs.fields.find.Goals as goal
-use Rattle.line.proofs.fields.find.Lts.View.{up-After-number-size}
+use Rattle.line.proofs.fields.find.Lts.View.{up-After-number-size, up-After-number-count, up-After-number-arity}
 use Rattle.line.proofs.fields.find.Goals.{After-number-arity, After-number-budget, After-number-count, After-number-size, Start}
 
 -- what the input is read as, once each number is read
 module _ (c : After-number-size) where
   abbrev start : Start
-  start = c.before.before.before.before.before.before.before.before.before.before.before
+  start = c.before.before.before.before.before.before.before.before.before.before
 
   abbrev input : List ℕ
   input = start.args.input.now
@@ -30,7 +30,7 @@ module _ (c : After-number-size) where
 
 module _ (c : After-number-count) where
   abbrev sized : After-number-size
-  sized = (up-After-number-size _ _ _ _ c.before.before.before.before.before.before)
+  sized = (up-After-number-size _ _ _ _ c.before.before.before.before.before)
 
   -- where the words start
   abbrev words : ℕ
@@ -44,7 +44,7 @@ module _ (c : After-number-count) where
 
 module _ (c : After-number-arity) where
   abbrev counted : After-number-count
-  counted = (up-After-number-size _ _ _ _ c.before.before.before.before.before.before)
+  counted = (up-After-number-count _ _ _ _ c.before.before.before.before.before)
 
   -- where the cells start
   abbrev cells : ℕ
@@ -60,7 +60,7 @@ module _ (c : After-number-arity) where
 
 module _ (c : After-number-budget) where
   abbrev valued : After-number-arity
-  valued = (up-After-number-size _ _ _ _ c.before.before.before.before.before.before)
+  valued = (up-After-number-arity _ _ _ _ c.before.before.before.before.before)
 
   abbrev whole : List ℕ
   whole = input (sized (counted valued))
