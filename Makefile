@@ -1,18 +1,18 @@
-# The program and the library are built by rt, the C side by the rules here and in the .mk file of each folder.
-# What is built goes below target/.
+# The program and the library are built by rt, in out/ of their crates, the C side by the rules here and in the .mk file
+# of each folder. What is built goes below target/.
 .PHONY: run test fmt lib c-test example desk desk-start verdicts bench bench-page builds builds-since bench-sqlite bench-sqlite-page sqlite
 # objects on the way to a program are kept
 .SECONDARY:
 
 # the crate whose exports are the library for C
 EXPORTS := exports
-CRATES := crates.txt $(shell find crates -name '*.rt' -o -name '*.antt')
+# what a build is made from; rt keeps copies of sources in out/
+CRATES := crates.txt $(shell find crates -name out -prune -o \( -name '*.rt' -o -name '*.antt' \) -print)
 LIBRARY := target/lib/libplotask.a
 PROGRAM := target/bin/plotask
 
 # proves and builds what plotask needs, and puts document 01's whole case through it: it prints `unknown 4`
-run:
-	rt check plotask
+run: $(PROGRAM)
 	@$(PROGRAM) < crates/plotask/stdin
 
 # the gate
@@ -21,23 +21,31 @@ test:
 
 # formats every .rt and .antt file, and the C side
 fmt:
-	rt fmt
+	@for crate in crates/*/; do (cd $$crate && rt fmt) || exit 1; done
 	clang-format -i $$(find include examples tests bench -name '*.[ch]' -o -name '*.cpp')
 
 # proves and builds the calls for C, and puts library, header and pkg-config file in one folder
 lib: $(LIBRARY) target/lib/plotask.h target/lib/plotask.pc
 
-$(LIBRARY): $(CRATES)
-	rt staticlib $(EXPORTS)
+$(LIBRARY): crates/$(EXPORTS)/out/lib$(EXPORTS).a
 	@mkdir -p $(@D)
-	cp target/staticlib/lib$(EXPORTS).a $@
+	cp $< $@
+
+crates/$(EXPORTS)/out/lib$(EXPORTS).a: $(CRATES)
+	cd crates/$(EXPORTS) && rt lib
+	@touch $@
 
 target/lib/plotask.%: include/plotask.%
 	@mkdir -p $(@D)
 	cp $< $@
 
-$(PROGRAM): $(CRATES)
-	rt check plotask
+$(PROGRAM): crates/plotask/out/plotask
+	@mkdir -p $(@D)
+	cp $< $@
+
+# rt builds a program when it runs it
+crates/plotask/out/plotask: $(CRATES)
+	cd crates/plotask && rt run < stdin > /dev/null
 	@touch $@
 
 CFLAGS := -std=c11 -O2 -Wall -Wextra -Werror

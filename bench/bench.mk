@@ -43,8 +43,8 @@ COPIES := this control other other_control
 # a line of the cache it stands, so a difference that is due to the code shows at each PLACE of 0, 16, 32 and 48
 PLACE ?= 0
 
-# the same against the library of a commit, which is built in a working tree of its own, kept for the next time:
-# make builds-since COMMIT=57c0b91
+# the same against the library of a commit, which the installed kit builds in a working tree of its own, kept for the
+# next time: make builds-since COMMIT=57c0b91
 SINCE = target/since/$(shell git rev-parse --verify --quiet '$(COMMIT)^{commit}')
 builds-since:
 	$(if $(notdir $(SINCE)),,$(error no such commit: make builds-since COMMIT=57c0b91))

@@ -124,8 +124,8 @@
  *
  * LINKING
  *
- * `cc host.c libplotask.a`. The library is code for x86-64 Linux, and needs memcpy and memset. In plotask's repository
- * `make lib` puts libplotask.a, plotask.h and plotask.pc in target/lib.
+ * `cc host.c libplotask.a`. The library is code for Linux on x86-64-v2, that is x86-64 with SSE4.2 and POPCNT. It needs
+ * memcpy and memset. In plotask's repository `make lib` puts libplotask.a, plotask.h and plotask.pc in target/lib.
  */
 #ifndef PLOTASK_H
 #define PLOTASK_H
@@ -358,7 +358,6 @@ uint32_t plotask_substitute_logged(const uint32_t *header, size_t header_words, 
  * as many more as the last word in use says), or the entry's mark is not 1 to 200, or a place in it is not that of a
  * cell: it is the word of a row's sheet number, or at or past the end of the plot's words in use. There is no other
  * test: an entry without places, or with places that are repeated or do not rise, is taken back too.
- * Time: linear in the plot's words in use and the entry's places, for every log, whatever stands in it.
  */
 uint32_t plotask_undo(const uint32_t *header, size_t header_words, uint32_t *plot, size_t plot_words,
                       const uint32_t *log, size_t log_words, size_t *log_used, uint32_t *count);

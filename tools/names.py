@@ -1,5 +1,7 @@
 #!/usr/bin/env python3
-"""names.py FOLDER: gives drafts with earlier names the present ones (docs/CHANGES.md, "Names").
+"""names.py FOLDER: gives drafts with earlier names those that docs/CHANGES.md, "Names", has beside them.
+
+The drafts are in the spelling of the kit of that time; respell_names.py then gives names their present spelling.
 
 Reads the .antt, .rt, .edit, .md, .diff and .patch files below FOLDER, whose crates are its own folders or those of crates/.
 Names are replaced in code, and between backquotes in comments and documents.

@@ -17,8 +17,8 @@ use Rattle.instance.specs.Insert.{enterable, inserted}
 use Rattle.instance.specs.Substitute.{substituted}
 use Rattle.instance.specs.NullCounts.{counted}
 use Rattle.instance.specs.Blanks.{blanks_in, blanks, highest_of, written_of, highest, numbered, numbered_rows}
-use Rattle.log.specs.Places.{is_place}
-use Rattle.log.specs.Log.{entry_well_formed, undone}
+use Rattle.undo_log.specs.Places.{is_place}
+use Rattle.undo_log.specs.Log.{entry_well_formed, undone}
 use Rattle.parse.specs.Parse.{read_byte, read_each}
 use Rattle.parse.specs.Number.{read_digits}
 use Rattle.card.specs.Format.{read_head, read_field, read_fields, read_record, read_card}

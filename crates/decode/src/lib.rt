@@ -15,8 +15,8 @@ use calculus::refusal::{BYTES_LEFT_OVER, NO_ROOM, NULLS_EXHAUSTED};
 use head::read_head;
 use instance::header::header_with;
 use instance::room::has_room;
-use undo_log::{FRESH, Restarted};
 use measure::{Needed, measure};
+use undo_log::{FRESH, Restarted};
 use write::write_rows;
 
 mod head;

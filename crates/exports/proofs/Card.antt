@@ -18,7 +18,7 @@ use Rattle.card.specs.Encode.{encoded, encoded_bytes}
 use Rattle.card.proofs.RoundTrip.{read_back}
 use Rattle.card.proofs.Sound.{decoded-sound}
 use Rattle.card.proofs.Again.{left-words}
-use Rattle.log.specs.Log.{fresh}
+use Rattle.undo_log.specs.Log.{fresh}
 use Rattle.exports.specs.Words.{header_length, header_of, header_words}
 use Rattle.exports.specs.Calls.{decode_answer, decode_header, decode_words, decode_used, encode_answer, encode_bytes}
 use Rattle.exports.specs.Steps.{encodes, decodes}

@@ -14,10 +14,10 @@ use Rattle.calculus.specs.Row.{Row}
 use Rattle.instance.specs.Sound.{rows, header_for}
 use Rattle.instance.specs.Insert.{inserted, inserted_header, inserted_words}
 use Rattle.instance.proofs.RowCounts.{row_counts-size}
-use Rattle.log.specs.Log.{fresh, logged, logged_words, logged_log, logged_used, undone, undone_words, undone_used}
-use Rattle.log.specs.History.{Event, answer_by, events_after, answers_by, step_answers, state_after as libraryAfter}
-use Rattle.log.specs.History as library
-use Rattle.log.proofs.History.{history-holds, never_bad, empty_if_no_fill-counts}
+use Rattle.undo_log.specs.Log.{fresh, logged, logged_words, logged_log, logged_used, undone, undone_words, undone_used}
+use Rattle.undo_log.specs.History.{Event, answer_by, events_after, answers_by, step_answers, state_after as libraryAfter}
+use Rattle.undo_log.specs.History as library
+use Rattle.undo_log.proofs.History.{history-holds, never_bad, empty_if_no_fill-counts}
 use Rattle.exports.specs.Words.{header_length, header_of, header_words, headed, if_headed}
 use Rattle.exports.specs.Calls.{decode_answer, decode_header, decode_words, decode_used}
 use Rattle.exports.specs.Calls.{log_answer, log_words, log_log, log_used, undo_answer, undo_words, undo_used, insert_answer, insert_header, insert_words}

@@ -22,8 +22,8 @@ use Rattle.instance.proofs.RowCounts.{row_counts-size}
 use Rattle.instance.proofs.Sound.{sound_gives}
 use Rattle.card.specs.Decode.{decoded}
 use Rattle.card.proofs.Sound.{decoded-sound}
-use Rattle.log.specs.Log.{undone_words}
-use Rattle.log.proofs.Kept.{undo_kept}
+use Rattle.undo_log.specs.Log.{undone_words}
+use Rattle.undo_log.proofs.Kept.{undo_kept}
 use Rattle.exports.specs.Words.{header_length, header_of, header_words, headed, if_headed}
 use Rattle.exports.specs.Calls.{decode_answer, decode_header, decode_words, insert_answer, insert_header, insert_words}
 use Rattle.exports.specs.Calls.{substitute_answer, substitute_words, log_answer, log_words, undo_answer, undo_words}

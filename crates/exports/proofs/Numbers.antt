@@ -14,7 +14,7 @@ use Rattle.calculus.proofs.Answers.{number-kept}
 use Rattle.calculus.specs.Refusal.{unsound, budget_spent}
 use Rattle.calculus.specs.Model.{outcome_of}
 use Rattle.instance.specs.NullCounts.{counted, counted_words}
-use Rattle.log.specs.Log.{logged, logged_log, logged_used, undone, undone_used}
+use Rattle.undo_log.specs.Log.{logged, logged_log, logged_used, undone, undone_used}
 use Rattle.instance.specs.Run.{model_of}
 use Rattle.card.specs.Encode.{encoded, encoded_bytes}
 use Rattle.query.specs.Named.{query_of}

@@ -5,7 +5,7 @@ use Rattle.calculus.specs.Answer.{after}
 use Rattle.instance.specs.Insert.{inserted, inserted_header, inserted_words}
 use Rattle.calculus.specs.Fill.{unlogged}
 use Rattle.instance.specs.Substitute.{substituted, substituted_words}
-use Rattle.log.specs.Log.{fresh, logged, logged_words, logged_log, logged_used, undone, undone_words, undone_used}
+use Rattle.undo_log.specs.Log.{fresh, logged, logged_words, logged_log, logged_used, undone, undone_words, undone_used}
 use Rattle.instance.specs.NullCounts.{counted, counted_words}
 use Rattle.card.specs.Decode.{decoded}
 use Rattle.card.specs.Encode.{encoded, encoded_bytes}

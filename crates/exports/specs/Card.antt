@@ -2,7 +2,7 @@
 -- 01: "A card with blanks, read, written and read again, gives the plot of its first reading."
 use Rattle.std.specs.Prelude.{ℕ, ◌≤◌, ◌≡◌, List, ◌++◌, length, take, drop}
 use Rattle.calculus.specs.Answer.{number_of, value_of}
-use Rattle.log.specs.Log.{fresh}
+use Rattle.undo_log.specs.Log.{fresh}
 use Rattle.exports.specs.Words.{header_length, header_of}
 use Rattle.exports.specs.Calls.{decode_answer, decode_header, decode_words, decode_used, encode_answer, encode_bytes}
 

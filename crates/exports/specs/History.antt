@@ -7,9 +7,9 @@ use Rattle.calculus.specs.Refusal.{log_empty, bad_log}
 use Rattle.calculus.specs.Row.{Row}
 use Rattle.instance.specs.declared.header.Header.{Header}
 use Rattle.instance.specs.Sound.{sound, rows, header_for}
-use Rattle.log.specs.Log.{fresh}
-use Rattle.log.specs.History.{Event, rows_by, fills_in, answer_by, events_after, history}
-use Rattle.log.specs.History as library
+use Rattle.undo_log.specs.Log.{fresh}
+use Rattle.undo_log.specs.History.{Event, rows_by, fills_in, answer_by, events_after, history}
+use Rattle.undo_log.specs.History as library
 use Rattle.exports.specs.Words.{header_length, header_of, header_words}
 use Rattle.exports.specs.Calls.{decode_answer, decode_header, decode_words, decode_used}
 use Rattle.exports.specs.Calls.{log_answer, log_words, log_log, log_used, undo_answer, undo_words, undo_used, insert_answer, insert_header, insert_words}

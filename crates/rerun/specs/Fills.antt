@@ -10,7 +10,7 @@ use Rattle.calculus.specs.Row.{Row}
 use Rattle.instance.specs.declared.header.Header.{Header}
 use Rattle.instance.specs.Run.{fill_words, fill_answer}
 use Rattle.instance.specs.Sound.{rows}
-use Rattle.log.specs.Log.{noted}
+use Rattle.undo_log.specs.Log.{noted}
 
 -- a fill that is wanted: a null's number, a cell, and whether it is logged
 pub record Wanted : Type 0 where

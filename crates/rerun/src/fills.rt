@@ -9,7 +9,7 @@ ghost use Rattle.rerun.specs.Fills.{wanted, wanted_of, fed, log_left, used_left,
 
 use calculus::answer::Answer;
 use instance::header::Header;
-use log::Logged;
+use undo_log::Logged;
 use substitute::{replace, substitute};
 use substitute_logged::substitute_logged;
 

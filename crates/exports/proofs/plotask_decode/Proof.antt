@@ -5,7 +5,7 @@ use Rattle.calculus.specs.declared.answer.Answer.{Answer}
 use Rattle.calculus.specs.Answer.{after, number_of}
 use Rattle.instance.specs.declared.header.Header.{Header}
 use Rattle.card.specs.Decode.{decoded}
-use Rattle.log.specs.Log.{fresh}
+use Rattle.undo_log.specs.Log.{fresh}
 use Rattle.exports.specs.Words.{header_words}
 use Rattle.exports.specs.Calls.{decode_answer, decode_header, decode_words, decode_used}
 use Rattle.exports.proofs.Headed.{headed_no, kept_no, headed_yes, kept_yes}

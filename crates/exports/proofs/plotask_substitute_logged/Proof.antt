@@ -2,7 +2,7 @@
 use mathlib.Core.Path.{sym, ap, ◌∙◌}
 use Rattle.calculus.specs.declared.answer.Answer.{Answer}
 use Rattle.calculus.specs.Answer.{number_of, value_of}
-use Rattle.log.specs.Log.{logged, logged_words, logged_log, logged_used}
+use Rattle.undo_log.specs.Log.{logged, logged_words, logged_log, logged_used}
 use Rattle.exports.specs.Calls.{log_answer, log_words, log_log, log_used}
 use Rattle.exports.proofs.Headed.{headed_no, kept_no, answered, left}
 use borrow.Author.Rules.{rules}

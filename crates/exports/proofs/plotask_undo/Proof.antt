@@ -2,7 +2,7 @@
 use mathlib.Core.Path.{sym, ap, ◌∙◌}
 use Rattle.calculus.specs.declared.answer.Answer.{Answer}
 use Rattle.calculus.specs.Answer.{number_of, value_of}
-use Rattle.log.specs.Log.{undone, undone_words, undone_used}
+use Rattle.undo_log.specs.Log.{undone, undone_words, undone_used}
 use Rattle.exports.specs.Calls.{undo_answer, undo_words, undo_used}
 use Rattle.exports.proofs.Headed.{headed_no, kept_no, answered, left}
 use borrow.Author.Rules.{rules}

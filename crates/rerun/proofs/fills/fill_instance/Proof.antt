@@ -2,7 +2,7 @@
 use mathlib.Core.Path.{refl}
 use native.Mathlib.Omega.{arith}
 use borrow.Author.Tests.{lt-ltb, le-ltb}
-use Rattle.log.specs.Log.{logged_log, logged_used}
+use Rattle.undo_log.specs.Log.{logged_log, logged_used}
 use borrow.Author.Rules.{rules}
 use Rattle.rerun.proofs.fills.fill_instance.Statement.{statement}
 use Rattle.rerun.proofs.fills.fill_instance.Tie as tie

@@ -1,0 +1,25 @@
+-- `answer::unlisted::pass_for` meets its contract. Assumes nothing.
+use mathlib.Core.Path.{refl, sym, ◌∙◌}
+use Rattle.calculus.proofs.Bools.{false_not_true}
+use Rattle.answer.proofs.unlisted.pass_for.Goals as goal
+
+pub ranging-requires : goal.ranging-requires
+ranging-requires c = c.requires.instance_of.1.whole
+
+pub pass_over-requires : goal.pass_over-requires
+pass_over-requires c =
+    record { instance_of = c.requires.instance_of; known_len = c.requires.known_len }
+
+pub returns-then-ranging : goal.returns-then-ranging
+returns-then-ranging c =
+    record {
+      kept = c.pass_over.ensures.kept;
+      walked = λ some. c.pass_over.ensures.walked;
+    }
+
+pub returns-else-ranging : goal.returns-else-ranging
+returns-else-ranging c =
+    let p = c.requires in record {
+      kept = (p.known_len.0, refl);
+      walked = λ some. false_not_true (sym (sym c.ranging.ensures ∙ c.if-ranging.false) ∙ some);
+    }

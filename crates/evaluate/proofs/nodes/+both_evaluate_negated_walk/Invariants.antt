@@ -1,0 +1,30 @@
+-- The mutually recursive functions of evaluation: each call is on the same node or on a child.
+use Prim.Native.Nat.{ℕ, ◌+◌, ◌-◌, ◌*◌}
+use mathlib.Core.Path.{◌≡◌}
+use lib.ListN.{length, set, drop}
+use Rattle.known.specs.Known.{arities_in, places_in, unpassed}
+use Rattle.query.specs.Words.{word_at, node_count}
+use Rattle.evaluate.specs.Ready.{world, walked_words, junction_of}
+use Rattle.evaluate.proofs.Children.{Walking}
+use Rattle.evaluate.proofs.nodes.+both_evaluate_negated_walk.Given as goal
+
+abbrev pub decreases-both : goal.decreases-both
+decreases-both l = 2 * (node_count l.query.now - l.node)
+
+abbrev pub decreases-evaluate : goal.decreases-evaluate
+decreases-evaluate l = 2 * (node_count l.query.now - l.node) + 1
+
+abbrev pub decreases-negated : goal.decreases-negated
+decreases-negated l = 2 * (node_count l.query.now - l.node)
+
+abbrev pub decreases-walk : goal.decreases-walk
+decreases-walk l = 2 * (node_count l.query.now - l.node)
+
+abbrev pub invariant-walk-loop-i : goal.invariant-walk-loop-i
+invariant-walk-loop-i l =
+    Walking (world (arities_in l.known) l.words l.query) (arities_in l.known) l.query l.node (junction_of l.every) l.initial.env l.budget l.truth l.cost
+    (unpassed l.known l.i (drop l.i (walked_words l.known l.values l.query))) ×
+    (set l.env (word_at l.query l.node 1) l.old ≡ l.initial.env)
+
+abbrev pub decreases-walk-loop-i : goal.decreases-walk-loop-i
+decreases-walk-loop-i l = places_in l.known - l.i
