@@ -12,7 +12,7 @@ use Rattle.answer.specs.Ask.{Lent, ask}
 use Rattle.answer.specs.Ways.{NoShorter}
 
 -- The answer b of run B after the fills, if run A got the verdict t with cost n: b is not refused; it is t if t is true or false; it costs no
--- more; and if no null is left, it is the verdict of two_valued logic.
+-- more; and if no null is left, it is the verdict of two-valued logic.
 pub record Rerun (h : Header) (ws qs candidate : List ℕ) (fs : List Fill) (t : Truth) (n : ℕ) (b : Asked) : Type 0 where
   pub ran : Ran h fs ws candidate
   pub truth : Truth

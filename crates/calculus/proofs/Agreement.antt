@@ -1,4 +1,4 @@
--- Without nulls there is no unknown: the truth value is what two_valued logic says. Assumes nothing.
+-- Without nulls there is no unknown: the truth value is what two-valued logic says. Assumes nothing.
 use Prim.Native.Nat.{ℕ}
 use mathlib.Core.Path.{◌≡◌, refl, sym, ap, ◌∙◌}
 use mathlib.Core.Bool.{Bool, true, false, not, cond}
@@ -89,7 +89,7 @@ over-bool j f g (c ∷ cs) k each =
 
 module _ (range : List ℕ) (known-range : all_constant range ≡ true)
     (rs : List Row) (constant-cells : all_constant (cells_of rs) ≡ true) where
-  -- the verdict is true exactly if two_valued logic says yes, and false exactly if it says no
+  -- the verdict is true exactly if two-valued logic says yes, and false exactly if it says no
   pub two_valued :
       (f : Formula) → inked f ≡ true → (e : List ℕ) → all_constant e ≡ true →
       (eval (closed_over range rs) f e).truth ≡ of_bool (says range rs f e)

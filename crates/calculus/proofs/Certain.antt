@@ -25,7 +25,7 @@ use Rattle.calculus.proofs.All.{all_map, all_always, all_append, all_replicate}
 valued-constant : (v : Valuation) (cs : List ℕ) → all_constant (map (under v) cs) ≡ true
 valued-constant v cs = all_map is_constant (under v) (λ c. true) (λ c t. under-constant v c) cs (all_always (λ c. true) (λ c. refl) cs)
 
--- without nulls, the verdict is that of two_valued logic
+-- without nulls, the verdict is that of two-valued logic
 pub complete-verdict : (b : Model) (f : Query) → inked_query f ≡ true → complete b ≡ true → (outcome_of b f).truth ≡ of_bool (says_yes b f)
 complete-verdict b f k p =
     let c = and_parts (all_constant (cells_of b.rows)) (all_constant b.candidate) p in
@@ -65,7 +65,7 @@ of_bool_lem true false e = let z : ◌≡◌ {A = Bool} true false = cc in z
 of_bool_lem false true e = let z : ◌≡◌ {A = Bool} false true = cc in z
 of_bool_lem false false e = refl
 
--- if the verdict is true, two_valued logic says yes under every valuation; if it is false, no
+-- if the verdict is true, two-valued logic says yes under every valuation; if it is false, no
 pub certain :
     (v : Valuation) (b : Model) (f : Query) (t : Bool) → inked_query f ≡ true → (outcome_of b f).truth ≡ of_bool t → says_yes (valued v b) f ≡ t
 certain v b f t k e =

@@ -25,7 +25,7 @@ pub record Model : Type 0 where
   pub rows : List Row
   pub candidate : List ℕ
 
--- a question asked of the model, by the three-valued rules and by two_valued logic
+-- a question asked of the model, by the three-valued rules and by two-valued logic
 abbrev pub outcome_of : Model → Query → Outcome
 outcome_of b q = eval (closed q.named b.rows) q.formula (assignment b.candidate)
 
@@ -63,7 +63,7 @@ abbrev pub valued : Valuation → Model → Model
 valued v b = record { rows = map (map_row (under v)) b.rows; candidate = map (under v) b.candidate }
 
 -- What run A and run B share, for one question and a whole list of fills. "if A's verdict is true or false, B's is the same .. the looks it
--- answers are at most those that A answered. If B's plot and candidate hold no mark, B's verdict is true exactly when ordinary two_valued
+-- answers are at most those that A answered. If B's plot and candidate hold no mark, B's verdict is true exactly when ordinary two-valued
 -- logic .. says yes, and false exactly when it says no."
 pub record Shared (fs : List Fill) (b : Model) (q : Query) : Type 0 where
   pub kept : outcome_of b q ⊑ₒ outcome_of (run fs b) q

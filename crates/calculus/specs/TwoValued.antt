@@ -1,4 +1,4 @@
--- Ordinary two_valued logic, as document 01, "Run A and run B", spells it out. Nothing stops early.
+-- Ordinary two-valued logic, as document 01, "Run A and run B", spells it out. Nothing stops early.
 use Rattle.std.specs.Prelude.{ℕ, Bool, true, false, not, ◌&&◌, ◌||◌, List, [], ◌∷◌, set, eqb}
 use Rattle.calculus.specs.Row.{Row}
 use Rattle.calculus.specs.Kleene.{Junction, conj, disj}

@@ -54,7 +54,7 @@ pub none_above : (w : ℕ) → 8 ≤ w → kind_of w ≡ no_such_kind
 unfolding kind_of
 none_above w h = get_or-eq_default kinds no_such_kind h
 
--- what a well_formed node says of its children, by its kind
+-- what a well-formed node says of its children, by its kind
 pub well_formed_by :
     (ars ws qs table : List ℕ) (i : ℕ) (kind : Kind) (r : Ready ars ws qs table) → i < node_count qs → kind_of (word_at qs i 0) ≡ kind →
     NodeBy r.given.relations ars qs i kind

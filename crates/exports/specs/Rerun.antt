@@ -36,7 +36,7 @@ pub record ExportedRerun (p : Instance) (qs candidate : List ℕ) (ss : List Ste
   pub kept : (verdict_of a truth ≡ rank Unknown → ⊥) → verdict_of b truth' ≡ verdict_of a truth
   -- "the looks it answers are at most those that A answered"
   pub no_more : cost_of b cost' ≤ cost_of a cost
-  -- "If B's plot and candidate hold no mark, B's verdict is true exactly when ordinary two_valued logic .. says yes, and false exactly when it says no."
+  -- "If B's plot and candidate hold no mark, B's verdict is true exactly when ordinary two-valued logic .. says yes, and false exactly when it says no."
   pub two_valued :
       complete (model_after p candidate ss) ≡ true → verdict_of b truth'
       ≡ rank (of_bool (says_yes (model_after p candidate ss) (query_of (header_of p.header).arities qs)))

@@ -18,7 +18,7 @@ use Rattle.instance.specs.Rows.{are_cells, row_well_formed, rows_well_formed}
 use Rattle.instance.specs.Blanks.{Field, written, blank, Record, blanks_in, blanks, highest_of, written_of, highest_in, highest, numbered, numbered_rows}
 use Rattle.instance.proofs.Rows.{row_well_formed_lem, row_parts}
 
--- a well_formed field
+-- a well-formed field
 unfoldable pub field_well_formed : Field → Bool
 field_well_formed (written c) = is_cell c
 field_well_formed blank = true

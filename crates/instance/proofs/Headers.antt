@@ -24,7 +24,7 @@ pub record Holds (h : Header) (ws : List ℕ) (rs : List Row) : Type 0 where
   pub is_sound : sound h ws ≡ true
   pub holds : rows h ws ≡ rs
 
--- The words of well_formed rows, followed by any others, are a sound instance under the rows' header.
+-- The words of well-formed rows, followed by any others, are a sound instance under the rows' header.
 pub rows-sound : (n : ℕ) (ars : List ℕ) (rs : List Row) (back : List ℕ) → header_well_formed n ars ≡ true → length (words_of rs) ≤ max_words
     → rows_well_formed n ars rs ≡ true → Holds (header_for n ars rs) (words_of rs ++ back) rs
 unfolding sound rows

@@ -9,7 +9,7 @@ pub record InstanceWellFormed (n : ℕ) (ars ws : List ℕ) : Type 0 where
   pub few : length ws ≤ max_words
   pub words : words_well_formed n ars 0 ws ≡ true
 
--- a well_formed instance with these arities and words in use; how many relations it has is part of the record
+-- a well-formed instance with these arities and words in use; how many relations it has is part of the record
 pub record InstanceOf (ars ws : List ℕ) : Type 0 where
   pub relations : ℕ
   pub well_formed : InstanceWellFormed relations ars ws

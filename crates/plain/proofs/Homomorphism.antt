@@ -1,5 +1,5 @@
 -- Positive formulas are preserved under homomorphisms: if the rows of one instance, mapped, are rows of another, and
--- the values of its range, mapped, are in the other's range, then two_valued logic says yes of the other where it says
+-- the values of its range, mapped, are in the other's range, then two-valued logic says yes of the other where it says
 -- yes of the one. Assumes nothing.
 use Prim.Native.Nat.{ℕ}
 use mathlib.Core.Path.{◌≡◌, refl, sym, ap, ◌∙◌, subst}
@@ -28,7 +28,7 @@ joinB-mono :
 joinB-mono conj a b a' b' f g e = let p = and_parts a b e in and_intro (f p.0) (g p.1)
 joinB-mono disj a b a' b' f g e = or_mono a b a' b' f g e
 
--- two_valued logic says yes of a some exactly if it says yes for one of the values
+-- two-valued logic says yes of a some exactly if it says yes for one of the values
 module _ (f : ℕ → Bool) where
   some-value : (cs : List ℕ) → over_b disj f cs ≡ true → (c : ℕ) × Memᴰ c cs × (f c ≡ true)
   some-value [] e = false_not_true e

@@ -1,4 +1,4 @@
--- Naive evaluation: a positive formula is true exactly if two_valued logic says yes where each null is taken for a
+-- Naive evaluation: a positive formula is true exactly if two-valued logic says yes where each null is taken for a
 -- value of its own. Assumes nothing.
 use Prim.Native.Nat.{ℕ}
 use mathlib.Core.Path.{◌≡◌, refl, sym, ap, ap₂, ◌∙◌}

@@ -15,7 +15,7 @@ use Rattle.answer.specs.declared.asked.Asked.TheVariants.{Verdict}
 use Rattle.answer.specs.Ask.{Lent, ask}
 use Rattle.plain.specs.Plain.{plain_words}
 
--- Whether plot and candidate, completed by one giving of inked values to all marks, satisfy the question: by two_valued
+-- Whether plot and candidate, completed by one giving of inked values to all marks, satisfy the question: by two-valued
 -- logic, with the range of the completed plot.
 abbrev pub satisfied : Header → (ws qs candidate : List ℕ) → Valuation → Bool
 satisfied h ws qs candidate v = says_yes (valued v (model_of h ws candidate)) (query_of h.arities qs)

@@ -133,7 +133,7 @@ module _ (g : Given) (ws : List ℕ) where
   reran_buffer2 = after begun (left_by g.way g.header model_words g.query end.model.candidate g.buffer2) g.buffer2
 
   -- demand 3 for the answer, if there is room for the fills' answers, run B's buffer and budget are no smaller than run A's, and run A gets a verdict:
-  -- r has it, and B is not refused, keeps it if it is true or false, costs no more, and is the verdict of two_valued logic if no null is left
+  -- r has it, and B is not refused, keeps it if it is true or false, costs no more, and is the verdict of two-valued logic if no null is left
   abbrev pub Claim : Reran → Type 0
   Claim r =
       length g.fills ≤ length g.answers → NoShorter (lent_by g.way g.buffer) (lent_by g.way g.buffer2) → g.budget ≤ g.budget2 →

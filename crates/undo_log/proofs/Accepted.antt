@@ -18,7 +18,7 @@ use Rattle.undo_log.specs.Places.{are_places}
 use Rattle.undo_log.specs.Log.{last_count, last_mark, last_places, entry_well_formed, undone}
 
 module _ (h : Header) (ws log : List ℕ) (used : ℕ) where
-  -- what a well_formed entry says
+  -- what a well-formed entry says
   pub record Entry : Type 0 where
     pub within : used ≤ length log
     pub whole : entry_length (last_count log used) ≤ used

@@ -39,7 +39,7 @@ place-alike (r ∷ rs) [] a p = absurd a
 place-alike (r ∷ rs) (s ∷ ss) a zero = refl
 place-alike (r ∷ rs) (s ∷ ss) a (suc p) = rw a.1 (ap (λ (b : Bool). ltb p (length s.cells) || b) (place-alike rs ss a.2 (p - length s.cells)))
 
--- these words are those of well_formed rows like rs, and others after them
+-- these words are those of well-formed rows like rs, and others after them
 record Left (n : ℕ) (ars post : List ℕ) (rs : List Row) (ws : List ℕ) : Type 0 where
   left : List Row
   words : ws ≡ words_of left ++ post

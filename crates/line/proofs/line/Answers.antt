@@ -6,7 +6,6 @@ use Rattle.answer.specs.declared.asked.Asked.{Asked}
 use Rattle.line.specs.Line.{line_for, line_length, line_out}
 use Rattle.line.proofs.Answering.{no_line, one_line}
 use Rattle.line.proofs.line.Goals as goal
-use Rattle.line.proofs.line.Lts.View.{up-After-answer}
 use Rattle.line.proofs.line.Goals.{After-answer, After-write_refused, After-write_verdict, Start}
 
 -- the line of the answer
@@ -29,7 +28,7 @@ pub returns-in-Verdict : goal.returns-in-Verdict
 returns-in-Verdict c =
     let w = (goal.at.returns-in-Verdict c).After-write_verdict in
     let told = (goal.at.returns-in-Verdict c).After-answer in
-    let p = printed (up-After-answer _ _ _ _ told.before) told.truth.given.1 in record {
+    let p = printed told c.in-Verdict.is in record {
       length = c.write_verdict.ensures.length ∙ sym p.0;
       bytes = c.write_verdict.ensures.bytes ∙ sym p.1;
     }
@@ -38,7 +37,7 @@ pub returns-in-Refused : goal.returns-in-Refused
 returns-in-Refused c =
     let w = (goal.at.returns-in-Refused c).After-write_refused in
     let told = (goal.at.returns-in-Refused c).After-answer in
-    let p = printed (up-After-answer _ _ _ _ told.before) told.why.given.1 in record {
+    let p = printed told c.in-Refused.is in record {
       length = c.write_refused.ensures.length ∙ sym p.0;
       bytes = c.write_refused.ensures.bytes ∙ sym p.1;
     }

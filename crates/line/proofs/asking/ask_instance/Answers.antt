@@ -44,7 +44,7 @@ module _ (c : After-numbers-2) where
   abbrev first : After-words-1
   first = (up-After-words-1 _ _ _ _ worded.before.before)
 
-  words : take (count first) worded.numbers.last.0 ≡ numbers_of 4 (count first) (drop (places first).words (input first))
+  words : take (count first) worded.numbers.new.out ≡ numbers_of 4 (count first) (drop (places first).words (input first))
   words = numbers_front 4 (count first) (drop (places first).words (input first)) _ _ (first_read first) worded.numbers.ensures
 
   cells : take (places first).arity c.numbers-2.new.out ≡ numbers_of 3 (places first).arity (drop (places first).cells (input first))
@@ -71,12 +71,12 @@ numbers-requires-2 c =
 pub slice_bounds-ask-end : goal.slice_bounds-ask-end
 slice_bounds-ask-end c =
     let worded = worded (goal.at.slice_bounds-ask-end c).After-numbers-2 in
-    sym (length-take-le (count (up-After-words-1 _ _ _ _ worded.before.before)) worded.numbers.last.0 (omega (arith, worded.numbers.kept.0)))
+    sym (length-take-le (count (up-After-words-1 _ _ _ _ worded.before.before)) worded.numbers.new.out (omega (arith, worded.numbers.auto.out)))
 
 pub slice_bounds-ask-end-2 : goal.slice_bounds-ask-end-2
 slice_bounds-ask-end-2 c =
     let listed = (goal.at.slice_bounds-ask-end-2 c).After-numbers-2 in
-    sym (length-take-le (places (first listed)).arity c.numbers-2.new.out (omega (arith, c.numbers-2.auto.0)))
+    sym (length-take-le (places (first listed)).arity c.numbers-2.new.out (omega (arith, c.numbers-2.auto.out)))
 
 pub returns : goal.returns
 unfolding blank

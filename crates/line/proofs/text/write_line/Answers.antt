@@ -33,9 +33,9 @@ module _ (c : After-slice_known-3-1) where
   ds = digits start.args.n
 
   few : length ds ≤ max_digits
-  few = digits-few start.args.n start.fits.n.fits
+  few = digits-few start.args.n c.ranges.n.fits
 
-  placed : put_mid (length word) (length copied.copy.last.0 - length word) copied.copy.last.0 c.decimal.new.out ≡ overwrite (word ++ ds) out
+  placed : put_mid (length word) (length c.copy.new.out - length word) c.copy.new.out c.decimal.new.out ≡ overwrite (word ++ ds) out
   placed = with_word word ds out _ _ (omega arith) copied.copy.ensures c.decimal.ensures.bytes
 
   room : length (overwrite (word ++ ds) out) ≡ length out
