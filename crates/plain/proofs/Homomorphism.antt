@@ -42,6 +42,7 @@ module _ (f : ℕ → Bool) where
       go false p e later = let r = later e in (r.0, Memᴰ.tail r.1, r.2)
 
   value-some : {c : ℕ} (cs : List ℕ) → Memᴰ c cs → f c ≡ true → over_b disj f cs ≡ true
+  value-some [] m e = elim m [ ]
   value-some (x ∷ cs) (Memᴰ.head same) e = let here : f x ≡ true = ap f (sym same) ∙ e in rw here
   value-some (x ∷ cs) (Memᴰ.tail m) e = rw (value-some cs m e) (or-true (f x))
 

@@ -9,9 +9,9 @@ ghost use Rattle.rerun.specs.Fills.{wanted, wanted_of, fed, log_left, used_left,
 
 use calculus::answer::Answer;
 use instance::header::Header;
-use undo_log::Logged;
 use substitute::{replace, substitute};
 use substitute_logged::substitute_logged;
+use undo_log::Logged;
 
 // A fill of the instance, logged if `logs` is not 0.
 fn fill_instance(

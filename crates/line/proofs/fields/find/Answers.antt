@@ -17,7 +17,7 @@ use Rattle.line.proofs.fields.find.Goals.{After-number-arity, After-number-budge
 -- what the input is read as, once each number is read
 module _ (c : After-number-size) where
   abbrev start : Start
-  start = c.before.before.before.before.before.before.before.before.before.before
+  start = c.before.before.before.before.before
 
   abbrev input : List ℕ
   input = start.args.input.now
@@ -30,7 +30,7 @@ module _ (c : After-number-size) where
 
 module _ (c : After-number-count) where
   abbrev sized : After-number-size
-  sized = (up-After-number-size _ _ _ _ c.before.before.before.before.before)
+  sized = (up-After-number-size _ _ _ _ c.before.before.before)
 
   -- where the words start
   abbrev words : ℕ
@@ -44,7 +44,7 @@ module _ (c : After-number-count) where
 
 module _ (c : After-number-arity) where
   abbrev counted : After-number-count
-  counted = (up-After-number-count _ _ _ _ c.before.before.before.before.before)
+  counted = (up-After-number-count _ _ _ _ c.before.before.before)
 
   -- where the cells start
   abbrev cells : ℕ
@@ -60,7 +60,7 @@ module _ (c : After-number-arity) where
 
 module _ (c : After-number-budget) where
   abbrev valued : After-number-arity
-  valued = (up-After-number-arity _ _ _ _ c.before.before.before.before.before)
+  valued = (up-After-number-arity _ _ _ _ c.before.before.before)
 
   abbrev whole : List ℕ
   whole = input (sized (counted valued))
@@ -91,21 +91,21 @@ pub returns-then-input-counted : goal.returns-then-input-counted
 returns-then-input-counted c =
     record {
       places = tt;
-      told = cut_card (input (goal.at.returns-then-input-counted c).After-number-budget) 2 (size (goal.at.returns-then-input-counted c).After-number-budget) (to_size (goal.at.returns-then-input-counted c).After-number-budget) (omega arith) (omega arith);
+      told = cut_card (input (goal.at.returns-then-input-counted c).After-number-size) 2 (size (goal.at.returns-then-input-counted c).After-number-size) (to_size (goal.at.returns-then-input-counted c).After-number-size) (omega arith) (omega arith);
     }
 
 pub returns-then-input-valued : goal.returns-then-input-valued
 returns-then-input-valued c =
     record {
       places = tt;
-      told = cut_words (input (sized (goal.at.returns-then-input-valued c).After-number-budget)) (words (goal.at.returns-then-input-valued c).After-number-budget) _ (count (goal.at.returns-then-input-valued c).After-number-budget) (to_count (goal.at.returns-then-input-valued c).After-number-budget) (omega arith) (omega arith);
+      told = cut_words (input (sized (goal.at.returns-then-input-valued c).After-number-count)) (words (goal.at.returns-then-input-valued c).After-number-count) _ (count (goal.at.returns-then-input-valued c).After-number-count) (to_count (goal.at.returns-then-input-valued c).After-number-count) (omega arith) (omega arith);
     }
 
 pub returns-then-input-allowed : goal.returns-then-input-allowed
 returns-then-input-allowed c =
     record {
       places = tt;
-      told = cut_cells (input (sized (counted (goal.at.returns-then-input-allowed c).After-number-budget))) (cells (goal.at.returns-then-input-allowed c).After-number-budget) _ _ (arity (goal.at.returns-then-input-allowed c).After-number-budget) (to-arity (goal.at.returns-then-input-allowed c).After-number-arity) (omega arith) (omega arith);
+      told = cut_cells (input (sized (counted (goal.at.returns-then-input-allowed c).After-number-arity))) (cells (goal.at.returns-then-input-allowed c).After-number-arity) _ _ (arity (goal.at.returns-then-input-allowed c).After-number-arity) (to-arity (goal.at.returns-then-input-allowed c).After-number-arity) (omega arith) (omega arith);
     }
 
 pub returns-then-allowed-input : goal.returns-then-allowed-input

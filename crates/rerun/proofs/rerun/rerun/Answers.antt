@@ -1,0 +1,47 @@
+-- `rerun::rerun::rerun` meets its contract: its three ends are those of the definition. Assumes nothing.
+use Prim.Native.Nat.{ℕ}
+use mathlib.Core.Path.{sym, ◌∙◌}
+use mathlib.Core.List.{List}
+use native.Mathlib.Omega.{arith}
+use Rattle.rerun.specs.Rerun.{Given, given}
+use Rattle.rerun.proofs.Endings.{no_place, refused, few-cells, both_asked}
+use Rattle.rerun.proofs.rerun.rerun.Goals as goal
+use Rattle.rerun.proofs.rerun.rerun.Goals.{Start}
+
+-- what the call is given
+module _ (c : Start) where
+  abbrev g : Given
+  g = given c.args.way c.args.header c.args.query.now c.args.candidate.now c.args.buffer.now c.args.budget c.args.fills.now c.args.answers.now c.args.log.now c.args.used.now c.args.buffer2.now c.args.budget2
+
+  abbrev ws : List ℕ
+  ws = c.args.instance.now
+
+pub returns-then-answers-fills : goal.returns-then-answers-fills
+returns-then-answers-fills c =
+    let s = (goal.at.returns-then-answers-fills c).Start in
+    no_place (g s) (ws s) c.if-answers-fills.true
+
+pub fill_all-requires : goal.fill_all-requires
+fill_all-requires c =
+    let s = (goal.at.fill_all-requires c).Start in
+    let few = few-cells (g s) (ws s) _ _ (sym c.in-Verdict.is ∙ c.ask_by.ensures.answer) in
+    (omega arith, c.if-answers-fills.false)
+
+pub returns-in-Refused : goal.returns-in-Refused
+returns-in-Refused c =
+    let s = (goal.at.returns-in-Refused c).Start in
+    refused (g s) (ws s) c.if-answers-fills.false _ (sym c.in-Refused.is ∙ c.ask_by.ensures.answer) _ c.ask_by.ensures.buffer
+
+pub returns-in-Refused-ask_by : goal.returns-in-Refused-ask_by
+returns-in-Refused-ask_by c =
+    let s = (goal.at.returns-in-Refused-ask_by c).Start in
+    both_asked (g s) (ws s) c.if-answers-fills.false _ _ (sym c.in-Verdict.is ∙ c.ask_by.ensures.answer)
+    _ _ _ _ _ _ _ _ c.ask_by.ensures.buffer c.fill_all.ensures.left c.fill_all.ensures.answers
+    (sym c.in-Refused-ask_by.is ∙ c.ask_by-in-Verdict.ensures.answer) c.ask_by-in-Verdict.ensures.buffer
+
+pub returns-in-Verdict-ask_by : goal.returns-in-Verdict-ask_by
+returns-in-Verdict-ask_by c =
+    let s = (goal.at.returns-in-Verdict-ask_by c).Start in
+    both_asked (g s) (ws s) c.if-answers-fills.false _ _ (sym c.in-Verdict.is ∙ c.ask_by.ensures.answer)
+    _ _ _ _ _ _ _ _ c.ask_by.ensures.buffer c.fill_all.ensures.left c.fill_all.ensures.answers
+    (sym c.in-Verdict-ask_by.is ∙ c.ask_by-in-Verdict.ensures.answer) c.ask_by-in-Verdict.ensures.buffer
