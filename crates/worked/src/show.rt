@@ -11,8 +11,13 @@ fn text(rt: &impl Print, part: &str) -> io::Result<()> {
     print!(rt; "{part}")
 }
 
+fn number(rt: &impl Print, n: u32) -> io::Result<()> {
+    print!(rt; "{n}")
+}
+
 fn item(rt: &impl Print, n: u32) -> io::Result<()> {
-    print!(rt; " {n}")
+    text(rt, " ")?;
+    number(rt, n)
 }
 
 fn hex_item(rt: &impl Print, n: u8) -> io::Result<()> {
