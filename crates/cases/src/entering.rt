@@ -8,7 +8,7 @@ use worked::show;
 // Enters a row, shows the answer, and returns the header.
 fn enter(
     rt: &impl Print,
-    name: &str,
+    name: &[u8],
     header: Header,
     plot: &mut [u32],
     relation: u32,
@@ -23,7 +23,7 @@ fn enter(
 // Enters a row of one cell into sheet 0.
 fn enter_cell(
     rt: &impl Print,
-    name: &str,
+    name: &[u8],
     header: Header,
     plot: &mut [u32],
     cell: u32,
@@ -36,26 +36,26 @@ pub fn rows(rt: &impl Print) -> io::Result<()> {
     let pair = [1_000_200u32, 1_000_001];
     let first = enter_cell(
         rt,
-        "a row of one cell",
+        b"a row of one cell",
         two_sheets(1, 2, 0, 0, 0),
         &mut plot,
         999_999,
     )?;
-    let second = enter(rt, "a row of two marks", first, &mut plot, 1, &pair)?;
+    let second = enter(rt, b"a row of two marks", first, &mut plot, 1, &pair)?;
     show::plot(rt, second, &plot)?;
     let third = enter_cell(
         rt,
-        "two words more, which fill the slice",
+        b"two words more, which fill the slice",
         second,
         &mut plot,
         999_999,
     )?;
-    let last = enter_cell(rt, "no room for another", third, &mut plot, 999_999)?;
+    let last = enter_cell(rt, b"no room for another", third, &mut plot, 999_999)?;
     show::plot(rt, last, &plot)
 }
 
 // Enters a row that a plot of two empty sheets refuses, and shows the words afterwards.
-fn turned_away(rt: &impl Print, name: &str, relation: u32, cells: &[u32]) -> io::Result<()> {
+fn turned_away(rt: &impl Print, name: &[u8], relation: u32, cells: &[u32]) -> io::Result<()> {
     let mut plot = [7u32; 4];
     enter(
         rt,
@@ -73,17 +73,17 @@ pub fn refused(rt: &impl Print) -> io::Result<()> {
     let low = [1_000_000u32];
     let high = [1_000_201u32];
     let none = [5u32; 0];
-    turned_away(rt, "sheet 2 of two", 2, &one)?;
-    turned_away(rt, "one cell for two columns", 1, &one)?;
-    turned_away(rt, "no cell for one column", 0, &none)?;
-    turned_away(rt, "1,000,000 entered", 0, &low)?;
-    turned_away(rt, "1,000,201 entered", 0, &high)
+    turned_away(rt, b"sheet 2 of two", 2, &one)?;
+    turned_away(rt, b"one cell for two columns", 1, &one)?;
+    turned_away(rt, b"no cell for one column", 0, &none)?;
+    turned_away(rt, b"1,000,000 entered", 0, &low)?;
+    turned_away(rt, b"1,000,201 entered", 0, &high)
 }
 
 // Enters a row of one cell into a plot with the given header and words.
 fn unsound(
     rt: &impl Print,
-    name: &str,
+    name: &[u8],
     relations: u32,
     arities: [u32; 8],
     used: u32,
@@ -104,10 +104,10 @@ fn unsound(
 pub fn unsound_headers(rt: &impl Print) -> io::Result<()> {
     let none = [0u32; 8];
     let words = [0u32; 4];
-    unsound(rt, "no sheet", 0, [0, 0, 0, 0, 0, 0, 0, 0], 0, none, words)?;
+    unsound(rt, b"no sheet", 0, [0, 0, 0, 0, 0, 0, 0, 0], 0, none, words)?;
     unsound(
         rt,
-        "nine sheets",
+        b"nine sheets",
         9,
         [1, 1, 1, 1, 1, 1, 1, 1],
         0,
@@ -116,7 +116,7 @@ pub fn unsound_headers(rt: &impl Print) -> io::Result<()> {
     )?;
     unsound(
         rt,
-        "a sheet of no column",
+        b"a sheet of no column",
         1,
         [0, 0, 0, 0, 0, 0, 0, 0],
         0,
@@ -125,7 +125,7 @@ pub fn unsound_headers(rt: &impl Print) -> io::Result<()> {
     )?;
     unsound(
         rt,
-        "a sheet of seven columns",
+        b"a sheet of seven columns",
         1,
         [7, 0, 0, 0, 0, 0, 0, 0],
         0,
@@ -134,7 +134,7 @@ pub fn unsound_headers(rt: &impl Print) -> io::Result<()> {
     )?;
     unsound(
         rt,
-        "columns of a sheet that does not exist",
+        b"columns of a sheet that does not exist",
         1,
         [1, 0, 0, 0, 0, 0, 0, 1],
         0,
@@ -143,7 +143,7 @@ pub fn unsound_headers(rt: &impl Print) -> io::Result<()> {
     )?;
     unsound(
         rt,
-        "more words in use than the slice has",
+        b"more words in use than the slice has",
         1,
         [1, 0, 0, 0, 0, 0, 0, 0],
         5,
@@ -158,7 +158,7 @@ pub fn unsound_words(rt: &impl Print) -> io::Result<()> {
     let second = [0u32, 1, 0, 0, 0, 0, 0, 0];
     unsound(
         rt,
-        "a sheet number too high",
+        b"a sheet number too high",
         2,
         arities,
         2,
@@ -167,7 +167,7 @@ pub fn unsound_words(rt: &impl Print) -> io::Result<()> {
     )?;
     unsound(
         rt,
-        "a word that is no cell",
+        b"a word that is no cell",
         2,
         arities,
         2,
@@ -176,7 +176,7 @@ pub fn unsound_words(rt: &impl Print) -> io::Result<()> {
     )?;
     unsound(
         rt,
-        "a row that lacks its last cell",
+        b"a row that lacks its last cell",
         2,
         arities,
         2,
@@ -185,7 +185,7 @@ pub fn unsound_words(rt: &impl Print) -> io::Result<()> {
     )?;
     unsound(
         rt,
-        "the same row, whole",
+        b"the same row, whole",
         2,
         arities,
         3,
@@ -200,7 +200,7 @@ pub fn unsound_counts(rt: &impl Print) -> io::Result<()> {
     let words = [1u32, 5, 5, 0];
     unsound(
         rt,
-        "a row that is not counted",
+        b"a row that is not counted",
         2,
         arities,
         3,
@@ -209,7 +209,7 @@ pub fn unsound_counts(rt: &impl Print) -> io::Result<()> {
     )?;
     unsound(
         rt,
-        "a row counted twice",
+        b"a row counted twice",
         2,
         arities,
         3,
@@ -218,7 +218,7 @@ pub fn unsound_counts(rt: &impl Print) -> io::Result<()> {
     )?;
     unsound(
         rt,
-        "a row counted in another sheet",
+        b"a row counted in another sheet",
         2,
         arities,
         3,
@@ -227,7 +227,7 @@ pub fn unsound_counts(rt: &impl Print) -> io::Result<()> {
     )?;
     unsound(
         rt,
-        "a count of a sheet that does not exist",
+        b"a count of a sheet that does not exist",
         2,
         arities,
         3,
@@ -252,7 +252,7 @@ fn repeat(header: Header, plot: &mut [u32], cells: &[u32], n: u32) -> Header {
 pub fn until_full(rt: &impl Print) -> io::Result<()> {
     let mut plot = [0u32; 4098];
     let nearly = repeat(one_sheet(1, 0, 0), &mut plot, &[5], 2047);
-    let full = enter_cell(rt, "the row that makes 4,096 words", nearly, &mut plot, 5)?;
-    let last = enter_cell(rt, "one row more", full, &mut plot, 5)?;
+    let full = enter_cell(rt, b"the row that makes 4,096 words", nearly, &mut plot, 5)?;
+    let last = enter_cell(rt, b"one row more", full, &mut plot, 5)?;
     show::header(rt, last)
 }

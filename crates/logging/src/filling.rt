@@ -9,13 +9,22 @@ use worked::show;
 pub fn two_entries(rt: &impl Print) -> io::Result<()> {
     let mut plot = ROWS;
     let mut log = [9u32; 7];
-    show::heading(rt, "before")?;
+    show::heading(rt, b"before")?;
     show::words(rt, &plot)?;
     show::log(rt, &log)?;
-    let first = show_fill(rt, "mark 1 by 201", sound(), &mut plot, &mut log, 0, 1, 201)?;
+    let first = show_fill(
+        rt,
+        b"mark 1 by 201",
+        sound(),
+        &mut plot,
+        &mut log,
+        0,
+        1,
+        201,
+    )?;
     show_fill(
         rt,
-        "then mark 200 by 0",
+        b"then mark 200 by 0",
         sound(),
         &mut plot,
         &mut log,
@@ -29,7 +38,7 @@ pub fn two_entries(rt: &impl Print) -> io::Result<()> {
 // Fills in a fresh copy of the rows.
 fn fresh(
     rt: &impl Print,
-    name: &str,
+    name: &[u8],
     header: Header,
     log: &mut [u32],
     used: usize,
@@ -43,7 +52,7 @@ fn fresh(
 
 pub fn by_itself(rt: &impl Print) -> io::Result<()> {
     let mut log = [9u32; 7];
-    fresh(rt, "mark 1 by itself", sound(), &mut log, 0, 1, 1_000_001)
+    fresh(rt, b"mark 1 by itself", sound(), &mut log, 0, 1, 1_000_001)
 }
 
 // Words before the entry are not read: they need be no entries.
@@ -52,7 +61,7 @@ pub fn full_log(rt: &impl Print) -> io::Result<()> {
     let mut longer = [9u32; 6];
     fresh(
         rt,
-        "two cells in a log of 4 words",
+        b"two cells in a log of 4 words",
         sound(),
         &mut exact,
         0,
@@ -61,7 +70,7 @@ pub fn full_log(rt: &impl Print) -> io::Result<()> {
     )?;
     fresh(
         rt,
-        "two cells behind 2 words of 6",
+        b"two cells behind 2 words of 6",
         sound(),
         &mut longer,
         2,
@@ -73,7 +82,7 @@ pub fn full_log(rt: &impl Print) -> io::Result<()> {
 // Fills with a fresh log of seven words.
 fn turned_away(
     rt: &impl Print,
-    name: &str,
+    name: &[u8],
     header: Header,
     mark: u32,
     cell: u32,
@@ -83,33 +92,33 @@ fn turned_away(
 }
 
 pub fn refused(rt: &impl Print) -> io::Result<()> {
-    turned_away(rt, "an unsound plot, mark 0", unsound(), 0, 201)?;
-    turned_away(rt, "mark 0 by 1,000,000", sound(), 0, 1_000_000)?;
-    turned_away(rt, "mark 201", sound(), 201, 201)?;
-    turned_away(rt, "mark 2 by 1,000,201", sound(), 2, 1_000_201)?;
-    turned_away(rt, "mark 2, which stands in no cell", sound(), 2, 201)
+    turned_away(rt, b"an unsound plot, mark 0", unsound(), 0, 201)?;
+    turned_away(rt, b"mark 0 by 1,000,000", sound(), 0, 1_000_000)?;
+    turned_away(rt, b"mark 201", sound(), 201, 201)?;
+    turned_away(rt, b"mark 2 by 1,000,201", sound(), 2, 1_000_201)?;
+    turned_away(rt, b"mark 2, which stands in no cell", sound(), 2, 201)
 }
 
 // Fills a mark by 201, with a log of seven words of which `used` are in use.
-fn crowded(rt: &impl Print, name: &str, used: usize, mark: u32) -> io::Result<()> {
+fn crowded(rt: &impl Print, name: &[u8], used: usize, mark: u32) -> io::Result<()> {
     let mut log = [9u32; 7];
     fresh(rt, name, sound(), &mut log, used, mark, 201)
 }
 
 pub fn no_room(rt: &impl Print) -> io::Result<()> {
     let mut none = [9u32; 0];
-    crowded(rt, "two cells with 3 words left", 4, 1)?;
-    crowded(rt, "two cells with 8 words in use of 7", 8, 1)?;
+    crowded(rt, b"two cells with 3 words left", 4, 1)?;
+    crowded(rt, b"two cells with 8 words in use of 7", 8, 1)?;
     crowded(
         rt,
-        "two cells with the most words in use",
+        b"two cells with the most words in use",
         18_446_744_073_709_551_615,
         1,
     )?;
-    crowded(rt, "mark 2 with 8 words in use of 7", 8, 2)?;
+    crowded(rt, b"mark 2 with 8 words in use of 7", 8, 2)?;
     fresh(
         rt,
-        "one cell in a log of no words",
+        b"one cell in a log of no words",
         sound(),
         &mut none,
         0,

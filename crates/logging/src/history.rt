@@ -10,7 +10,7 @@ use worked::show;
 // Fills, and returns the log's words in use.
 fn fill(
     rt: &impl Print,
-    name: &str,
+    name: &[u8],
     header: Header,
     plot: &mut [u32],
     log: &mut [u32],
@@ -26,7 +26,7 @@ fn fill(
 // Undoes, and returns the log's words in use.
 fn take_back(
     rt: &impl Print,
-    name: &str,
+    name: &[u8],
     header: Header,
     plot: &mut [u32],
     log: &[u32],
@@ -53,7 +53,7 @@ fn state(
 // Enters a row in sheet 0, and returns the header. The call is not given the log.
 fn enter(
     rt: &impl Print,
-    name: &str,
+    name: &[u8],
     header: Header,
     plot: &mut [u32],
     log: &[u32],
@@ -76,8 +76,8 @@ fn fill_log(
     log: &mut [u32],
     used: usize,
 ) -> io::Result<usize> {
-    let full = fill(rt, "mark 1 by 8", header, plot, log, used, 1, 8)?;
-    fill(rt, "mark 2 by 8", header, plot, log, full, 2, 8)
+    let full = fill(rt, b"mark 1 by 8", header, plot, log, used, 1, 8)?;
+    fill(rt, b"mark 2 by 8", header, plot, log, full, 2, 8)
 }
 
 // The undos until no word is in use, and one more.
@@ -88,9 +88,9 @@ fn take_all_back(
     log: &[u32],
     used: usize,
 ) -> io::Result<()> {
-    let second = take_back(rt, "undo", header, plot, log, used)?;
-    let first = take_back(rt, "undo again", header, plot, log, second)?;
-    take_back(rt, "undo once more", header, plot, log, first)?;
+    let second = take_back(rt, b"undo", header, plot, log, used)?;
+    let first = take_back(rt, b"undo again", header, plot, log, second)?;
+    take_back(rt, b"undo once more", header, plot, log, first)?;
     Ok(())
 }
 
@@ -100,11 +100,11 @@ pub fn history(rt: &impl Print) -> io::Result<()> {
     let mut log = [9u32; 7];
     let row = [1_000_001u32, 1_000_002];
     let start = two_sheets(2, 1, 5, 1, 1);
-    show::heading(rt, "the start")?;
+    show::heading(rt, b"the start")?;
     state(rt, start, &plot, &log, FRESH)?;
     let first = fill(
         rt,
-        "mark 1 by mark 2",
+        b"mark 1 by mark 2",
         start,
         &mut plot,
         &mut log,
@@ -112,7 +112,7 @@ pub fn history(rt: &impl Print) -> io::Result<()> {
         1,
         1_000_002,
     )?;
-    let grown = enter(rt, "(m1, m2) entered", start, &mut plot, &log, first, &row)?;
+    let grown = enter(rt, b"(m1, m2) entered", start, &mut plot, &log, first, &row)?;
     let full = fill_log(rt, grown, &mut plot, &mut log, first)?;
     take_all_back(rt, grown, &mut plot, &log, full)
 }

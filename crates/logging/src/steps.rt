@@ -8,7 +8,7 @@ use worked::show;
 // Fills, and returns the log's words in use.
 pub fn show_fill(
     rt: &impl Print,
-    name: &str,
+    name: &[u8],
     header: Header,
     plot: &mut [u32],
     log: &mut [u32],
@@ -26,7 +26,7 @@ pub fn show_fill(
 // Undoes, and returns the log's words in use.
 pub fn show_undo(
     rt: &impl Print,
-    name: &str,
+    name: &[u8],
     header: Header,
     plot: &mut [u32],
     log: &[u32],

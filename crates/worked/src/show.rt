@@ -7,8 +7,8 @@ use rerun::reran::Reran;
 use std::io;
 use undo_log::Logged;
 
-fn text(rt: &impl Print, part: &str) -> io::Result<()> {
-    print!(rt; "{part}")
+fn text(rt: &impl Print, part: &[u8]) -> io::Result<()> {
+    rt.write_all(part)
 }
 
 fn number(rt: &impl Print, n: u32) -> io::Result<()> {
@@ -16,7 +16,7 @@ fn number(rt: &impl Print, n: u32) -> io::Result<()> {
 }
 
 fn item(rt: &impl Print, n: u32) -> io::Result<()> {
-    text(rt, " ")?;
+    text(rt, b" ")?;
     number(rt, n)
 }
 
@@ -43,32 +43,32 @@ fn hex_items(rt: &impl Print, list: &[u8]) -> io::Result<()> {
 }
 
 fn end(rt: &impl Print) -> io::Result<()> {
-    text(rt, "\n")
+    text(rt, b"\n")
 }
 
 // Prints the start of an answer's line.
-fn named(rt: &impl Print, name: &str) -> io::Result<()> {
+fn named(rt: &impl Print, name: &[u8]) -> io::Result<()> {
     text(rt, name)?;
-    text(rt, ":")
+    text(rt, b":")
 }
 
-fn told(rt: &impl Print, word: &str, n: u32) -> io::Result<()> {
+fn told(rt: &impl Print, word: &[u8], n: u32) -> io::Result<()> {
     text(rt, word)?;
     item(rt, n)
 }
 
 fn refusal(rt: &impl Print, why: u32) -> io::Result<()> {
-    told(rt, " refused", why)
+    told(rt, b" refused", why)
 }
 
 fn outcome(rt: &impl Print, a: Answer) -> io::Result<()> {
     match a {
-        Answer::Done(n) => told(rt, " done", n),
+        Answer::Done(n) => told(rt, b" done", n),
         Answer::Refused(why) => refusal(rt, why),
     }
 }
 
-pub fn answer(rt: &impl Print, name: &str, a: Answer) -> io::Result<()> {
+pub fn answer(rt: &impl Print, name: &[u8], a: Answer) -> io::Result<()> {
     named(rt, name)?;
     outcome(rt, a)?;
     end(rt)
@@ -79,43 +79,43 @@ fn in_use(rt: &impl Print, words: usize) -> io::Result<()> {
 }
 
 // The answer of a call that uses the log, and the log's words in use.
-pub fn logged(rt: &impl Print, name: &str, l: Logged) -> io::Result<()> {
+pub fn logged(rt: &impl Print, name: &[u8], l: Logged) -> io::Result<()> {
     let a = l.answer;
     named(rt, name)?;
     outcome(rt, a)?;
-    text(rt, ",")?;
+    text(rt, b",")?;
     in_use(rt, l.log)?;
     end(rt)
 }
 
 // A line that names what the next lines show.
-pub fn heading(rt: &impl Print, name: &str) -> io::Result<()> {
+pub fn heading(rt: &impl Print, name: &[u8]) -> io::Result<()> {
     named(rt, name)?;
     end(rt)
 }
 
-fn listed(rt: &impl Print, label: &str, list: &[u32]) -> io::Result<()> {
+fn listed(rt: &impl Print, label: &[u8], list: &[u32]) -> io::Result<()> {
     text(rt, label)?;
     items(rt, list)?;
     end(rt)
 }
 
 pub fn words(rt: &impl Print, list: &[u32]) -> io::Result<()> {
-    listed(rt, "  words", list)
+    listed(rt, b"  words", list)
 }
 
 pub fn log(rt: &impl Print, list: &[u32]) -> io::Result<()> {
-    listed(rt, "  log", list)
+    listed(rt, b"  log", list)
 }
 
 pub fn log_used(rt: &impl Print, words: usize) -> io::Result<()> {
-    text(rt, " ")?;
+    text(rt, b" ")?;
     in_use(rt, words)?;
     end(rt)
 }
 
 pub fn bytes(rt: &impl Print, list: &[u8]) -> io::Result<()> {
-    text(rt, "  bytes")?;
+    text(rt, b"  bytes")?;
     hex_items(rt, list)?;
     end(rt)
 }
@@ -123,11 +123,11 @@ pub fn bytes(rt: &impl Print, list: &[u8]) -> io::Result<()> {
 pub fn header(rt: &impl Print, h: Header) -> io::Result<()> {
     let arities = h.arities;
     let counts = h.counts;
-    told(rt, "  relations", h.relations)?;
-    text(rt, " arities")?;
+    told(rt, b"  relations", h.relations)?;
+    text(rt, b" arities")?;
     items(rt, &arities)?;
-    told(rt, " used", h.used)?;
-    text(rt, " rows")?;
+    told(rt, b" used", h.used)?;
+    text(rt, b" rows")?;
     items(rt, &counts)?;
     end(rt)
 }
@@ -139,13 +139,13 @@ pub fn plot(rt: &impl Print, h: Header, list: &[u32]) -> io::Result<()> {
 
 fn verdict(rt: &impl Print, truth: Truth, looks: u32) -> io::Result<()> {
     match truth {
-        Truth::False => told(rt, " false", looks),
-        Truth::Unknown => told(rt, " unknown", looks),
-        Truth::True => told(rt, " true", looks),
+        Truth::False => told(rt, b" false", looks),
+        Truth::Unknown => told(rt, b" unknown", looks),
+        Truth::True => told(rt, b" true", looks),
     }
 }
 
-pub fn asked(rt: &impl Print, name: &str, a: Asked) -> io::Result<()> {
+pub fn asked(rt: &impl Print, name: &[u8], a: Asked) -> io::Result<()> {
     named(rt, name)?;
     match a {
         Asked::Verdict(truth, looks) => verdict(rt, truth, looks)?,
@@ -154,17 +154,17 @@ pub fn asked(rt: &impl Print, name: &str, a: Asked) -> io::Result<()> {
     end(rt)
 }
 
-pub fn reran(rt: &impl Print, name: &str, r: Reran) -> io::Result<()> {
+pub fn reran(rt: &impl Print, name: &[u8], r: Reran) -> io::Result<()> {
     named(rt, name)?;
     match r {
         Reran::Verdicts(truth_a, looks_a, truth_b, looks_b) => {
             verdict(rt, truth_a, looks_a)?;
-            text(rt, ", then")?;
+            text(rt, b", then")?;
             verdict(rt, truth_b, looks_b)?;
         }
         Reran::SecondRefused(truth, looks, why) => {
             verdict(rt, truth, looks)?;
-            text(rt, ", then")?;
+            text(rt, b", then")?;
             refusal(rt, why)?;
         }
         Reran::Refused(why) => refusal(rt, why)?,
