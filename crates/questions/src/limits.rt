@@ -30,7 +30,7 @@ fn chain(n: usize, last: [u32; 3]) -> [u32; 808]
 // Asks that question about a sheet of one column, by both ways, and shows the answers.
 fn chained(
     rt: &impl Print,
-    name: &str,
+    name: &[u8],
     n: usize,
     last: [u32; 3],
     used: u32,
@@ -57,7 +57,7 @@ fn chained(
         &[],
         budget,
     );
-    show::asked(rt, "  without a list", again)
+    show::asked(rt, b"  without a list", again)
 }
 
 // x0 = x0
@@ -67,8 +67,8 @@ const EQUAL: [u32; 3] = [2, 2_000_000, 2_000_000];
 pub fn deepest(rt: &impl Print) -> io::Result<()> {
     let plot = [0u32, 5];
     let mut list = [9u32; 1];
-    chained(rt, "100 nodes", 99, EQUAL, 2, &plot, &mut list, 1)?;
-    chained(rt, "808 words", 100, EQUAL, 2, &plot, &mut list, 1)
+    chained(rt, b"100 nodes", 99, EQUAL, 2, &plot, &mut list, 1)?;
+    chained(rt, b"808 words", 100, EQUAL, 2, &plot, &mut list, 1)
 }
 
 // The row (0) is in sheet 0.
@@ -85,7 +85,7 @@ pub fn full(rt: &impl Print) -> io::Result<()> {
     let mut list = [9u32; 2049];
     chained(
         rt,
-        "2 to the 12 atoms of 2,049 looks",
+        b"2 to the 12 atoms of 2,049 looks",
         12,
         ONE,
         4096,
@@ -95,7 +95,7 @@ pub fn full(rt: &impl Print) -> io::Result<()> {
     )?;
     chained(
         rt,
-        "with one look less",
+        b"with one look less",
         12,
         ONE,
         4096,
@@ -105,7 +105,7 @@ pub fn full(rt: &impl Print) -> io::Result<()> {
     )?;
     chained(
         rt,
-        "2 to the 21 atoms of 2 looks",
+        b"2 to the 21 atoms of 2 looks",
         21,
         ZERO,
         4096,
