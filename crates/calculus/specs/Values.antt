@@ -3,7 +3,7 @@
 use Rattle.std.specs.Prelude.{ℕ, ◌≡◌, ◌↔◌}
 use mathlib.Core.List.{List, ◌∷◌, ◌++◌, Memᴰ}
 use Rattle.calculus.specs.Row.{Row, cells_of}
-use Rattle.calculus.specs.Domain.{distinct, domain, range_over}
+use Rattle.calculus.specs.Domain.{domain, range_over}
 
 -- v stands in cs where no w stood yet
 pub record Before (cs : List ℕ) (v w : ℕ) : Type 0 where

@@ -2,54 +2,55 @@
 use calculus::answer::Answer;
 use decode::decode;
 use encode::encode;
+use std::io;
 use worked::plots::one_sheet;
 use worked::show;
 
 // Decodes the first `size` bytes, to which a card was written.
-fn decode_first(bytes: &[u8], size: usize) {
+fn decode_first(rt: &impl Print, bytes: &[u8], size: usize) -> io::Result<()> {
     let mut plot = [8u32; 12];
     if bytes.len() < size {
-        return;
+        return Ok(());
     }
     let stored = decode(&bytes[..size], &mut plot);
     let answer = stored.answer;
-    show::answer(b"read again", answer);
-    show::words(&plot);
+    show::answer(rt, b"read again", answer)?;
+    show::words(rt, &plot)
 }
 
 // Decodes a card, encodes the result, and decodes that again.
-fn there_and_back(name: &[u8], bytes: &[u8]) {
+fn there_and_back(rt: &impl Print, name: &[u8], bytes: &[u8]) -> io::Result<()> {
     let mut plot = [7u32; 12];
     let first = decode(bytes, &mut plot);
     let header = first.header;
-    show::words(&plot);
+    show::words(rt, &plot)?;
     let mut out = [0xEEu8; 30];
     let written = encode(header, &plot, &mut out);
-    show::answer(name, written);
-    show::bytes(&out);
+    show::answer(rt, name, written)?;
+    show::bytes(rt, &out)?;
     let Answer::Done(size) = written else {
-        return;
+        return Ok(());
     };
-    decode_first(&out, size as usize);
+    decode_first(rt, &out, size as usize)
 }
 
-pub fn round_trip() {
+pub fn round_trip(rt: &impl Print) -> io::Result<()> {
     let blanks = [2u8, 1, 2, 0, 3, 0, 0, 1, 2, 0x0F, 0x42, 0x45, 1, 0];
-    there_and_back(b"a card with blanks, written whole", &blanks);
+    there_and_back(rt, b"a card with blanks, written whole", &blanks)
 }
 
 // Writes a card of one row, with n words in use, and shows the bytes afterwards.
-fn write_card(name: &[u8], n: u32, out: &mut [u8]) {
+fn write_card(rt: &impl Print, name: &[u8], n: u32, out: &mut [u8]) -> io::Result<()> {
     let plot = [0u32, 5];
     let answer = encode(one_sheet(1, n, 1), &plot, out);
-    show::answer(name, answer);
-    show::bytes(out);
+    show::answer(rt, name, answer)?;
+    show::bytes(rt, out)
 }
 
-pub fn refused() {
+pub fn refused(rt: &impl Print) -> io::Result<()> {
     let mut short = [0xEEu8; 8];
     let mut exact = [0xEEu8; 9];
-    write_card(b"nine bytes into eight", 2, &mut short);
-    write_card(b"a card of an unsound plot", 1, &mut exact);
-    write_card(b"nine bytes into nine", 2, &mut exact);
+    write_card(rt, b"nine bytes into eight", 2, &mut short)?;
+    write_card(rt, b"a card of an unsound plot", 1, &mut exact)?;
+    write_card(rt, b"nine bytes into nine", 2, &mut exact)
 }

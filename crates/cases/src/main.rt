@@ -2,25 +2,27 @@
 
 #![tactic(auto)]
 
+use std::io;
+
 mod decoding;
 mod encoding;
 mod entering;
 mod filling;
 
-fn main() {
-    decoding::accepted();
-    decoding::cut_short();
-    decoding::refused();
-    decoding::at_the_end();
-    entering::rows();
-    entering::refused();
-    entering::unsound_headers();
-    entering::unsound_words();
-    entering::unsound_counts();
-    entering::until_full();
-    filling::accepted();
-    filling::refused();
-    filling::census();
-    encoding::round_trip();
-    encoding::refused();
+fn main(rt: HostRuntime) -> io::Result<()> {
+    decoding::accepted(&rt)?;
+    decoding::cut_short(&rt)?;
+    decoding::refused(&rt)?;
+    decoding::at_the_end(&rt)?;
+    entering::rows(&rt)?;
+    entering::refused(&rt)?;
+    entering::unsound_headers(&rt)?;
+    entering::unsound_words(&rt)?;
+    entering::unsound_counts(&rt)?;
+    entering::until_full(&rt)?;
+    filling::accepted(&rt)?;
+    filling::refused(&rt)?;
+    filling::census(&rt)?;
+    encoding::round_trip(&rt)?;
+    encoding::refused(&rt)
 }

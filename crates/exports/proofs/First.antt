@@ -10,7 +10,7 @@ use Rattle.instance.specs.Sound.{sound}
 use Rattle.instance.specs.Insert.{inserted}
 use Rattle.instance.specs.Substitute.{substituted}
 use Rattle.instance.specs.NullCounts.{counted}
-use Rattle.undo_log.specs.Log.{undone, logged}
+use Rattle.undo_log.specs.Log.{undone}
 use Rattle.card.specs.Encode.{encoded}
 use Rattle.answer.specs.Ask.{list, none, admitted, askable, ask}
 use Rattle.exports.specs.Words.{header_length, header_of}

@@ -2,22 +2,24 @@
 
 #![tactic(auto)]
 
+use std::io;
+
 mod filling;
 mod history;
 mod plot;
 mod steps;
 mod undoing;
 
-fn main() {
-    filling::two_entries();
-    filling::by_itself();
-    filling::full_log();
-    filling::refused();
-    filling::no_room();
-    undoing::latest();
-    undoing::by_the_letter();
-    undoing::refused();
-    undoing::bad_words_in_use();
-    undoing::bad_entries();
-    history::history();
+fn main(rt: HostRuntime) -> io::Result<()> {
+    filling::two_entries(&rt)?;
+    filling::by_itself(&rt)?;
+    filling::full_log(&rt)?;
+    filling::refused(&rt)?;
+    filling::no_room(&rt)?;
+    undoing::latest(&rt)?;
+    undoing::by_the_letter(&rt)?;
+    undoing::refused(&rt)?;
+    undoing::bad_words_in_use(&rt)?;
+    undoing::bad_entries(&rt)?;
+    history::history(&rt)
 }

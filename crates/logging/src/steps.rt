@@ -1,11 +1,13 @@
 // The calls that use the log, each with what it returned, and the plot and the log afterwards.
 use instance::header::Header;
+use std::io;
 use substitute_logged::substitute_logged;
 use undo::undo;
 use worked::show;
 
 // Fills, and returns the log's words in use.
 pub fn show_fill(
+    rt: &impl Print,
     name: &[u8],
     header: Header,
     plot: &mut [u32],
@@ -13,19 +15,26 @@ pub fn show_fill(
     used: usize,
     mark: u32,
     cell: u32,
-) -> usize {
+) -> io::Result<usize> {
     let made = substitute_logged(header, plot, log, used, mark, cell);
-    show::logged(name, made);
-    show::words(plot);
-    show::log(log);
-    made.log
+    show::logged(rt, name, made)?;
+    show::words(rt, plot)?;
+    show::log(rt, log)?;
+    Ok(made.log)
 }
 
 // Undoes, and returns the log's words in use.
-pub fn show_undo(name: &[u8], header: Header, plot: &mut [u32], log: &[u32], used: usize) -> usize {
+pub fn show_undo(
+    rt: &impl Print,
+    name: &[u8],
+    header: Header,
+    plot: &mut [u32],
+    log: &[u32],
+    used: usize,
+) -> io::Result<usize> {
     let made = undo(header, plot, log, used);
-    show::logged(name, made);
-    show::words(plot);
-    show::log(log);
-    made.log
+    show::logged(rt, name, made)?;
+    show::words(rt, plot)?;
+    show::log(rt, log)?;
+    Ok(made.log)
 }

@@ -5,6 +5,7 @@ use super::question::{NONE, flat};
 use answer::ask::ask;
 use answer::unlisted::ask_unlisted;
 use instance::header::Header;
+use std::io;
 use substitute::substitute;
 use worked::plots::{one_sheet, two_sheets};
 use worked::show;
@@ -15,6 +16,7 @@ const EVERY: u32 = 7;
 
 // Asks a question, and shows the answer and the working list afterwards; then asks it without a list.
 pub fn listed(
+    rt: &impl Print,
     name: &[u8],
     header: Header,
     plot: &[u32],
@@ -22,22 +24,31 @@ pub fn listed(
     candidate: &[u32],
     list: &mut [u32],
     budget: u32,
-) {
+) -> io::Result<()> {
     let answer = ask(header, plot, query, candidate, list, budget);
-    show::asked(name, answer);
-    show::words(list);
+    show::asked(rt, name, answer)?;
+    show::words(rt, list)?;
     let again = ask_unlisted(header, plot, query, candidate, budget);
-    show::asked(b"  without a list", again);
+    show::asked(rt, b"  without a list", again)
 }
 
 // The same, with a list that is longer than any plot here needs.
-fn asked(name: &[u8], header: Header, plot: &[u32], query: &[u32], candidate: &[u32], budget: u32) {
+fn asked(
+    rt: &impl Print,
+    name: &[u8],
+    header: Header,
+    plot: &[u32],
+    query: &[u32],
+    candidate: &[u32],
+    budget: u32,
+) -> io::Result<()> {
     let mut list = [9u32; 4];
-    listed(name, header, plot, query, candidate, &mut list, budget);
+    listed(rt, name, header, plot, query, candidate, &mut list, budget)
 }
 
 // Asks a question of n nodes.
 fn one(
+    rt: &impl Print,
     name: &[u8],
     header: Header,
     plot: &[u32],
@@ -45,15 +56,16 @@ fn one(
     n: usize,
     candidate: &[u32],
     budget: u32,
-)
+) -> io::Result<()>
     requires { n ≤ 7 }
 {
     let words = flat(nodes);
-    asked(name, header, plot, &words[..n * 8], candidate, budget);
+    asked(rt, name, header, plot, &words[..n * 8], candidate, budget)
 }
 
 // Asks whether some or every x equals the term: a question of two nodes.
 fn quantified(
+    rt: &impl Print,
     name: &[u8],
     header: Header,
     plot: &[u32],
@@ -62,26 +74,27 @@ fn quantified(
     term: u32,
     candidate: &[u32],
     budget: u32,
-)
+) -> io::Result<()>
     requires { x ≤ 15 }
 {
     let equal = 2_000_000 + x;
     let query = [kind, x, 1, 0, 0, 0, 0, 0, 2, equal, term, 0, 0, 0, 0, 0];
-    asked(name, header, plot, &query, candidate, budget);
+    asked(rt, name, header, plot, &query, candidate, budget)
 }
 
 // Sheet 0 has the row (201), sheet 1 the row (m1).
 const CHANNELS: [u32; 4] = [0, 201, 1, 1_000_001];
 
-fn channels(name: &[u8], query: &[u32], candidate: &[u32]) {
+fn channels(rt: &impl Print, name: &[u8], query: &[u32], candidate: &[u32]) -> io::Result<()> {
     asked(
+        rt,
         name,
         two_sheets(1, 1, 4, 1, 1),
         &CHANNELS,
         query,
         candidate,
         0,
-    );
+    )
 }
 
 // The candidate is in sheet 0 and not in sheet 1.
@@ -95,8 +108,9 @@ const WITHOUT: [[u32; 8]; 7] = [
     NONE,
 ];
 
-fn without(name: &[u8], plot: &[u32], budget: u32) {
+fn without(rt: &impl Print, name: &[u8], plot: &[u32], budget: u32) -> io::Result<()> {
     one(
+        rt,
         name,
         two_sheets(1, 1, 4, 1, 1),
         plot,
@@ -104,32 +118,32 @@ fn without(name: &[u8], plot: &[u32], budget: u32) {
         4,
         &[201],
         budget,
-    );
+    )
 }
 
 // Asks that question within a budget.
-fn within(name: &[u8], budget: u32) {
-    without(name, &CHANNELS, budget);
+fn within(rt: &impl Print, name: &[u8], budget: u32) -> io::Result<()> {
+    without(rt, name, &CHANNELS, budget)
 }
 
 // Asks that question after a fill of mark 1.
-fn filled(name: &[u8], cell: u32) {
+fn filled(rt: &impl Print, name: &[u8], cell: u32) -> io::Result<()> {
     let mut plot = CHANNELS;
     substitute(two_sheets(1, 1, 4, 1, 1), &mut plot, 1, cell);
-    without(name, &plot, 100);
+    without(rt, name, &plot, 100)
 }
 
 // Reading 6, before and after fills, and reading 11.
-pub fn in_one_sheet_only() {
-    within(b"201 in sheet 0 and not in 1", 100);
-    filled(b"after m1 by 201", 201);
-    filled(b"after m1 by 202", 202);
-    within(b"with 3 looks", 3);
-    within(b"with 4 looks", 4);
+pub fn in_one_sheet_only(rt: &impl Print) -> io::Result<()> {
+    within(rt, b"201 in sheet 0 and not in 1", 100)?;
+    filled(rt, b"after m1 by 201", 201)?;
+    filled(rt, b"after m1 by 202", 202)?;
+    within(rt, b"with 3 looks", 3)?;
+    within(rt, b"with 4 looks", 4)
 }
 
 // Reading 7: sheet 0 without (sheet 0 without sheet 1).
-pub fn without_twice() {
+pub fn without_twice(rt: &impl Print) -> io::Result<()> {
     let nodes = [
         [4, 1, 2, 0, 0, 0, 0, 0],
         [1, 0, 2_000_000, 0, 0, 0, 0, 0],
@@ -140,6 +154,7 @@ pub fn without_twice() {
         [1, 1, 2_000_000, 0, 0, 0, 0, 0],
     ];
     one(
+        rt,
         b"201 in sheet 0 and not (in sheet 0 and not in 1)",
         two_sheets(1, 1, 4, 1, 1),
         &CHANNELS,
@@ -147,11 +162,11 @@ pub fn without_twice() {
         7,
         &[201],
         100,
-    );
+    )
 }
 
 // Reading 8: some x in the sheet and (x = 0 or not x = 0). An unknown does not stop the and.
-pub fn excluded_middle() {
+pub fn excluded_middle(rt: &impl Print) -> io::Result<()> {
     let nodes = [
         [6, 0, 1, 0, 0, 0, 0, 0],
         [4, 2, 3, 0, 0, 0, 0, 0],
@@ -162,6 +177,7 @@ pub fn excluded_middle() {
         [2, 2_000_000, 0, 0, 0, 0, 0, 0],
     ];
     one(
+        rt,
         b"some x in the sheet and (x = 0 or not x = 0)",
         one_sheet(1, 2, 1),
         &[0, 1_000_001],
@@ -169,65 +185,79 @@ pub fn excluded_middle() {
         7,
         &[],
         100,
-    );
+    )
 }
 
 // Asks whether x3 = x3 for some or every x3 of no rows, with an allowance of 0.
-fn of_no_rows(name: &[u8], kind: u32) {
-    quantified(name, one_sheet(1, 0, 0), &[], kind, 3, 2_000_003, &[], 0);
+fn of_no_rows(rt: &impl Print, name: &[u8], kind: u32) -> io::Result<()> {
+    quantified(
+        rt,
+        name,
+        one_sheet(1, 0, 0),
+        &[],
+        kind,
+        3,
+        2_000_003,
+        &[],
+        0,
+    )
 }
 
 // Reading 9.
-pub fn no_rows() {
-    of_no_rows(b"no rows: some x, x = x", SOME);
-    of_no_rows(b"no rows: every x, x = x", EVERY);
+pub fn no_rows(rt: &impl Print) -> io::Result<()> {
+    of_no_rows(rt, b"no rows: some x, x = x", SOME)?;
+    of_no_rows(rt, b"no rows: every x, x = x", EVERY)
 }
 
 // Asks whether every x is 7, in a sheet of two rows of one cell.
-fn sevens(name: &[u8], plot: &[u32]) {
-    quantified(name, one_sheet(1, 4, 2), plot, EVERY, 0, 7, &[], 100);
+fn sevens(rt: &impl Print, name: &[u8], plot: &[u32]) -> io::Result<()> {
+    quantified(rt, name, one_sheet(1, 4, 2), plot, EVERY, 0, 7, &[], 100)
 }
 
 // Reading 10: the values come in their order, each once.
-pub fn every_is_seven() {
+pub fn every_is_seven(rt: &impl Print) -> io::Result<()> {
     let mut plot = [0u32, 1_000_001, 0, 8];
-    sevens(b"rows (m1), (8): every x, x = 7", &plot);
+    sevens(rt, b"rows (m1), (8): every x, x = 7", &plot)?;
     substitute(one_sheet(1, 4, 2), &mut plot, 1, 8);
-    sevens(b"after m1 by 8", &plot);
+    sevens(rt, b"after m1 by 8", &plot)
 }
 
 // Asks whether the candidate is in a sheet of two columns with one row.
-fn pair(name: &[u8], row: [u32; 2], candidate: [u32; 2]) {
+fn pair(rt: &impl Print, name: &[u8], row: [u32; 2], candidate: [u32; 2]) -> io::Result<()> {
     let plot = [0u32, row[0], row[1]];
     let query = [1u32, 0, 2_000_000, 2_000_001, 0, 0, 0, 0];
-    asked(name, one_sheet(2, 3, 1), &plot, &query, &candidate, 100);
+    asked(rt, name, one_sheet(2, 3, 1), &plot, &query, &candidate, 100)
 }
 
 // Rows are unified as a whole: (1, m1) and (m1, 2) cannot be the same row.
-pub fn whole_rows() {
+pub fn whole_rows(rt: &impl Print) -> io::Result<()> {
     pair(
+        rt,
         b"(1, m1) where (m1, 2) stands",
         [1_000_001, 2],
         [1, 1_000_001],
-    );
+    )?;
     pair(
+        rt,
         b"(1, 2) where (m1, m2) stands",
         [1_000_001, 1_000_002],
         [1, 2],
-    );
+    )?;
     pair(
+        rt,
         b"(m1, m1) where (m1, m1) stands",
         [1_000_001, 1_000_001],
         [1_000_001, 1_000_001],
-    );
-    pair(b"(m7, 2) where (1, 2) stands", [1, 2], [1_000_007, 2]);
+    )?;
+    pair(rt, b"(m7, 2) where (1, 2) stands", [1, 2], [1_000_007, 2])
 }
 
 // The nearest quantifier binds, even if the candidate has the variable.
-pub fn bound_again() {
+pub fn bound_again(rt: &impl Print) -> io::Result<()> {
     let header = one_sheet(1, 4, 2);
     let plot = [0u32, 1, 0, 2];
     quantified(
+        rt,
         b"some x: x = 2, with x = 5 in the candidate",
         header,
         &plot,
@@ -236,7 +266,7 @@ pub fn bound_again() {
         2,
         &[5],
         100,
-    );
+    )?;
     let again = [
         [7, 0, 1, 0, 0, 0, 0, 0],
         [4, 2, 3, 0, 0, 0, 0, 0],
@@ -247,6 +277,7 @@ pub fn bound_again() {
         NONE,
     ];
     one(
+        rt,
         b"every x: (some x: x = 2) and not x = 2",
         header,
         &plot,
@@ -254,64 +285,73 @@ pub fn bound_again() {
         6,
         &[],
         100,
-    );
+    )
 }
 
 // Asks n words that are no valid question, with a candidate whose cells are all the same.
-fn misfit(name: &[u8], n: usize, cells: usize, cell: u32)
+fn misfit(rt: &impl Print, name: &[u8], n: usize, cells: usize, cell: u32) -> io::Result<()>
     requires { (n ≤ 8) × (cells ≤ 7) }
 {
     let words = [1u32; 8];
     let candidate = [cell; 7];
-    channels(name, &words[..n], &candidate[..cells]);
+    channels(rt, name, &words[..n], &candidate[..cells])
 }
 
 // Refusals before the nodes.
-pub fn refused() {
+pub fn refused(rt: &impl Print) -> io::Result<()> {
     asked(
+        rt,
         b"an unsound plot and no question",
         two_sheets(1, 1, 3, 1, 1),
         &CHANNELS,
         &[],
         &[201],
         0,
-    );
-    misfit(b"no question", 0, 1, 1_000_000);
-    misfit(b"7 words", 7, 1, 201);
-    misfit(b"a candidate of 7", 8, 7, 1);
-    misfit(b"a candidate that is no cell", 8, 1, 1_000_000);
+    )?;
+    misfit(rt, b"no question", 0, 1, 1_000_000)?;
+    misfit(rt, b"7 words", 7, 1, 201)?;
+    misfit(rt, b"a candidate of 7", 8, 7, 1)?;
+    misfit(rt, b"a candidate that is no cell", 8, 1, 1_000_000)
 }
 
 // Asks a question of one node.
-fn node(name: &[u8], words: [u32; 8]) {
-    channels(name, &words, &[201]);
+fn node(rt: &impl Print, name: &[u8], words: [u32; 8]) -> io::Result<()> {
+    channels(rt, name, &words, &[201])
 }
 
 // Refusals of a node.
-pub fn refused_nodes() {
-    node(b"kind 0", NONE);
+pub fn refused_nodes(rt: &impl Print) -> io::Result<()> {
+    node(rt, b"kind 0", NONE)?;
     node(
+        rt,
         b"a sheet that the head lacks",
         [1, 2, 2_000_000, 0, 0, 0, 0, 1],
-    );
+    )?;
     node(
+        rt,
         b"a word that is not named",
         [1, 1, 2_000_009, 0, 0, 0, 0, 1],
-    );
+    )?;
     node(
+        rt,
         b"a variable that nothing binds",
         [1, 1, 2_000_009, 0, 0, 0, 0, 0],
-    );
-    node(b"no such term", [1, 1, 2_000_016, 0, 0, 0, 0, 0]);
-    node(b"a node that is its own child", [3, 0, 0, 0, 0, 0, 0, 0]);
-    node(b"variable 16 quantified", [6, 16, 0, 0, 0, 0, 0, 0]);
+    )?;
+    node(rt, b"no such term", [1, 1, 2_000_016, 0, 0, 0, 0, 0])?;
+    node(
+        rt,
+        b"a node that is its own child",
+        [3, 0, 0, 0, 0, 0, 0, 0],
+    )?;
+    node(rt, b"variable 16 quantified", [6, 16, 0, 0, 0, 0, 0, 0])
 }
 
 // A working list that is too short.
-pub fn short_list() {
+pub fn short_list(rt: &impl Print) -> io::Result<()> {
     let mut short = [9u32];
     let query = [1u32, 0, 2_000_000, 0, 0, 0, 0, 0];
     listed(
+        rt,
         b"a list of 1 word for 2 cells",
         two_sheets(1, 1, 4, 1, 1),
         &CHANNELS,
@@ -319,5 +359,5 @@ pub fn short_list() {
         &[201],
         &mut short,
         0,
-    );
+    )
 }

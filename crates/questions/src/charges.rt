@@ -2,6 +2,7 @@
 // crate `readings` has the same cases.
 use answer::ask::ask;
 use instance::header::Header;
+use std::io;
 use substitute::substitute;
 use worked::plots::{one_sheet, two_sheets};
 use worked::show;
@@ -10,47 +11,71 @@ use worked::show;
 const ROWS: [u32; 12] = [0, 5, 1, 7, 0, 6, 0, 1_000_001, 0, 6, 0, 9];
 
 // Asks whether a cell is in a sheet.
-fn stands(name: &[u8], header: Header, plot: &[u32], sheet: u32, cell: u32, budget: u32) {
+fn stands(
+    rt: &impl Print,
+    name: &[u8],
+    header: Header,
+    plot: &[u32],
+    sheet: u32,
+    cell: u32,
+    budget: u32,
+) -> io::Result<()> {
     let query = [1u32, sheet, 2_000_000, 0, 0, 0, 0, 0];
     let mut list = [9u32; 8];
     let answer = ask(header, plot, &query, &[cell], &mut list, budget);
-    show::asked(name, answer);
+    show::asked(rt, name, answer)
 }
 
-fn one(name: &[u8], sheet: u32, cell: u32, budget: u32) {
-    stands(name, two_sheets(1, 1, 12, 5, 1), &ROWS, sheet, cell, budget);
+fn one(rt: &impl Print, name: &[u8], sheet: u32, cell: u32, budget: u32) -> io::Result<()> {
+    stands(
+        rt,
+        name,
+        two_sheets(1, 1, 12, 5, 1),
+        &ROWS,
+        sheet,
+        cell,
+        budget,
+    )
 }
 
 // Asks after a fill of mark 1.
-fn filled(name: &[u8], by: u32, cell: u32) {
+fn filled(rt: &impl Print, name: &[u8], by: u32, cell: u32) -> io::Result<()> {
     let mut plot = ROWS;
     substitute(two_sheets(1, 1, 12, 5, 1), &mut plot, 1, by);
-    stands(name, two_sheets(1, 1, 12, 5, 1), &plot, 0, cell, 100);
+    stands(rt, name, two_sheets(1, 1, 12, 5, 1), &plot, 0, cell, 100)
 }
 
-pub fn identical_row() {
-    one(b"5, the first row", 0, 5, 100);
-    one(b"6, twice after it", 0, 6, 100);
-    one(b"9, the last row, after one that unifies", 0, 9, 100);
-    one(b"m1, after two rows that unify", 0, 1_000_001, 100);
-    one(b"7, the only row of sheet 1", 1, 7, 100);
+pub fn identical_row(rt: &impl Print) -> io::Result<()> {
+    one(rt, b"5, the first row", 0, 5, 100)?;
+    one(rt, b"6, twice after it", 0, 6, 100)?;
+    one(rt, b"9, the last row, after one that unifies", 0, 9, 100)?;
+    one(rt, b"m1, after two rows that unify", 0, 1_000_001, 100)?;
+    one(rt, b"7, the only row of sheet 1", 1, 7, 100)
 }
 
-pub fn no_identical_row() {
-    one(b"8, which unifies with m1", 0, 8, 100);
-    one(b"7, which is in sheet 1 alone", 0, 7, 100);
-    one(b"6, which is in sheet 0 alone", 1, 6, 100);
-    stands(b"5 of no rows", two_sheets(1, 1, 0, 0, 0), &[], 0, 5, 100);
+pub fn no_identical_row(rt: &impl Print) -> io::Result<()> {
+    one(rt, b"8, which unifies with m1", 0, 8, 100)?;
+    one(rt, b"7, which is in sheet 1 alone", 0, 7, 100)?;
+    one(rt, b"6, which is in sheet 0 alone", 1, 6, 100)?;
+    stands(
+        rt,
+        b"5 of no rows",
+        two_sheets(1, 1, 0, 0, 0),
+        &[],
+        0,
+        5,
+        100,
+    )
 }
 
-pub fn after_a_fill() {
-    filled(b"8 after m1 by 8", 8, 8);
-    filled(b"m1 after m1 by 5", 5, 5);
-    filled(b"8 after m1 by 5", 5, 8);
+pub fn after_a_fill(rt: &impl Print) -> io::Result<()> {
+    filled(rt, b"8 after m1 by 8", 8, 8)?;
+    filled(rt, b"m1 after m1 by 5", 5, 5)?;
+    filled(rt, b"8 after m1 by 5", 5, 8)
 }
 
 // Rows of two columns that agree with the row asked for in one column, or unify with it, come before it.
-pub fn two_columns() {
+pub fn two_columns(rt: &impl Print) -> io::Result<()> {
     let query = [1u32, 0, 2_000_000, 7, 0, 0, 0, 0];
     let mut list = [9u32; 8];
     let answer = ask(
@@ -61,11 +86,11 @@ pub fn two_columns() {
         &mut list,
         100,
     );
-    show::asked(b"(5, 7) after (5, 6) and (5, m1)", answer);
+    show::asked(rt, b"(5, 7) after (5, 6) and (5, m1)", answer)
 }
 
 // A question of four nodes that asks rows of both sheets for each value in turn: 5, 7, 6, m1 and 9.
-pub fn every_value() {
+pub fn every_value(rt: &impl Print) -> io::Result<()> {
     let mut query = [0u32; 32];
     // every x0
     query[0] = 7;
@@ -90,13 +115,13 @@ pub fn every_value() {
         &mut list,
         100,
     );
-    show::asked(b"every x: x in sheet 0 or in sheet 1", answer);
+    show::asked(rt, b"every x: x in sheet 0 or in sheet 1", answer)
 }
 
 // The least allowance that suffices, and one look less.
-pub fn allowance() {
-    one(b"5 with 2 looks", 0, 5, 2);
-    one(b"5 with 1 look", 0, 5, 1);
-    one(b"8 with 6 looks", 0, 8, 6);
-    one(b"8 with 5 looks", 0, 8, 5);
+pub fn allowance(rt: &impl Print) -> io::Result<()> {
+    one(rt, b"5 with 2 looks", 0, 5, 2)?;
+    one(rt, b"5 with 1 look", 0, 5, 1)?;
+    one(rt, b"8 with 6 looks", 0, 8, 6)?;
+    one(rt, b"8 with 5 looks", 0, 8, 5)
 }

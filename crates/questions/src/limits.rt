@@ -3,6 +3,7 @@ ghost use Rattle.std.specs.Prelude.{◌≡◌, ◌≤◌, length};
 
 use answer::ask::ask;
 use answer::unlisted::ask_unlisted;
+use std::io;
 use worked::plots::one_sheet;
 use worked::show;
 
@@ -28,6 +29,7 @@ fn chain(n: usize, last: [u32; 3]) -> [u32; 808]
 
 // Asks that question about a sheet of one column, by both ways, and shows the answers.
 fn chained(
+    rt: &impl Print,
     name: &[u8],
     n: usize,
     last: [u32; 3],
@@ -35,7 +37,7 @@ fn chained(
     plot: &[u32],
     list: &mut [u32],
     budget: u32,
-)
+) -> io::Result<()>
     requires { n ≤ 100 }
 {
     let query = chain(n, last);
@@ -47,7 +49,7 @@ fn chained(
         list,
         budget,
     );
-    show::asked(name, answer);
+    show::asked(rt, name, answer)?;
     let again = ask_unlisted(
         one_sheet(1, used, used / 2),
         plot,
@@ -55,18 +57,18 @@ fn chained(
         &[],
         budget,
     );
-    show::asked(b"  without a list", again);
+    show::asked(rt, b"  without a list", again)
 }
 
 // x0 = x0
 const EQUAL: [u32; 3] = [2, 2_000_000, 2_000_000];
 
 // 99 quantifiers over one value make the deepest question; one more makes it too long.
-pub fn deepest() {
+pub fn deepest(rt: &impl Print) -> io::Result<()> {
     let plot = [0u32, 5];
     let mut list = [9u32; 1];
-    chained(b"100 nodes", 99, EQUAL, 2, &plot, &mut list, 1);
-    chained(b"808 words", 100, EQUAL, 2, &plot, &mut list, 1);
+    chained(rt, b"100 nodes", 99, EQUAL, 2, &plot, &mut list, 1)?;
+    chained(rt, b"808 words", 100, EQUAL, 2, &plot, &mut list, 1)
 }
 
 // The row (0) is in sheet 0.
@@ -77,11 +79,12 @@ const ONE: [u32; 3] = [1, 0, 1];
 
 // A full plot of 2,048 rows: only the last is (1), and all the others are (0). An atom takes 2,049 looks for the one, and 2 for the other.
 // tests/limit.c shows what happens at the limit of 32 bits.
-pub fn full() {
+pub fn full(rt: &impl Print) -> io::Result<()> {
     let mut plot = [0u32; 4096];
     plot[4095] = 1;
     let mut list = [9u32; 2049];
     chained(
+        rt,
         b"2 to the 12 atoms of 2,049 looks",
         12,
         ONE,
@@ -89,8 +92,9 @@ pub fn full() {
         &plot,
         &mut list,
         8_392_704,
-    );
+    )?;
     chained(
+        rt,
         b"with one look less",
         12,
         ONE,
@@ -98,8 +102,9 @@ pub fn full() {
         &plot,
         &mut list,
         8_392_703,
-    );
+    )?;
     chained(
+        rt,
         b"2 to the 21 atoms of 2 looks",
         21,
         ZERO,
@@ -107,7 +112,7 @@ pub fn full() {
         &plot,
         &mut list,
         4_294_967_295,
-    );
+    )?;
     let some = [list[0], list[1], list[2], list[2048]];
-    show::words(&some);
+    show::words(rt, &some)
 }

@@ -1,5 +1,5 @@
 -- `domain::chain::add_constants` meets its contract: the constants before index i are added. Assumes nothing.
-use Prim.Native.Nat.{◌+◌, ◌-◌, ◌≤◌}
+use Prim.Native.Nat.{◌+◌, ◌≤◌}
 use mathlib.Core.Path.{ap}
 use mathlib.Core.List.{[], ◌∷◌}
 use native.Mathlib.Omega.{arith}
@@ -38,7 +38,7 @@ loop-i-preserved c =
     let i = c.loop-i.i in
     let inv = c.loop-i.invariant in
     let r : Chained c.if-words-i-lt-CONSTANTS.heads c.if-words-i-lt-CONSTANTS.list c.if-words-i-lt-CONSTANTS.count ×
-        Added c.args.list.now c.args.n (constants_among (take (c.loop-i.i + 1) c.args.words.now)) c.if-words-i-lt-CONSTANTS.list c.if-words-i-lt-CONSTANTS.count =
+    Added c.args.list.now c.args.n (constants_among (take (c.loop-i.i + 1) c.args.words.now)) c.if-words-i-lt-CONSTANTS.list c.if-words-i-lt-CONSTANTS.count =
     (elim c.if-words-i-lt-CONSTANTS.branch [ then-words-i-lt-CONSTANTS a ↦ same-added a.list-is a.heads-is a.count-is a.add_value-count.ensures.chained (rw (← among_more ws i c.loop-i-test.true (omega (arith, a.if-words-i-lt-CONSTANTS.true))) at (added_then inv.2 a.add_value-count.ensures.added)) | else-words-i-lt-CONSTANTS a ↦ same-added a.list-is a.heads-is a.count-is inv.1 (rw (← among_same ws i c.loop-i-test.true (omega (arith, a.if-words-i-lt-CONSTANTS.false))) at inv.2) ])
     in
     (omega arith, r.0, r.1)

@@ -1,6 +1,4 @@
-use Prim.Native.Nat.{◌+◌, ◌-◌, ◌≤◌, ◌<◌}
-use mathlib.Core.Path.{◌≡◌}
-use mathlib.Core.List.{◌++◌}
+use Prim.Native.Nat.{◌-◌, ◌≤◌}
 use Rattle.query.specs.Words.{node_count}
 use Rattle.query.specs.Named.{named_from, named_in}
 use Rattle.domain.specs.Chains.{Chained}

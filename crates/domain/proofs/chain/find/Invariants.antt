@@ -1,5 +1,3 @@
-use Prim.Native.Nat.{◌-◌, ◌≤◌, ◌<◌}
-use mathlib.Core.Path.{◌≡◌}
 use Rattle.domain.specs.Chains.{Chain}
 use Rattle.domain.proofs.chain.find.Given as goal
 

@@ -5,11 +5,10 @@ use native.Mathlib.Omega.{arith}
 use mathlib.Core.List.{List, ◌∷◌, ◌++◌}
 use lib.ListN.{length, get_or, set, drop, length-append}
 use lib.Seq.{set-get_or, get_or-take, length-take-le}
-use Rattle.calculus.specs.Formula.{variables}
 use Rattle.known.specs.Known.{arities_in, places_in, unpassed}
 use Rattle.known.proofs.Walking.{unpassed-end, unpassed-here, unpassed_gap}
 use Rattle.query.specs.Passed.{NodeBy}
-use Rattle.query.specs.Words.{no_such_kind, negates, joins, ranges, kind_of, word_at, node_count, equals}
+use Rattle.query.specs.Words.{no_such_kind, negates, joins, ranges, kind_of, word_at, equals}
 use Rattle.evaluate.specs.declared.evaluated.Evaluated.{Evaluated}
 use Rattle.evaluate.specs.Ready.{walked_words, Right, junction_of}
 use Rattle.evaluate.proofs.Children.{joins_by, ranges_by, none_above, well_formed_by, negated_spent, negated_verdict, both_left-spent, both_settled, both_low, both_right-spent, both_verdict, right-low, set_again, set_back, walk_starts, walk_ends, walk_spent, walk_settled, walk_more, walk_passes}

@@ -1,7 +1,7 @@
 -- The mutually recursive functions of evaluation: each call is on the same node or on a child.
-use Prim.Native.Nat.{ℕ, ◌+◌, ◌-◌, ◌*◌}
+use Prim.Native.Nat.{◌+◌, ◌-◌, ◌*◌}
 use mathlib.Core.Path.{◌≡◌}
-use lib.ListN.{length, set, drop}
+use lib.ListN.{set, drop}
 use Rattle.known.specs.Known.{arities_in, places_in, unpassed}
 use Rattle.query.specs.Words.{word_at, node_count}
 use Rattle.evaluate.specs.Ready.{world, walked_words, junction_of}

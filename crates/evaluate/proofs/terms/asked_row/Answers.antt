@@ -1,5 +1,4 @@
 -- `evaluate::terms::asked_row` meets its contract: the row has the values of the terms, padded with 0. Assumes nothing.
-use Prim.Native.Nat.{◌≤◌, ◌-◌}
 use mathlib.Core.Path.{◌≡◌, refl}
 use native.Mathlib.Omega.{arith}
 use Rattle.query.specs.Tree.{terms_at}

@@ -1,5 +1,5 @@
 -- `instance::eight::put_eight` meets its contract: the first i values are copied in. Assumes nothing.
-use Prim.Native.Nat.{ℕ, ◌+◌, ◌-◌, ◌≤◌}
+use Prim.Native.Nat.{ℕ, ◌+◌}
 use mathlib.Core.Path.{◌≡◌, sym, ap, ◌∙◌, refl}
 use mathlib.Core.List.{List}
 use native.Mathlib.Omega.{arith}

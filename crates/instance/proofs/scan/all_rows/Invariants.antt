@@ -1,5 +1,5 @@
 use Prim.Native.Nat.{◌≤◌, ◌-◌, ◌+◌}
-use mathlib.Core.Path.{◌≡◌, ◌∙◌}
+use mathlib.Core.Path.{◌≡◌}
 use lib.ListN.{drop}
 use Rattle.instance.specs.Header.{max_relations}
 use Rattle.instance.specs.RowCounts.{sum_of}

@@ -1,7 +1,6 @@
-use Prim.Native.Nat.{◌≤◌, ◌<◌, ◌-◌, ◌+◌}
-use mathlib.Core.Path.{◌≡◌, ◌∙◌}
+use Prim.Native.Nat.{◌≤◌, ◌-◌}
+use mathlib.Core.Path.{◌≡◌}
 use lib.ListN.{drop}
-use mathlib.Core.Bool.{◌&&◌}
 use Rattle.instance.specs.Header.{header_well_formed, arities_well_formed}
 use Rattle.instance.proofs.scan.header_well_formed.Given as goal
 

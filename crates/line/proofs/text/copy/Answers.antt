@@ -1,5 +1,4 @@
 -- `line::text::copy` meets its contract: the bytes copied so far are at the front, and the others follow. Assumes nothing.
-use Prim.Native.Nat.{◌-◌, ◌≤◌}
 use mathlib.Core.Path.{refl}
 use native.Mathlib.Omega.{arith}
 use lib.ListN.{drop_of_length-le}

@@ -1,5 +1,4 @@
 -- `line::text::write_verdict` meets its contract: each truth value has its word. Assumes nothing.
-use borrow.Author.Rules.{rules}
 use Rattle.line.proofs.text.write_verdict.Goals as goal
 
 pub returns-in-True : goal.returns-in-True

@@ -1,6 +1,6 @@
 -- `parse::number::number` meets its contract. The loop's invariant: the bytes that are left, read after the number so far, give the whole number.
 -- Assumes nothing.
-use Prim.Native.Nat.{suc, ◌+◌, ◌*◌, ◌-◌, ◌^◌, ◌≤◌, ◌<◌}
+use Prim.Native.Nat.{suc, ◌+◌, ◌*◌, ◌-◌, ◌^◌, ◌<◌}
 use mathlib.Core.Path.{◌≡◌, ◌∙◌}
 use native.Mathlib.Nat.{add-zero, sub-zero, sub_self, pow-suc, pow-le-pow_right, lt_of_lt_of_le}
 use native.Mathlib.Omega.{arith}

@@ -1,5 +1,4 @@
 -- `parse::number::numbers` meets its contract: the numbers read so far are at the front, and the others are read after them. Assumes nothing.
-use Prim.Native.Nat.{◌-◌}
 use native.Mathlib.Omega.{arith}
 use Rattle.parse.proofs.Filling.{fill_start, fill-room, numbers-filled_more, fill_end}
 use Rattle.parse.proofs.number.numbers.Goals as goal

@@ -1,5 +1,5 @@
-use Prim.Native.Nat.{◌+◌, ◌-◌, ◌≤◌, ◌<◌}
-use mathlib.Core.Path.{◌≡◌, ◌∙◌}
+use Prim.Native.Nat.{◌-◌, ◌≤◌}
+use mathlib.Core.Path.{◌≡◌}
 use Rattle.query.specs.Check.{check_nodes}
 use Rattle.query.specs.Answers.{scopes, Long}
 use Rattle.query.proofs.check.check_nodes.Given as goal

@@ -1,6 +1,5 @@
 use Prim.Native.Nat.{◌-◌, ◌≤◌}
 use mathlib.Core.Path.{◌≡◌}
-use mathlib.Core.List.{◌∷◌}
 use lib.ListN.{length, take}
 use Rattle.query.specs.Named.{constants_among}
 use Rattle.query.proofs.inked.count_constants.Given as goal

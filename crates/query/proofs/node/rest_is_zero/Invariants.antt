@@ -1,5 +1,5 @@
 use Prim.Native.Nat.{◌≤◌, ◌-◌}
-use mathlib.Core.Path.{◌≡◌, ◌∙◌}
+use mathlib.Core.Path.{◌≡◌}
 use Rattle.query.specs.Words.{node_words}
 use Rattle.query.specs.Check.{zeros_from, rest_is_zero}
 use Rattle.query.proofs.node.rest_is_zero.Given as goal

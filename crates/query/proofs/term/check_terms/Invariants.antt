@@ -1,5 +1,5 @@
 use Prim.Native.Nat.{◌≤◌, ◌+◌, ◌-◌}
-use mathlib.Core.Path.{◌≡◌, ◌∙◌}
+use mathlib.Core.Path.{◌≡◌}
 use Rattle.query.specs.Scope.{Scopes}
 use Rattle.query.specs.Check.{check_terms}
 use Rattle.query.proofs.term.check_terms.Given as goal
