@@ -123,38 +123,6 @@ static void fill_table(void)
     fill_rows("logged fill and undo, 2,048 rows of one cell, a mark in every cell", 1, PLOTASK_WORDS / 2, 1);
 }
 
-/* The library and C by hand are timed twice: a ratio to itself is what a ratio may differ by without a reason. */
-static void undo_row(const char *places, const char *rows)
-{
-    work *const works[] = {undo, undo_by_hand, undo_reference, undo, undo_by_hand};
-    double ns[5];
-
-    times_of(works, 5, ns);
-    printf("| %s, %s | %.0f | %.0f | %.3g | %.0f | %.3g | %.3g | %.3g |\n", places, rows, ns[0], ns[1], ns[0] / ns[1],
-           ns[2], ns[0] / ns[2], ns[3] / ns[0], ns[4] / ns[1]);
-}
-
-static void undo_rows(const char *name, uint32_t columns, uint32_t rows)
-{
-    prepare_undo_of_fill(columns, rows);
-    undo_row("every cell, in rising order", name);
-    prepare_undo_in_turn(columns, rows, 10000);
-    undo_row("10,000 places, the last cell and the first in turn", name);
-    prepare_undo_in_turn(columns, rows, MOST_PLACES);
-    undo_row("1,000,000 places, the last cell and the first in turn", name);
-}
-
-static void undo_table(void)
-{
-    puts("\n## An undo of places in any order\n");
-    puts("| the entry's places | library, ns | C by hand, ns | ratio | reference, ns | ratio | of the library to "
-         "itself | "
-         "of C by hand to itself |");
-    puts("|---|---|---|---|---|---|---|---|");
-    undo_rows("585 rows of six columns", PLOTASK_COLUMNS, FULL_ROWS);
-    undo_rows("2,048 rows of one cell", 1, PLOTASK_WORDS / 2);
-}
-
 static void few_values(uint32_t rows)
 {
     make_plot(&now, PLOTASK_COLUMNS, rows, FEW_VALUES);
@@ -323,7 +291,6 @@ int main(void)
     full_table();
     call_table();
     fill_table();
-    undo_table();
     growth_table();
     look_table();
     stack_table();

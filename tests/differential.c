@@ -1,7 +1,6 @@
 /* The library against the reference, on random input: differential [seed [rounds [first round]]]. */
 #include "differential/calls.h"
 #include "differential/history.h"
-#include "differential/places.h"
 #include "differential/two_runs.h"
 #include "support/arguments.h"
 #include "support/checks.h"
@@ -33,7 +32,7 @@ static void run_calls(struct random *random, const struct palette *palette, stru
             try_null_counts(random, plot);
             break;
         case 9:
-            try_encode(random, palette, plot);
+            try_encode(random, plot);
             break;
         case 10:
         case 11:
@@ -73,7 +72,6 @@ static void run_round(uint64_t seed, uint64_t round)
         make_plot(&random, &palette, &plot);
         try_history(&random, &palette, &plot);
     }
-    try_places(&random, &palette, &plot);
 }
 
 int main(int count, char **arguments)

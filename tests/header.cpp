@@ -120,7 +120,7 @@ void named_values()
 {
     const uint32_t question[4][PLOTASK_NODE_WORDS] = {
         {PLOTASK_SOME, 0, 1}, {PLOTASK_OR, 3, 2}, {PLOTASK_EQUAL, 5, 3}, {PLOTASK_EQUAL, PLOTASK_VARIABLE(0), 7}};
-    const uint32_t row[] = {5}, expected[] = {5, 3, 7, 9};
+    const uint32_t candidate[] = {0}, row[] = {5}, expected[] = {5, 3, 7, 9};
     plotask_header header = plotask_header();
     uint32_t plot[4] = {}, list[4] = {9, 9, 9, 9};
     Answer answer = {0, 9, 9};
@@ -130,10 +130,10 @@ void named_values()
     expect(plotask_insert(PLOTASK_HEADER(&header), plot, 4, 0, row, 1) == PLOTASK_DONE, "the row (5) is not entered");
     expect(is(ask(header, plot, &question[0][0], 4 * PLOTASK_NODE_WORDS), PLOTASK_TRUE, 5), "a value in the question");
     answer.refusal = plotask_ask(PLOTASK_CONST_HEADER(&header), plot, 4, &question[0][0], 4 * PLOTASK_NODE_WORDS,
-                                 nullptr, 0, list, 3, 100, &answer.truth, &answer.cost);
+                                 candidate, 0, list, 3, 100, &answer.truth, &answer.cost);
     expect(answer.refusal == PLOTASK_BUFFER_TOO_SHORT && list[0] == 9, "a list of three words");
     answer.refusal = plotask_ask(PLOTASK_CONST_HEADER(&header), plot, 4, &question[0][0], 4 * PLOTASK_NODE_WORDS,
-                                 nullptr, 0, list, 4, 4, &answer.truth, &answer.cost);
+                                 candidate, 0, list, 4, 4, &answer.truth, &answer.cost);
     expect(answer.refusal == PLOTASK_BUDGET_SPENT && std::memcmp(list, expected, sizeof list) == 0,
            "the range in the list");
 }

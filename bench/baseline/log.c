@@ -32,16 +32,24 @@ uint32_t replace_null_logged(const struct plotask_header *header, uint32_t *plot
     return PLOTASK_DONE;
 }
 
-/* A bit for each word tells where rows start, so that the places may be in any order, and as many as they like. */
+/* Places rise if a fill has written them, so the rows are passed once; for a place further up they are passed anew. */
 static int are_cells(const struct plotask_header *header, const uint32_t *plot, const uint32_t *places, uint32_t count)
 {
-    uint32_t starts[PLOTASK_WORDS / 32] = {0};
+    uint32_t row = 0, end = 0;
 
-    for (uint32_t row = 0; row < header->used; row += 1 + header->arities[plot[row]])
-        starts[row / 32] |= 1u << row % 32;
-    for (uint32_t i = 0; i < count; i++)
-        if (places[i] >= header->used || (starts[places[i] / 32] >> places[i] % 32 & 1))
+    for (uint32_t i = 0; i < count; i++) {
+        uint32_t place = places[i];
+        if (place >= header->used)
             return 0;
+        if (place < row)
+            end = 0;
+        while (place >= end) {
+            row = end;
+            end += 1 + header->arities[plot[row]];
+        }
+        if (place == row)
+            return 0;
+    }
     return 1;
 }
 

@@ -42,53 +42,6 @@ static void note_card(const struct any_card *card, const struct any_plot *plot, 
         note(BLANK_NEEDS_NULL_201);
 }
 
-/*
- * A card just encoded decodes to the same header and words, whatever header and words it is decoded over. The words
- * behind stay, and a log in use starts fresh.
- */
-static void decode_again(struct random *random, const struct palette *palette, const struct any_plot *plot,
-                         const struct any_card *card)
-{
-    static struct any_plot other, before;
-    size_t used = plot->header[HEADER_USED];
-    size_t behind = one_in(random, 2) ? 0 : 1 + below(random, PLOT_ROOM - used);
-    size_t log_used = 1 + below(random, 20);
-    bool over_plot = one_in(random, 2);
-    make_plot(random, palette, &other);
-    if (!over_plot)
-        memset(other.header, 0xff, sizeof other.header);
-    memset(other.words, (int)below(random, 256), sizeof other.words);
-    other.length = used + behind;
-    before = other;
-    if (both_decode(&other, card, &log_used) != 0)
-        fail("an encoded card is refused");
-    if (memcmp(other.header, plot->header, HEADER_WORDS * sizeof *other.header) != 0 ||
-        memcmp(other.words, plot->words, used * sizeof *other.words) != 0)
-        fail("an encoded card decodes to another plot");
-    if (memcmp(other.words + used, before.words + used, behind * sizeof *other.words) != 0)
-        fail("decode changed words behind those in use");
-    if (log_used != 0)
-        fail("an encoded card does not start the log fresh");
-    note(over_plot ? DECODED_OVER_PLOT : DECODED_OVER_NO_HEADER);
-    note(behind > 0 ? DECODED_BEFORE_WORDS : DECODED_TO_LENGTH);
-}
-
-/* The plot of a card, encoded and decoded again, is the same. A card without blanks is encoded as it was. */
-static void encode_again(struct random *random, const struct palette *palette, struct any_plot *plot,
-                         const struct any_card *card)
-{
-    static struct any_card again;
-    uint32_t count;
-    again.length = 3 * MOST_WORDS; /* more than any card needs */
-    if (both_encode(plot, &again, &count) != 0)
-        fail("the plot of a card is not encoded");
-    again.length = count;
-    if (count < card->length || (count == card->length && memcmp(again.bytes, card->bytes, count) != 0))
-        fail("a card without blanks is encoded as another");
-    decode_again(random, palette, plot, &again);
-    note(count > card->length ? CARD_WITH_BLANKS_AGAIN : CARD_WITHOUT_BLANKS_AGAIN);
-}
-
 void try_decode(struct random *random, const struct palette *palette, struct any_plot *plot, struct any_log *log)
 {
     static const size_t wrong_lengths[] = {HEADER_COUNTS, HEADER_WORDS - 1, HEADER_WORDS + 1};
@@ -117,20 +70,18 @@ void try_decode(struct random *random, const struct palette *palette, struct any
     default:
         plot->length = MOST_WORDS + below(random, 3);
     }
-    bool log_in_use = log->used > 0;
+    bool fresh = log->used == 0;
     bool miscounted = one_in(random, 3);
     if (miscounted)
         miscount_rows(random, plot);
     uint32_t number = both_decode(plot, &card, &log->used);
     if (!damaged)
         note_card(&card, plot, number);
-    if (log_in_use)
-        tally.with_log[number]++;
+    if (number == 0 && !fresh)
+        note(FRESH_BY_DECODE);
     if (number == 0 && miscounted)
         note(DECODED_OVER_MISCOUNT);
-    if (number == 0)
-        encode_again(random, palette, plot, &card);
-    else
+    if (number != 0)
         *plot = old;
 }
 
@@ -208,7 +159,24 @@ void try_null_counts(struct random *random, struct any_plot *plot)
         note(COUNTS_OF_199);
 }
 
-void try_encode(struct random *random, const struct palette *palette, struct any_plot *plot)
+/* A card just encoded decodes to the same header and words. */
+static void decode_again(const struct any_plot *plot, const struct any_card *card)
+{
+    static struct any_plot other;
+    size_t log_used = 1;
+    other = *plot;
+    memset(other.header, 0xff, sizeof other.header);
+    memset(other.words, 0xff, sizeof other.words);
+    other.length = plot->header[HEADER_USED];
+    if (both_decode(&other, card, &log_used) != 0)
+        fail("an encoded card is refused");
+    if (memcmp(other.header, plot->header, HEADER_WORDS * sizeof *other.header) != 0 ||
+        memcmp(other.words, plot->words, plot->header[HEADER_USED] * sizeof *other.words) != 0)
+        fail("an encoded card decodes to another plot");
+    note(CARD_DECODED_AGAIN);
+}
+
+void try_encode(struct random *random, struct any_plot *plot)
 {
     static struct any_card card;
     struct any_plot *lent = plot_to_lend(random, plot);
@@ -234,7 +202,7 @@ void try_encode(struct random *random, const struct palette *palette, struct any
         note(OUTPUT_SHORT_BY_ONE);
     if (number == 0) {
         card.length = count;
-        decode_again(random, palette, lent, &card);
+        decode_again(lent, &card);
     }
 }
 
@@ -245,7 +213,7 @@ void try_call_between(struct random *random, const struct palette *palette, stru
         try_null_counts(random, plot);
         break;
     case 1:
-        try_encode(random, palette, plot);
+        try_encode(random, plot);
         break;
     case 2:
         try_ask(random, palette, plot);

@@ -15,7 +15,7 @@ void try_substitute_logged(struct random *random, const struct palette *palette,
                            struct any_log *log);
 void try_undo(struct random *random, struct any_plot *plot, struct any_log *log);
 void try_null_counts(struct random *random, struct any_plot *plot);
-void try_encode(struct random *random, const struct palette *palette, struct any_plot *plot);
+void try_encode(struct random *random, struct any_plot *plot);
 void try_ask(struct random *random, const struct palette *palette, struct any_plot *plot);
 
 /* A call that writes no word of the plot, or none. */

@@ -78,9 +78,9 @@ static struct lent *lend_plot(const struct any_plot *plot)
     return lend(lend_part("plot", plot->words, plot->length, PLOT_ROOM));
 }
 
-static struct lent words_of_log(const struct any_log *log)
+static struct lent *lend_log(const struct any_log *log)
 {
-    return lend_part("log", log->words, log->length, LOG_ROOM);
+    return lend(lend_part("log", log->words, log->length, LOG_ROOM));
 }
 
 static struct lent *lend_log_used(size_t log_used)
@@ -200,7 +200,7 @@ uint32_t both_substitute_logged(struct any_plot *plot, struct any_log *log, uint
     begin(SUBSTITUTE_LOGGED, null, cell, 0);
     struct lent *h = lend_header(plot);
     struct lent *p = lend_plot(plot);
-    struct lent *l = lend(words_of_log(log));
+    struct lent *l = lend_log(log);
     struct lent *u = lend_log_used(log->used);
     struct lent *n = lend_result("count");
     uint32_t number =
@@ -214,33 +214,22 @@ uint32_t both_substitute_logged(struct any_plot *plot, struct any_log *log, uint
     return number;
 }
 
-static uint32_t both_undo_of(struct any_plot *plot, struct lent log, size_t *log_used, uint32_t *count)
+uint32_t both_undo(struct any_plot *plot, struct any_log *log, uint32_t *count)
 {
     begin(UNDO, 0, 0, 0);
     struct lent *h = lend_header(plot);
     struct lent *p = lend_plot(plot);
-    struct lent *l = lend(log);
-    struct lent *u = lend_log_used(*log_used);
+    struct lent *l = lend_log(log);
+    struct lent *u = lend_log_used(log->used);
     struct lent *n = lend_result("count");
     uint32_t number = end(plotask_undo(LIBRARY(h), LIBRARY(p), LIBRARY(l), u->library, n->library),
                           ref_undo(REFERENCE(h), REFERENCE(p), REFERENCE(l), u->reference, n->reference));
-    if (!is_untouched(l))
-        fail("an undo changed the log's words");
     copy_back(p, plot->words);
-    copy_back(u, log_used);
+    copy_back(l, log->words);
+    copy_back(u, &log->used);
     copy_back(n, count);
     take_all_back();
     return number;
-}
-
-uint32_t both_undo(struct any_plot *plot, struct any_log *log, uint32_t *count)
-{
-    return both_undo_of(plot, words_of_log(log), &log->used, count);
-}
-
-uint32_t both_undo_long(struct any_plot *plot, const uint32_t *log, size_t length, size_t *log_used, uint32_t *count)
-{
-    return both_undo_of(plot, lend_words("log", log, length), log_used, count);
 }
 
 uint32_t both_null_counts(struct any_plot *plot, const uint32_t *output, size_t output_length)

@@ -16,8 +16,6 @@ uint32_t both_substitute(struct any_plot *plot, uint32_t null, uint32_t cell, ui
 uint32_t both_substitute_logged(struct any_plot *plot, struct any_log *log, uint32_t null, uint32_t cell,
                                 uint32_t *count);
 uint32_t both_undo(struct any_plot *plot, struct any_log *log, uint32_t *count);
-/* The same with a log of any length. */
-uint32_t both_undo_long(struct any_plot *plot, const uint32_t *log, size_t length, size_t *log_used, uint32_t *count);
 uint32_t both_null_counts(struct any_plot *plot, const uint32_t *output, size_t output_length);
 /* The card is the lent output before, and the written card after. */
 uint32_t both_encode(struct any_plot *plot, struct any_card *card, uint32_t *count);

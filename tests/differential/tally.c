@@ -50,24 +50,18 @@ static void check_unsound(enum call call)
     printf("\n");
 }
 
-/* Each number that a call can return has to have been hit. */
-static void check_numbers(enum call call, const char *title, const uint64_t hits[CODES])
-{
-    printf("%-17s%s", call_names[call], title);
-    for (size_t i = 0; i == 0 || possible[call][i] != 0; i++) {
-        uint32_t number = possible[call][i];
-        printf(" %" PRIu32 ":%" PRIu64, number, hits[number]);
-        check(hits[number] > 0);
-    }
-    printf("\n");
-}
-
 void check_tally(void)
 {
     static const char *const truth_names[] = {"false", "unknown", "true"};
-    for (enum call call = DECODE; call < CALLS; call++)
-        check_numbers(call, "", tally.numbers[call]);
-    check_numbers(DECODE, " log in use", tally.with_log);
+    for (size_t call = 0; call < CALLS; call++) {
+        printf("%-17s", call_names[call]);
+        for (size_t i = 0; i == 0 || possible[call][i] != 0; i++) {
+            uint64_t hits = tally.numbers[call][possible[call][i]];
+            printf(" %" PRIu32 ":%" PRIu64, possible[call][i], hits);
+            check(hits > 0);
+        }
+        printf("\n");
+    }
     for (enum call call = DECODE + 1; call < CALLS; call++)
         check_unsound(call);
     printf("%-17s", "truths");

@@ -51,6 +51,7 @@ enum counts_fault {
     CASE(ENTRY_OF_MANY_CELLS, "an entry of 500 cells or more is written")                          \
     CASE(FILL_USED_BEYOND_LOG, "a logged substitution: the words in use exceed the log")           \
     CASE(LOGGED_BY_ITSELF, "a null is replaced by itself and logged")                              \
+    CASE(FRESH_BY_DECODE, "decode starts a log fresh that had words in use")                       \
     CASE(DECODED_OVER_MISCOUNT, "decode puts right counts for wrong ones")                         \
     CASE(UNDO_USED_BEYOND_LOG, "an undo: the words in use exceed the log")                         \
     CASE(ONE_WORD_IN_USE, "an undo: one word is in use")                                           \
@@ -64,25 +65,6 @@ enum counts_fault {
     CASE(ENTRY_OF_NO_CELLS, "an entry of no cells is undone")                                      \
     CASE(PLACE_TWICE, "an entry that names a place twice is undone")                               \
     CASE(PLACES_NOT_RISING, "an entry whose places do not rise is undone")                         \
-    CASE(PLACES_RISE, "a full plot: places that rise are undone")                                  \
-    CASE(PLACES_FALL, "a full plot: places that fall are undone")                                  \
-    CASE(PLACES_FROM_BOTH_ENDS, "a full plot: places from both ends in turn are undone")           \
-    CASE(PLACES_OF_TWO, "a full plot: the last place and the first in turn are undone")            \
-    CASE(PLACES_IN_NO_ORDER, "a full plot: places in no order are undone")                         \
-    CASE(PLACES_66000, "a full plot: 66,000 places or more, not rising, are undone")               \
-    CASE(PLACES_OF_1_COLUMN, "a full plot, rows of 1 column: a place for each cell, not rising")   \
-    CASE(PLACES_OF_2_COLUMNS, "a full plot, rows of 2 columns: a place for each cell, not rising") \
-    CASE(PLACES_OF_3_COLUMNS, "a full plot, rows of 3 columns: a place for each cell, not rising") \
-    CASE(PLACES_OF_4_COLUMNS, "a full plot, rows of 4 columns: a place for each cell, not rising") \
-    CASE(PLACES_OF_5_COLUMNS, "a full plot, rows of 5 columns: a place for each cell, not rising") \
-    CASE(PLACES_OF_6_COLUMNS, "a full plot, rows of 6 columns: a place for each cell, not rising") \
-    CASE(PLACES_MIXED, "a full plot, rows of 1 to 6 columns: a place for each cell, not rising")   \
-    CASE(PLACE_BAD_FIRST, "a full plot: of places not rising, the first is a relation's number")   \
-    CASE(PLACE_BAD_BETWEEN, "a full plot: of places not rising, one is a relation's number")       \
-    CASE(PLACE_BAD_LAST, "a full plot: of places not rising, the last is a relation's number")     \
-    CASE(PLACE_ONE_PAST, "a full plot: of places not rising, one is one past the words in use")    \
-    CASE(PLACE_PAST_4096, "a full plot: of places not rising, one is a cell's plus n times 4,096") \
-    CASE(PLACE_BAD_OF_66000, "a full plot: of 66,000 places or more, not rising, one is bad")      \
     CASE(OUTPUT_FITS, "an encoded card fits its output exactly")                                   \
     CASE(OUTPUT_SHORT_BY_ONE, "an encoded card lacks one byte of output")                          \
     CASE(COUNTS_OF_199, "null counts lack one word of output")                                     \
@@ -140,12 +122,7 @@ enum counts_fault {
     CASE(TERM_RAISES_COST, "named: the cost would be lower without the terms in the range")        \
     CASE(TERM_LOWERS_COST, "named: the cost would be higher without the terms in the range")       \
     CASE(TERM_SPENDS_BUDGET, "named: 46, but a verdict without the terms in the range")            \
-    CASE(DECODED_OVER_PLOT, "an encoded card is decoded over the header of another plot")          \
-    CASE(DECODED_OVER_NO_HEADER, "an encoded card is decoded over words that are no header")       \
-    CASE(DECODED_TO_LENGTH, "an encoded card is decoded into as many words as it needs")           \
-    CASE(DECODED_BEFORE_WORDS, "an encoded card is decoded before words that stay")                \
-    CASE(CARD_WITH_BLANKS_AGAIN, "a card with blanks is decoded, encoded and decoded again")       \
-    CASE(CARD_WITHOUT_BLANKS_AGAIN, "a card without blanks is decoded and encoded again")          \
+    CASE(CARD_DECODED_AGAIN, "an encoded card decodes to the same plot")                           \
     CASE(KEPT_TRUE, "true is kept over substitutions")                                             \
     CASE(KEPT_FALSE, "false is kept over substitutions")                                           \
     CASE(SETTLED_TRUE, "unknown becomes true")                                                     \
@@ -181,7 +158,6 @@ enum named_case {
 struct tally {
     uint64_t calls;
     uint64_t numbers[CALLS][CODES];
-    uint64_t with_log[CODES]; /* what decode returned while a log had words in use, which a refusal leaves */
     uint64_t unsound[CALLS][COUNTS_FAULTS]; /* refusals with 41; decode, which reads no plot, has none here */
     uint64_t truths[3];
     uint64_t cases[NAMED_CASES];

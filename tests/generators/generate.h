@@ -72,8 +72,6 @@ uint32_t odd_number(struct random *random, uint32_t old);
 
 /* Most plots are small, some are full and a few have over 4,096 words in use. */
 void make_plot(struct random *random, const struct palette *palette, struct any_plot *plot);
-/* A plot without room for another row. Its rows have as many columns, or from 1 to 6 if none is given. */
-void make_full_plot(struct random *random, const struct palette *palette, uint32_t columns, struct any_plot *plot);
 void damage_plot(struct random *random, struct any_plot *plot);
 /*
  * Changes one count of an undamaged plot by one, up or down (from 0 to 4,294,967,295), also that of a relation that
@@ -90,8 +88,6 @@ size_t count_cells(const struct any_plot *plot);
 size_t count_values(const struct any_plot *plot);
 /* Writes the index, among the words, of the first cell of each value, and returns the number of values. */
 size_t first_places(const struct any_plot *plot, size_t places[PLOT_ROOM]);
-/* Lists the places of an undamaged plot's cells, in rising order, and returns their number. */
-size_t list_places(const struct any_plot *plot, uint32_t places[PLOT_ROOM]);
 /* The bucket of a cell in a hash table, so that plots can be made whose values all meet in one. */
 enum { BUCKETS = 1024 };
 uint32_t bucket_of(uint32_t cell);

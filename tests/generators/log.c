@@ -9,7 +9,8 @@ void make_fresh_log(struct random *random, struct any_log *log, size_t length)
     log->used = 0;
 }
 
-size_t list_places(const struct any_plot *plot, uint32_t places[PLOT_ROOM])
+/* Lists the places of an undamaged plot's cells, and returns their number. */
+static size_t list_places(const struct any_plot *plot, uint32_t *places)
 {
     size_t count = 0;
     for (uint32_t at = 0; at < plot->header[HEADER_USED];) {
@@ -77,7 +78,7 @@ static void use_beyond_length(struct random *random, struct any_log *log)
 static uint32_t place_of_relation(struct random *random, const struct any_plot *plot)
 {
     uint32_t at = 0;
-    for (size_t rows = below(random, one_in(random, 2) ? 20 : MOST_WORDS); rows > 0; rows--) {
+    for (size_t rows = below(random, 20); rows > 0; rows--) {
         uint32_t next = at + 1 + arity_of(plot->header, plot->words[at]);
         at = next < plot->header[HEADER_USED] ? next : 0;
     }
@@ -89,7 +90,7 @@ static uint32_t place_behind(struct random *random, const struct any_plot *plot)
     uint32_t used = plot->header[HEADER_USED];
     switch (below(random, 4)) {
     case 0:
-        return used + 1 + below(random, one_in(random, 2) ? 10 : MOST_WORDS);
+        return used + 1 + below(random, 10);
     case 1:
         return UINT32_MAX - below(random, 3);
     case 2:

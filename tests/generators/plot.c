@@ -88,53 +88,28 @@ static void spread_constants(struct random *random, struct any_plot *plot)
         }
 }
 
-/* Appends rows to a plot without rows until its words are as many, or until no row seems to fit. */
-static void add_rows(struct random *random, const struct palette *palette, struct any_plot *plot, size_t size)
+void make_plot(struct random *random, const struct palette *palette, struct any_plot *plot)
 {
+    static const size_t slacks[] = {0, 0, 1, 5, 7, 50};
+    size_t size = any_size(random);
+    size_t used = 0;
     size_t last_row = 0;
+    make_empty_plot(random, plot);
     for (;;) {
-        size_t used = plot->header[HEADER_USED];
         uint32_t relation = fitting_relation(random, plot->header, size - used);
         if (relation == MOST_RELATIONS)
             break;
         add_row(random, palette, plot, relation, last_row);
         last_row = used;
+        used = plot->header[HEADER_USED];
     }
-}
-
-/* Gives the slice a length, and the words behind those in use some content. */
-static void end_slice(struct random *random, struct any_plot *plot, size_t length)
-{
-    plot->length = length;
-    for (size_t i = plot->header[HEADER_USED]; i < length; i++)
-        plot->words[i] = odd_number(random, 0);
-}
-
-void make_plot(struct random *random, const struct palette *palette, struct any_plot *plot)
-{
-    static const size_t slacks[] = {0, 0, 1, 5, 7, 50};
-    size_t size = any_size(random);
-    make_empty_plot(random, plot);
-    add_rows(random, palette, plot, size);
-    size_t used = plot->header[HEADER_USED];
     if (one_in(random, used > 1000 ? 2 : 15))
         spread_constants(random, plot);
-    size_t length = used + slacks[below(random, 6)];
+    plot->length = used + slacks[below(random, 6)];
     if (one_in(random, 8) && used <= MOST_WORDS)
-        length = MOST_WORDS + below(random, 2);
-    end_slice(random, plot, length);
-}
-
-void make_full_plot(struct random *random, const struct palette *palette, uint32_t columns, struct any_plot *plot)
-{
-    uint32_t arities[MOST_RELATIONS];
-    uint32_t relations = columns == 0 ? MOST_COLUMNS : 1 + below(random, MOST_RELATIONS);
-    for (uint32_t relation = 0; relation < relations; relation++)
-        arities[relation] = columns == 0 ? 1 + relation : columns;
-    header_start(plot->header, relations, arities);
-    plot->header_length = HEADER_WORDS;
-    add_rows(random, palette, plot, MOST_WORDS);
-    end_slice(random, plot, MOST_WORDS + below(random, 2));
+        plot->length = MOST_WORDS + below(random, 2);
+    for (size_t i = used; i < plot->length; i++)
+        plot->words[i] = odd_number(random, 0);
 }
 
 void count_relation_rows(const struct any_plot *plot, uint32_t rows[MOST_RELATIONS])
