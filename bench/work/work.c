@@ -21,7 +21,7 @@ static uint8_t card[PLOTASK_CARD_BYTES], written[PLOTASK_CARD_BYTES];
 static uint32_t card_bytes;
 static struct plotask_header read_header;
 static uint32_t read_plot[PLOTASK_WORDS];
-static uint32_t fill_log[MOST_PLACES + 2];
+static uint32_t fill_log[PLOTASK_ENTRY_WORDS];
 static size_t fill_log_used;
 static uint32_t counts[PLOTASK_MARKS];
 static const uint32_t row[PLOTASK_COLUMNS] = {1, 2, 3, 4, 5, 6};
@@ -164,7 +164,7 @@ void there_and_back_reference(void)
 }
 
 /* The log and its length. */
-#define FILL_LOG fill_log, MOST_PLACES + 2, &fill_log_used
+#define FILL_LOG fill_log, PLOTASK_ENTRY_WORDS, &fill_log_used
 
 void logged_and_undone(void)
 {
@@ -202,18 +202,6 @@ void undo(void)
 {
     fill_log_used = entry_words;
     refusal = build->undo(HEADER(&now.header), now.plot, PLOTASK_WORDS, FILL_LOG, &count);
-}
-
-void undo_by_hand(void)
-{
-    fill_log_used = entry_words;
-    refusal = undo_fill(&now.header, now.plot, PLOTASK_WORDS, FILL_LOG, &count);
-}
-
-void undo_reference(void)
-{
-    fill_log_used = entry_words;
-    refusal = ref_undo(PLOTASK_HEADER(&now.header), now.plot, PLOTASK_WORDS, FILL_LOG, &count);
 }
 
 void null_counts(void)
@@ -349,37 +337,4 @@ void prepare_fills(uint32_t columns, uint32_t rows, uint32_t step)
                 now.plot[at + column] = PLOTASK_MARK(1);
     null_to_replace = 2;
     check_logged_by_hand();
-}
-
-/* An undo leaves the same plot by hand and by the reference as by the library. */
-static void check_undos(void)
-{
-    static uint32_t filled[PLOTASK_WORDS], undone[PLOTASK_WORDS];
-
-    memcpy(filled, now.plot, sizeof filled);
-    must_do(undo);
-    memcpy(undone, now.plot, sizeof undone);
-    memcpy(now.plot, filled, sizeof filled);
-    must_do(undo_by_hand);
-    must(memcmp(undone, now.plot, sizeof undone) == 0, "a plot undone by hand differs");
-    memcpy(now.plot, filled, sizeof filled);
-    must_do(undo_reference);
-    must(memcmp(undone, now.plot, sizeof undone) == 0, "a plot undone by the reference differs");
-}
-
-void prepare_undo_of_fill(uint32_t columns, uint32_t rows)
-{
-    prepare_fills(columns, rows, 1); /* leaves the words of the entry that it has undone */
-    check_undos();
-}
-
-void prepare_undo_in_turn(uint32_t columns, uint32_t rows, uint32_t places)
-{
-    make_plot(&now, columns, rows, PLOTASK_CELLS);
-    for (uint32_t i = 0; i < places; i++)
-        fill_log[i] = i % 2 == 0 ? now.header.used - 1 : 1;
-    fill_log[places] = 1;
-    fill_log[places + 1] = places;
-    entry_words = places + 2;
-    check_undos();
 }

@@ -40,7 +40,7 @@ work logged_and_undone, logged_and_undone_by_hand, logged_and_undone_reference;
 work there_and_back, there_and_back_by_hand, there_and_back_reference;
 
 /* The two calls by themselves: a logged fill with a fresh log, and the undo of its entry, again and again. */
-work substitute_logged, undo, undo_by_hand, undo_reference;
+work substitute_logged, undo;
 
 /* Ends the program unless the range is listed by hand as by the library, for a query with constants. */
 void check_listing(void);
@@ -50,13 +50,6 @@ void prepare_calls(uint32_t columns, uint32_t rows);
 
 /* A plot of this many rows, with null 1 in the last of every `step` cells, to replace and put back. */
 void prepare_fills(uint32_t columns, uint32_t rows, uint32_t step);
-
-/* The most places of an entry to undo. */
-enum { MOST_PLACES = 1000000 };
-
-/* An entry to undo: that of a fill of every cell; or of as many places, the last cell's and the first one's in turn. */
-void prepare_undo_of_fill(uint32_t columns, uint32_t rows);
-void prepare_undo_in_turn(uint32_t columns, uint32_t rows, uint32_t places);
 
 /* Ends the program if something does not hold, and says what. */
 void must(int holds, const char *what);
