@@ -64,7 +64,7 @@ has_place none n = true
 abbrev pub needed : Header → (ws qs : List ℕ) → List ℕ
 needed h ws qs = cells_of (rows h ws) ++ named_in h.arities qs
 
--- The most that a question may need: 3,510 cells and 300 inked terms. `proofs/Need.antt`, `need-few`: none needs more.
+-- The most that a question may need: 3,510 cells and 300 inked terms. `proofs/Need.antt`, `need_few`: none needs more.
 abbrev pub most_needed : ℕ
 most_needed = 3810
 

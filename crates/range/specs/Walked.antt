@@ -11,7 +11,7 @@ walked earlier [] = []
 walked earlier (c ∷ cs) = cond (listed c earlier) (walked (earlier ++ c ∷ []) cs) (c ∷ walked (earlier ++ c ∷ []) cs)
 
 -- the rows' cells, walked from the first, and then the constants that a question names (`proofs/Walked.antt`,
--- `walked-range`: they are the range)
+-- `walked_range_lem`: they are the range)
 abbrev pub walked_range : List ℕ → List Row → List ℕ
 walked_range named rs = walked [] (cells_of rs ++ named)
 
