@@ -4,9 +4,10 @@ use mathlib.Core.Path.{◌≡◌, refl, ap}
 use mathlib.Core.Bool.{true, false}
 use mathlib.Core.List.{List}
 use lib.ListN.{length}
-use Rattle.calculus.specs.declared.answer.Answer.{Answer}
-use Rattle.calculus.specs.declared.answer.Answer.TheVariants as answer
+use Rattle.calculus.specs.Answer.{Answer}
+use Rattle.std.specs.Prelude.{Ok, Err}
 use Rattle.calculus.specs.Reading.{refused, read}
+use Rattle.calculus.specs.declared.refusal.Refusal.TheVariants.{Unsound, BadQueryLength}
 use Rattle.calculus.specs.Refusal.{unsound, bad_query_length}
 use Rattle.calculus.proofs.Answers.{demand_done}
 use Rattle.calculus.proofs.Bools.{zero_not_one}
@@ -19,37 +20,37 @@ use Rattle.answer.specs.Ask.{if_passed, admitted}
 use Rattle.answer.specs.Admitted.{Admitted}
 
 module _ (h : Header) (ws qs cs : List ℕ) where
-  pub unsound-first : sound h ws ≡ false → answer.Refused unsound ≡ admitted h ws qs cs
+  pub unsound-first : sound h ws ≡ false → Err unsound ≡ admitted h ws qs cs
   unfolding admitted
   unsound-first e = rw e refl
 
   module _ (e : sound h ws ≡ true) where
-    pub length-second : right_length qs ≡ false → answer.Refused bad_query_length ≡ admitted h ws qs cs
+    pub length-second : right_length qs ≡ false → Err bad_query_length ≡ admitted h ws qs cs
     unfolding admitted
     length-second l = rw (e, l) refl
 
     module _ (l : right_length qs ≡ true) where
-      pub check_third : (r : ℕ) → r ≡ check_number (check_query h.relations h.arities qs cs) → (r ≡ 0 → ⊥) → answer.Refused r ≡ admitted h ws qs cs
+      pub check_third : (r : ℕ) → r ≡ check_number (check_query h.relations h.arities qs cs) → (r ≡ 0 → ⊥) → Err r ≡ admitted h ws qs cs
       unfolding admitted
       check_third r is some = rw (e, l) (go (check_query h.relations h.arities qs cs) _ is)
         where
-          go : (c : Checked) (a : Answer) → r ≡ check_number c → answer.Refused r ≡ if_passed c a
+          go : (c : Checked) (a : Answer) → r ≡ check_number c → Err r ≡ if_passed c a
           go (read done s) a p = absurd (some p)
-          go (refused q) a p = ap answer.Refused p
+          go (refused q) a p = ap Err p
 
-      pub none-refused : (s : Scopes) → check_query h.relations h.arities qs cs ≡ passed s → answer.Done (length (rows h ws)) ≡ admitted h ws qs cs
+      pub none-refused : (s : Scopes) → check_query h.relations h.arities qs cs ≡ passed s → Ok (length (rows h ws)) ≡ admitted h ws qs cs
       unfolding admitted
       none-refused s p = rw (e, l, p) refl
 
-  pub admitted_done : (k : ℕ) → admitted h ws qs cs ≡ answer.Done k → Admitted h ws qs cs k
+  pub admitted_done : (k : ℕ) → admitted h ws qs cs ≡ Ok k → Admitted h ws qs cs k
   unfolding admitted
   admitted_done k d =
-      let a = demand_done (sound h ws) unsound _ k d in
-      let q = demand_done (right_length qs) bad_query_length _ k a.1 in
+      let a = demand_done (sound h ws) Unsound _ k d in
+      let q = demand_done (right_length qs) BadQueryLength _ k a.1 in
       go (check_query h.relations h.arities qs cs) refl a.0 q.0 q.1
     where
       go :
           (c : Checked) → check_query h.relations h.arities qs cs ≡ c → sound h ws ≡ true → right_length qs ≡ true →
-          if_passed c (answer.Done (length (rows h ws))) ≡ answer.Done k → Admitted h ws qs cs k
+          if_passed c (Ok (length (rows h ws))) ≡ Ok k → Admitted h ws qs cs k
       go (read done s) p is_sound right d = record { is_sound = is_sound; right = right; scopes = s; passes = p; counted = cc }
       go (refused r) p is_sound right d = let z : ◌≡◌ {A = ℕ} 0 1 = cc in absurd (zero_not_one z)

@@ -7,10 +7,10 @@ use native.Mathlib.Omega.{arith}
 use lib.ListN.{length, get_or, drop, take, replicate, length-append}
 use lib.Seq.{take_at, take_all, get_or-take}
 use borrow.Author.Tests.{le-leb, lt-leb}
-use Rattle.calculus.specs.declared.answer.Answer.{Answer}
-use Rattle.calculus.specs.declared.answer.Answer.TheVariants as answer
+use Rattle.calculus.specs.Answer.{Answer}
+use Rattle.std.specs.Prelude.{Ok, Err}
 use Rattle.calculus.specs.Answer.{after}
-use Rattle.calculus.specs.Refusal.{buffer_too_short}
+use Rattle.calculus.specs.declared.refusal.Refusal.TheVariants.{BufferTooShort}
 use Rattle.calculus.specs.Row.{Row}
 use Rattle.calculus.specs.Domain.{range_over}
 use Rattle.calculus.specs.Model.{outcome_of}
@@ -49,13 +49,13 @@ use Rattle.instance.proofs.Sound.{sound_gives}
 
 -- a question that is not admitted is refused by every way of asking
 pub admitted-refused :
-    (h : Header) (ws qs cs : List ℕ) (lent : Lent) (r : ℕ) → admitted h ws qs cs ≡ answer.Refused r → askable h ws qs cs lent ≡ answer.Refused r
+    (h : Header) (ws qs cs : List ℕ) (lent : Lent) (r : ℕ) → admitted h ws qs cs ≡ Err r → askable h ws qs cs lent ≡ Err r
 unfolding askable
 admitted-refused h ws qs cs lent r d = rw d refl
 
 -- the answer to a question that is refused, and to one that is not
 module _ (h : Header) (ws qs cs : List ℕ) (lent : Lent) (budget : ℕ) where
-  pub refused-asked : (r : ℕ) → askable h ws qs cs lent ≡ answer.Refused r → Refused r ≡ ask h ws qs cs lent budget
+  pub refused-asked : (r : ℕ) → askable h ws qs cs lent ≡ Err r → Refused r ≡ ask h ws qs cs lent budget
   unfolding ask
   refused-asked r e = sym (ap (λ (x : Answer). answered_by x (within budget (outcome_by lent (model_of h ws cs) (query_of h.arities qs)))) e)
 
@@ -69,7 +69,7 @@ module _ (h : Header) (ws qs cs : List ℕ) (lent : Lent) (budget : ℕ) where
 
 -- the list that was lent
 module _ (h : Header) (ws qs cs buffer : List ℕ) where
-  pub refused-buffer : (r : ℕ) → askable h ws qs cs (list buffer) ≡ answer.Refused r → buffer ≡ asked_buffer h ws qs cs buffer
+  pub refused-buffer : (r : ℕ) → askable h ws qs cs (list buffer) ≡ Err r → buffer ≡ asked_buffer h ws qs cs buffer
   unfolding asked_buffer
   refused-buffer r e = sym (ap (λ (x : Answer). after x (overwrite (range_over (named_in h.arities qs) (rows h ws)) buffer) buffer) e)
 
@@ -79,7 +79,7 @@ module _ (h : Header) (ws qs cs buffer : List ℕ) where
 
   pub short-list :
       (count : ℕ) → Admitted h ws qs cs count → length buffer < length (needed h ws qs) →
-      askable h ws qs cs (list buffer) ≡ answer.Refused buffer_too_short
+      askable h ws qs cs (list buffer) ≡ Err BufferTooShort
   unfolding askable
   short-list count a short =
       rw (← none-refused h ws qs cs a.is_sound a.right a.scopes a.passes, lt-leb (length (needed h ws qs)) (length buffer) short) refl

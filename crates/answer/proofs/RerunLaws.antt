@@ -6,11 +6,11 @@ use mathlib.Core.List.{List}
 use native.Mathlib.Omega.{arith}
 use lib.ListN.{length, length-map, length-append}
 use borrow.Author.Tests.{le-leb, leb-true}
-use Rattle.calculus.specs.declared.answer.Answer.{Answer}
-use Rattle.calculus.specs.declared.answer.Answer.TheVariants as answer
+use Rattle.calculus.specs.Answer.{Answer}
+use Rattle.std.specs.Prelude.{Ok, Err}
 use Rattle.calculus.specs.declared.truth.Truth.{Truth}
 use Rattle.calculus.specs.Demand.{demand}
-use Rattle.calculus.specs.Refusal.{buffer_too_short}
+use Rattle.calculus.specs.declared.refusal.Refusal.TheVariants.{BufferTooShort}
 use Rattle.calculus.specs.Row.{Row, cells_of}
 use Rattle.calculus.specs.Eval.{Outcome}
 use Rattle.calculus.specs.Order.{◌⊑◌}
@@ -62,21 +62,21 @@ pub same_lent : (lent : Lent) → NoShorter lent lent
 same_lent (list buffer) = omega arith
 same_lent none = tt
 
-pub asks_done : (h : Header) (ws qs candidate : List ℕ) (lent : Lent) (k : ℕ) → askable h ws qs candidate lent ≡ answer.Done k → Asks h ws qs candidate lent
+pub asks_done : (h : Header) (ws qs candidate : List ℕ) (lent : Lent) (k : ℕ) → askable h ws qs candidate lent ≡ Ok k → Asks h ws qs candidate lent
 unfolding askable
 asks_done h ws qs candidate lent k e = go (admitted h ws qs candidate) refl e
   where
     go :
         (a : Answer) → admitted h ws qs candidate ≡ a →
-        if_done a (demand (has_place lent (length (needed h ws qs))) (answer.Refused buffer_too_short) (answer.Done 0)) ≡ answer.Done k →
+        if_done a (demand (has_place lent (length (needed h ws qs))) (Err BufferTooShort) (Ok 0)) ≡ Ok k →
         Asks h ws qs candidate lent
-    go (answer.Done m) p d =
+    go (Ok m) p d =
         let a = admitted_done h ws qs candidate m p in
-        let r = demand_done (has_place lent (length (needed h ws qs))) buffer_too_short (answer.Done 0) k d in
+        let r = demand_done (has_place lent (length (needed h ws qs))) BufferTooShort (Ok 0) k d in
         record { is_sound = a.is_sound; right = a.right; scopes = a.scopes; passes = a.passes; room = r.0 }
-    go (answer.Refused r) p d = let z : ◌≡◌ {A = ℕ} 0 1 = cc in absurd (zero_not_one z)
+    go (Err r) p d = let z : ◌≡◌ {A = ℕ} 0 1 = cc in absurd (zero_not_one z)
 
-pub askable_done : (h : Header) (ws qs candidate : List ℕ) (lent : Lent) → Asks h ws qs candidate lent → askable h ws qs candidate lent ≡ answer.Done 0
+pub askable_done : (h : Header) (ws qs candidate : List ℕ) (lent : Lent) → Asks h ws qs candidate lent → askable h ws qs candidate lent ≡ Ok 0
 unfolding askable
 askable_done h ws qs candidate lent a =
     rw (← none-refused h ws qs candidate a.is_sound a.right a.scopes a.passes, a.room) refl
@@ -95,12 +95,12 @@ verdict-asked h ws qs candidate lent budget t n =
         (e : Evaluated) → within budget (outcome_of (model_of h ws candidate) (query_of h.arities qs)) ≡ e →
         answered_by a e ≡ Verdict t n →
         Asks h ws qs candidate lent × (within budget (outcome_of (model_of h ws candidate) (query_of h.arities qs)) ≡ evaluated.Verdict t n)
-    go (answer.Done k) p (evaluated.Verdict u m) q r =
+    go (Ok k) p (evaluated.Verdict u m) q r =
         let truths : u ≡ t = cc in
         let costs : m ≡ n = cc in
         (asks_done h ws qs candidate lent k p, q ∙ ap (λ (x : Truth). evaluated.Verdict x m) truths ∙ ap (evaluated.Verdict t) costs)
-    go (answer.Done k) p evaluated.Spent q r = let z : ◌≡◌ {A = ℕ} 0 1 = cc in absurd (zero_not_one z)
-    go (answer.Refused k) p e q r = let z : ◌≡◌ {A = ℕ} 0 1 = cc in absurd (zero_not_one z)
+    go (Ok k) p evaluated.Spent q r = let z : ◌≡◌ {A = ℕ} 0 1 = cc in absurd (zero_not_one z)
+    go (Err k) p e q r = let z : ◌≡◌ {A = ℕ} 0 1 = cc in absurd (zero_not_one z)
 
 -- conversely, if nothing is refused and the cost is within the budget, the question gets its verdict
 pub asked-verdict :

@@ -6,8 +6,8 @@ use mathlib.Core.List.{List}
 use lib.ListN.{length}
 use native.Mathlib.Omega.{arith}
 use borrow.Author.Tests.{le-leb}
-use Rattle.calculus.specs.declared.answer.Answer.{Answer}
-use Rattle.calculus.specs.declared.answer.Answer.TheVariants as answer
+use Rattle.calculus.specs.Answer.{Answer}
+use Rattle.std.specs.Prelude.{Ok, Err}
 use Rattle.calculus.specs.Demand.{demand}
 use Rattle.calculus.specs.Listed.{listed}
 use Rattle.calculus.specs.Closed.{closed_over}
@@ -15,7 +15,7 @@ use Rattle.calculus.specs.Eval.{Outcome, eval}
 use Rattle.calculus.specs.Formula.{Query, assignment}
 use Rattle.calculus.specs.Model.{Model, outcome_of}
 use Rattle.calculus.specs.Reading.{refused, read, refused_in}
-use Rattle.calculus.specs.Refusal.{unsound, buffer_too_short, bad_query_length}
+use Rattle.calculus.specs.declared.refusal.Refusal.TheVariants.{Unsound, BufferTooShort, BadQueryLength}
 use Rattle.calculus.proofs.Bools.{false_not_true}
 use Rattle.instance.specs.declared.header.Header.{Header}
 use Rattle.instance.specs.Run.{model_of}
@@ -49,15 +49,15 @@ ways_agree h ws qs cs buffer budget not_IsShort =
   where
     go :
         (a : Answer) (b : Bool) {e e' : Evaluated} → e ≡ e' →
-        (answered_by (if_done a (demand b (answer.Refused buffer_too_short) (answer.Done 0))) e' ≡ Refused buffer_too_short → ⊥) →
-        answered_by (if_done a (answer.Done 0)) e ≡ answered_by (if_done a (demand b (answer.Refused buffer_too_short) (answer.Done 0))) e'
-    go (answer.Done n) true same no-45 = ap evaluated_as same
-    go (answer.Done n) false same no-45 = absurd (no-45 refl)
-    go (answer.Refused r) b same no-45 = refl
+        (answered_by (if_done a (demand b (Err BufferTooShort) (Ok 0))) e' ≡ Refused BufferTooShort → ⊥) →
+        answered_by (if_done a (Ok 0)) e ≡ answered_by (if_done a (demand b (Err BufferTooShort) (Ok 0))) e'
+    go (Ok n) true same no-45 = ap evaluated_as same
+    go (Ok n) false same no-45 = absurd (no-45 refl)
+    go (Err r) b same no-45 = refl
 
 -- 45 is none of the numbers that are left
 unlisted-never :
-    (h : Header) (ws qs cs : List ℕ) (budget : ℕ) → ask h ws qs cs none budget ≡ Refused buffer_too_short → ⊥
+    (h : Header) (ws qs cs : List ℕ) (budget : ℕ) → ask h ws qs cs none budget ≡ Refused BufferTooShort → ⊥
 unfolding ask askable admitted listed
 unlisted-never h ws qs cs budget short =
     go (sound h ws) (right_length qs) (check_query h.relations h.arities qs cs) (query-numbered h.relations h.arities qs cs)
@@ -67,7 +67,7 @@ unlisted-never h ws qs cs budget short =
         (a l : Bool) (c : Checked) → refused_in check_numbers c ≡ true → (e : Evaluated) →
         asked_number
         (answered_by
-        (if_done (demand a (answer.Refused unsound) (demand l (answer.Refused bad_query_length) (if_passed c (answer.Done (length (rows h ws)))))) (answer.Done 0))
+        (if_done (demand a (Err Unsound) (demand l (Err BadQueryLength) (if_passed c (Ok (length (rows h ws)))))) (Ok 0))
         e) ≡ 45 → ⊥
     go false l c p e n = omega (arith, n)
     go true false c p e n = omega (arith, n)
@@ -85,11 +85,11 @@ ample-same h ws qs cs buffer budget long =
   where
     go :
         (a : Answer) → admitted h ws qs cs ≡ a →
-        answered_by (if_done a (answer.Done 0)) (within budget (outcome_of (model_of h ws cs) (query_of h.arities qs))) ≡
-        answered_by (if_done a (demand (has_place (list buffer) (length (needed h ws qs))) (answer.Refused buffer_too_short) (answer.Done 0)))
+        answered_by (if_done a (Ok 0)) (within budget (outcome_of (model_of h ws cs) (query_of h.arities qs))) ≡
+        answered_by (if_done a (demand (has_place (list buffer) (length (needed h ws qs))) (Err BufferTooShort) (Ok 0)))
         (within budget (outcome_of (model_of h ws cs) (query_of h.arities qs)))
-    go (answer.Refused r) e = refl
-    go (answer.Done k) e =
+    go (Err r) e = refl
+    go (Ok k) e =
         let few = need_few h ws qs cs k (admitted_done h ws qs cs k e) in
         rw (le-leb (length (needed h ws qs)) (length buffer) (omega arith)) refl
 

@@ -1,10 +1,10 @@
 -- Asking. Document 01: "Question: 41, 21, 26, then nodes by number .., then 45, 46"; "Each call answers either a verdict with its looks or a
 -- refusal."
 use Rattle.std.specs.Prelude.{ℕ, Bool, true, List, ◌++◌, length, leb}
-use Rattle.calculus.specs.declared.answer.Answer.{Answer}
-use Rattle.calculus.specs.declared.answer.Answer.TheVariants as answer
+use Rattle.calculus.specs.Answer.{Answer}
+use Rattle.std.specs.Prelude.{Ok, Err}
 use Rattle.calculus.specs.Answer.{after}
-use Rattle.calculus.specs.Refusal.{unsound, buffer_too_short, budget_spent, bad_query_length}
+use Rattle.calculus.specs.declared.refusal.Refusal.TheVariants.{Unsound, BufferTooShort, BudgetSpent, BadQueryLength}
 use Rattle.calculus.specs.Row.{Row, cells_of}
 use Rattle.calculus.specs.Domain.{range_over}
 use Rattle.calculus.specs.Closed.{closed_over}
@@ -30,24 +30,24 @@ use Rattle.query.specs.Words.{right_length}
 -- goes on only if the question passed its check
 abbrev pub if_passed : Checked → Answer → Answer
 if_passed (read done s) a = a
-if_passed (refused r) a = answer.Refused r
+if_passed (refused r) a = Err r
 
 -- an evaluation's answer; "46: the question's looks exceed the allowance"
 abbrev pub evaluated_as : Evaluated → Asked
 evaluated_as (evaluated.Verdict t n) = ask-answer.Verdict t n
-evaluated_as evaluated.Spent = ask-answer.Refused budget_spent
+evaluated_as evaluated.Spent = ask-answer.Refused BudgetSpent
 
 -- the answer of the evaluation, if nothing is refused before it
 abbrev pub answered_by : Answer → Evaluated → Asked
-answered_by (answer.Done n) e = evaluated_as e
-answered_by (answer.Refused r) e = ask-answer.Refused r
+answered_by (Ok n) e = evaluated_as e
+answered_by (Err r) e = ask-answer.Refused r
 
 -- the refusals that do not depend on what is lent, in their order; the number of rows if there is none
 unfoldable pub admitted : Header → (ws qs candidate : List ℕ) → Answer
 admitted h ws qs candidate =
-    demand (sound h ws) (answer.Refused unsound)
-    (demand (right_length qs) (answer.Refused bad_query_length)
-    (if_passed (check_query h.relations h.arities qs candidate) (answer.Done (length (rows h ws)))))
+    demand (sound h ws) (Err Unsound)
+    (demand (right_length qs) (Err BadQueryLength)
+    (if_passed (check_query h.relations h.arities qs candidate) (Ok (length (rows h ws)))))
 
 -- what is lent to a question besides: a list for what quantifiers range over, or none (document 02, request 4: "Asking
 -- with no working list")
@@ -81,15 +81,15 @@ outcome_by lent b q = eval (closed_over (range_of lent q.named b.rows) b.rows) q
 
 -- goes on only if nothing is refused so far
 abbrev pub if_done : Answer → Answer → Answer
-if_done (answer.Done n) a = a
-if_done (answer.Refused r) a = answer.Refused r
+if_done (Ok n) a = a
+if_done (Err r) a = Err r
 
 module _ (h : Header) (ws qs candidate : List ℕ) (lent : Lent) where
   -- the refusals before the evaluation
   unfoldable pub askable : Answer
   askable =
       if_done (admitted h ws qs candidate) (demand (has_place lent (length (needed h ws qs)))
-      (answer.Refused buffer_too_short) (answer.Done 0))
+      (Err BufferTooShort) (Ok 0))
 
   unfoldable pub ask : ℕ → Asked
   ask budget = answered_by askable (within budget (outcome_by lent (model_of h ws candidate) (query_of h.arities qs)))

@@ -1,7 +1,7 @@
 -- Document 01: "Equal rows may stand twice and mean what one would."
 use Rattle.std.specs.Prelude.{ℕ, ◌≤◌, ◌≡◌, true, List, ◌∷◌, ◌++◌, length}
 use Rattle.calculus.specs.declared.truth.Truth.{Truth}
-use Rattle.calculus.specs.Refusal.{budget_spent}
+use Rattle.calculus.specs.declared.refusal.Refusal.TheVariants.{BudgetSpent}
 use Rattle.calculus.specs.Row.{Row}
 use Rattle.instance.specs.declared.header.Header.{Header}
 use Rattle.instance.specs.Sound.{sound, rows}
@@ -18,7 +18,7 @@ pub record SameVerdict (a : Asked) (t : Truth) (n : ℕ) : Type 0 where
 -- the verdict t, with a cost of at least n; or the budget is spent
 pub data SameOrSpent (a : Asked) (t : Truth) (n : ℕ) : Type 0 where
   same : (cost : ℕ) → n ≤ cost → a ≡ Verdict t cost → SameOrSpent a t n
-  spent : a ≡ Refused budget_spent → SameOrSpent a t n
+  spent : a ≡ Refused BudgetSpent → SameOrSpent a t n
 
 -- Two sound instances with the same relations: the second has the rows of the first without one that equals an earlier row of its relation.
 pub record Repeat (h h' : Header) (ws ws' : List ℕ) : Type 0 where

@@ -1,7 +1,7 @@
 -- Two ways of asking, with a working list and without one. Document 02, request 4: "Show it equal to the listed way in verdict, looks and every refusal, for
 -- every input that the listed way does not refuse with 45. Turned away: 45 never occurs on this way."
 use Rattle.std.specs.Prelude.{ℕ, ◌≤◌, ◌≡◌, List, length}
-use Rattle.calculus.specs.Refusal.{buffer_too_short}
+use Rattle.calculus.specs.declared.refusal.Refusal.TheVariants.{BufferTooShort}
 use Rattle.instance.specs.declared.header.Header.{Header}
 use Rattle.answer.specs.declared.asked.Asked.TheVariants.{Refused}
 use Rattle.answer.specs.declared.way.Way.{Way}
@@ -11,7 +11,7 @@ use Rattle.answer.specs.Ask.{Lent, list, none, most_needed, ask, asked_buffer}
 abbrev pub WaysAgree : Type 0
 WaysAgree =
     (h : Header) (ws qs candidate buffer : List ℕ) (budget : ℕ) →
-    (ask h ws qs candidate (list buffer) budget ≡ Refused buffer_too_short → ⊥) →
+    (ask h ws qs candidate (list buffer) budget ≡ Refused BufferTooShort → ⊥) →
     ask h ws qs candidate none budget ≡ ask h ws qs candidate (list buffer) budget
 
 -- what is always long enough: no list, and a list that no question exceeds
@@ -22,7 +22,7 @@ Ample none = Unit
 abbrev pub NeverShort : Type 0
 NeverShort =
     (h : Header) (ws qs candidate : List ℕ) (lent : Lent) → Ample lent → (budget : ℕ) →
-    ask h ws qs candidate lent budget ≡ Refused buffer_too_short → ⊥
+    ask h ws qs candidate lent budget ≡ Refused BufferTooShort → ⊥
 
 -- the same way again, with no shorter list
 abbrev pub NoShorter : Lent → Lent → Type 0

@@ -7,8 +7,8 @@ use mathlib.Core.List.{List, [], ◌∷◌, ◌++◌, map, map-map, map-append}
 use native.Mathlib.Omega.{arith}
 use lib.ListN.{length, length-map, replicate}
 use borrow.Author.Tests.{ltb-true, leb-true}
-use Rattle.calculus.specs.declared.answer.Answer.{Answer}
-use Rattle.calculus.specs.declared.answer.Answer.TheVariants.{Done, Refused}
+use Rattle.calculus.specs.Answer.{Answer}
+use Rattle.std.specs.Prelude.{Ok, Err}
 use Rattle.calculus.specs.Answer.{after}
 use Rattle.calculus.specs.Cell.{constants, is_cell, is_mark, put, all_constant}
 use Rattle.calculus.specs.Row.{Row, map_row}
@@ -94,7 +94,7 @@ mapped_next f b = go (answer_of f b) refl
     filled_model = record { rows = substitute f.mark f.cell b.rows; candidate = map (put f.mark f.cell) b.candidate }
 
     go : (a : Answer) → answer_of f b ≡ a → Mapped b (after a filled_model b)
-    go (Done n) e =
+    go (Ok n) e =
         let mark = demand_done (is_mark f.mark) _ _ n e in
         let cell = demand_done (is_cell f.cell) _ _ n mark.1 in
         record {
@@ -104,7 +104,7 @@ mapped_next f b = go (answer_of f b) refl
           rows = refl;
           candidate = refl;
         }
-    go (Refused r) e = mapped_none b
+    go (Err r) e = mapped_none b
 
 pub mapped_run : (fs : List Fill) (b : Model) → Mapped b (run fs b)
 unfolding after_fills

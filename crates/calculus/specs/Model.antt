@@ -2,7 +2,7 @@
 -- tables refuse, asked of the book's rows, leaves it as it is and answers that refusal .. Any other puts c in every cell of rows and
 -- candidate that held m, and answers how many of those were in rows."
 use Rattle.std.specs.Prelude.{ℕ, ◌≡◌, Bool, true, ◌&&◌, List, [], ◌∷◌, map}
-use Rattle.calculus.specs.declared.answer.Answer.{Answer}
+use Rattle.calculus.specs.Answer.{Answer}
 use Rattle.calculus.specs.Answer.{after}
 use Rattle.calculus.specs.Cell.{put, all_constant}
 use Rattle.calculus.specs.Row.{Row, map_row, cells_of}

@@ -1,6 +1,8 @@
 -- The numbers of the refusals. Document 01, "Numbers that come from the input" (10 to 29) and "Numbers that come from the state"
 -- (41 to 46); document 02, request 1 (47 to 49).
 use Rattle.std.specs.Prelude.{ℕ}
+use Rattle.calculus.specs.declared.refusal.Refusal.{Refusal}
+use Rattle.calculus.specs.declared.refusal.Refusal.TheVariants.{InputTooLong, CutShort, BadRelationCount, BadArity, NoSuchRelation, BitBeyondArity, NotACell, NullsExhausted, BytesLeftOver, BadQueryLength, BadNode, BadChild, UnboundVariable, NoSuchQueryRelation, BadCandidate, WrongRowLength, NoSuchNull, Unsound, NoRoom, NullAbsent, OutputTooShort, BufferTooShort, BudgetSpent, LogTooShort, LogEmpty, BadLog}
 
 -- "the program's input is over 16,384 bytes"
 abbrev pub input_too_long : ℕ
@@ -106,3 +108,32 @@ log_empty = 48
 -- "the words in use exceed the log or fall short of the latest note, or that note has no mark from 1 to 200 or a place that is no cell of the plot"
 abbrev pub bad_log : ℕ
 bad_log = 49
+
+-- the number that a refusal has in the paper
+abbrev pub refusal_number : Refusal → ℕ
+refusal_number InputTooLong = input_too_long
+refusal_number CutShort = cut_short
+refusal_number BadRelationCount = bad_relation_count
+refusal_number BadArity = bad_arity
+refusal_number NoSuchRelation = no_such_relation
+refusal_number BitBeyondArity = bit_beyond_arity
+refusal_number NotACell = not_a_cell
+refusal_number NullsExhausted = nulls_exhausted
+refusal_number BytesLeftOver = bytes_left_over
+refusal_number BadQueryLength = bad_query_length
+refusal_number BadNode = bad_node
+refusal_number BadChild = bad_child
+refusal_number UnboundVariable = unbound_variable
+refusal_number NoSuchQueryRelation = no_such_query_relation
+refusal_number BadCandidate = bad_candidate
+refusal_number WrongRowLength = wrong_row_length
+refusal_number NoSuchNull = no_such_null
+refusal_number Unsound = unsound
+refusal_number NoRoom = no_room
+refusal_number NullAbsent = null_absent
+refusal_number OutputTooShort = output_too_short
+refusal_number BufferTooShort = buffer_too_short
+refusal_number BudgetSpent = budget_spent
+refusal_number LogTooShort = log_too_short
+refusal_number LogEmpty = log_empty
+refusal_number BadLog = bad_log

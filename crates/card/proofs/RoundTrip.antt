@@ -8,11 +8,11 @@ use lib.ListN.{length, take, drop}
 use lib.Seq.{take-append_seam}
 use lib.Dec.{leb}
 use borrow.Author.Tests.{le-leb}
-use Rattle.calculus.specs.declared.answer.Answer.TheVariants.{Done}
+use Rattle.std.specs.Prelude.{Ok}
 use Rattle.calculus.specs.Cell.{nulls}
 use Rattle.calculus.specs.Overwrite.{overwrite}
 use Rattle.calculus.specs.Reading.{read}
-use Rattle.calculus.specs.Refusal.{unsound, output_too_short}
+use Rattle.calculus.specs.declared.refusal.Refusal.TheVariants.{Unsound, OutputTooShort}
 use Rattle.calculus.specs.Row.{Row}
 use Rattle.calculus.proofs.Answers.{demand_done}
 use Rattle.instance.specs.declared.header.Header.{Header}
@@ -46,7 +46,7 @@ module _ (h : Header) (rs : List Row) (well_formed : header_well_formed h.relati
 
   pub decode_rows : (slice : List ℕ) → length (words_of rs) ≤ length slice
       → decoded (card_bytes h rs) slice ≡ record {
-        answer = Done (length (words_of rs));
+        answer = Ok (length (words_of rs));
         header = header_for h.relations h.arities rs;
         words = overwrite (words_of rs) slice;
       }
@@ -60,7 +60,7 @@ module _ (h : Header) (rs : List Row) (well_formed : header_well_formed h.relati
 -- "The writer writes every column, so its card reads back to the same head and words."
 pub decode_encode : (h : Header) (ws slice : List ℕ) → sound h ws ≡ true → length h.arities ≡ max_relations → h.used ≤ length slice
     → decoded (card_bytes h (rows h ws)) slice ≡ record {
-      answer = Done h.used;
+      answer = Ok h.used;
       header = h;
       words = take h.used ws ++ drop h.used slice;
     }
@@ -72,18 +72,18 @@ decode_encode h ws slice e eight room =
     rw (s.header, size, s.words) at whole
 
 -- if encode is accepted, the instance is sound and the card has n bytes
-encoded-told : (h : Header) (ws out : List ℕ) (n : ℕ) → encoded h ws out ≡ Done n → (sound h ws ≡ true) × (length (card_bytes h (rows h ws)) ≡ n)
+encoded-told : (h : Header) (ws out : List ℕ) (n : ℕ) → encoded h ws out ≡ Ok n → (sound h ws ≡ true) × (length (card_bytes h (rows h ws)) ≡ n)
 unfolding encoded
 encoded-told h ws out n e =
     let size = length (card_bytes h (rows h ws)) in
-    let p = demand_done (sound h ws) unsound _ n e in
-    let q = demand_done (leb size (length out)) output_too_short (Done size) n p.1 in
+    let p = demand_done (sound h ws) Unsound _ n e in
+    let q = demand_done (leb size (length out)) OutputTooShort (Ok size) n p.1 in
     (p.0, cc q.1)
 
 -- the bytes that encode wrote read back
-pub read_back : (h : Header) (ws out slice : List ℕ) (n : ℕ) → length h.arities ≡ max_relations → encoded h ws out ≡ Done n → h.used ≤ length slice
+pub read_back : (h : Header) (ws out slice : List ℕ) (n : ℕ) → length h.arities ≡ max_relations → encoded h ws out ≡ Ok n → h.used ≤ length slice
     → decoded (take n (encoded_bytes h ws out)) slice ≡ record {
-      answer = Done h.used;
+      answer = Ok h.used;
       header = h;
       words = take h.used ws ++ drop h.used slice;
     }

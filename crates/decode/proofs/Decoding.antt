@@ -9,12 +9,12 @@ use lib.ListN.{length, drop, get_or, length-append, length-drop}
 use lib.Count.{ones}
 use lib.Dec.{leb, eqb}
 use borrow.Author.Tests.{leb-true, le-leb, lt-leb, eq-eqb, ne_eqb}
-use Rattle.calculus.specs.declared.answer.Answer.{Answer}
-use Rattle.calculus.specs.declared.answer.Answer.TheVariants.{Done, Refused}
+use Rattle.calculus.specs.Answer.{Answer}
+use Rattle.std.specs.Prelude.{Ok, Err}
 use Rattle.calculus.specs.Cell.{nulls}
 use Rattle.calculus.specs.Overwrite.{overwrite}
 use Rattle.calculus.specs.Reading.{read, refused, and_then}
-use Rattle.calculus.specs.Refusal.{bytes_left_over, nulls_exhausted, no_room}
+use Rattle.calculus.specs.declared.refusal.Refusal.TheVariants.{BytesLeftOver, NullsExhausted, NoRoom}
 use Rattle.calculus.proofs.Bools.{and_parts, zero_not_one}
 use Rattle.instance.specs.declared.header.Header.{Header}
 use Rattle.instance.specs.Header.{arities_well_formed, max_columns, max_words, header_with}
@@ -72,19 +72,19 @@ module _ (n : ℕ) (ars : List ℕ) (arities_well_formed_lem : arities_well_form
 
 -- what a refused call returns, and the slice that it leaves
 abbrev pub turned_down : ℕ → List ℕ → Decoded
-turned_down why slice = record { answer = Refused why; header = no_header; words = slice }
+turned_down why slice = record { answer = Err why; header = no_header; words = slice }
 
 module _ (card slice : List ℕ) where
   -- if a call is refused, its answer and header are those of the definition, and the slice keeps its content
-  pub down : {a : Answer} {header : Header} (why : ℕ) → a ≡ Refused why → header ≡ no_header → decoded card slice ≡ turned_down why slice
+  pub down : {a : Answer} {header : Header} (why : ℕ) → a ≡ Err why → header ≡ no_header → decoded card slice ≡ turned_down why slice
       → (a ≡ (decoded card slice).answer) × ((header ≡ (decoded card slice).header) × (slice ≡ (decoded card slice).words))
   down why p q e = rw (p, q, e) (refl, (refl, refl))
 
-  pub head_turned : (why : ℕ) → (opened_head (read_head card)).answer ≡ Refused why → decoded card slice ≡ turned_down why slice
+  pub head_turned : (why : ℕ) → (opened_head (read_head card)).answer ≡ Err why → decoded card slice ≡ turned_down why slice
   unfolding decoded decoded_from read_card opened_head
   head_turned why = go (read_head card)
     where
-      go : (p : Parsed Head) → (opened_head p).answer ≡ Refused why
+      go : (p : Parsed Head) → (opened_head p).answer ≡ Err why
           → decoded_from
           (and_then p
           (λ h bs. and_then (read_records h.relations h.arities h.count bs) (λ rs bs. read (record { head = h; records = rs }) bs)))
@@ -164,16 +164,16 @@ module _ (card slice : List ℕ) where
 
       -- the tests, in their order
 
-      pub left_over : t.end < length card → decoded card slice ≡ turned_down bytes_left_over slice
+      pub left_over : t.end < length card → decoded card slice ≡ turned_down BytesLeftOver slice
       unfolding decoded_from accepted
       left_over l = c.whole ∙ rw (ne_eqb (length c.rest) 0 (λ e. omega (arith, end_is)))
 
-      pub exhausted : length card ≤ t.end → nulls < t.highest + t.blanks → decoded card slice ≡ turned_down nulls_exhausted slice
+      pub exhausted : length card ≤ t.end → nulls < t.highest + t.blanks → decoded card slice ≡ turned_down NullsExhausted slice
       unfolding decoded_from accepted
       exhausted l m = c.whole ∙ rw (ends l, lt-leb (highest c.records + blanks c.records) nulls (omega (arith, sum_is)))
 
       pub too_small : length card ≤ t.end → t.highest + t.blanks ≤ nulls → has_room t.words (length slice) ≡ false
-          → decoded card slice ≡ turned_down no_room slice
+          → decoded card slice ≡ turned_down NoRoom slice
       unfolding decoded_from accepted
       too_small l m r = c.whole ∙ rw (ends l, enough m, size (suc (highest c.records)), r)
 
@@ -194,7 +194,7 @@ module _ (card slice : List ℕ) where
       pub all_hold : length card ≤ t.end → t.highest + t.blanks ≤ nulls → has_room t.words (length slice) ≡ true
           → decoded card slice
           ≡ record {
-            answer = Done t.words;
+            answer = Ok t.words;
             header = header_with n ars t.words (row_counts (rows_read n ars count (t.highest + 1) (drop (n + 3) card)));
             words = overwrite (words_read n ars count (t.highest + 1) (drop (n + 3) card)) slice;
           }

@@ -11,11 +11,11 @@ use lib.Dec.{eqb}
 use lib.Pow.{pow_mono}
 use lib.Count.{ones, ones_step, ones-le, count_leading_zeros, leading_length}
 use borrow.Author.Tests.{eqb-true, eqb-false}
-use Rattle.calculus.specs.declared.answer.Answer.{Answer}
-use Rattle.calculus.specs.declared.answer.Answer.TheVariants.{Done, Refused}
+use Rattle.calculus.specs.Answer.{Answer}
+use Rattle.std.specs.Prelude.{Ok, Err}
 use Rattle.calculus.specs.Cell.{is_cell, mark_of, nulls}
 use Rattle.calculus.specs.Reading.{read, refused, and_then}
-use Rattle.calculus.specs.Refusal.{cut_short, not_a_cell}
+use Rattle.calculus.specs.declared.refusal.Refusal.TheVariants.{CutShort, NotACell}
 use Rattle.calculus.proofs.Cells.{cell_below}
 use Rattle.instance.specs.Blanks.{Field, written, blank, blanks_in, highest_of, written_of}
 use Rattle.parse.specs.Parse.{Parsed, read_each}
@@ -71,28 +71,28 @@ written_read = each_read read_field WrittenRead written_none written_more
 
 -- what it returns for fields after others whose highest null is m
 abbrev pub raised : ℕ → Answer → Answer
-raised m (Done h) = Done (max m h)
-raised m (Refused why) = Refused why
+raised m (Ok h) = Ok (max m h)
+raised m (Err why) = Err why
 
 pub raised_none : (x : Answer) → raised 0 x ≡ x
-raised_none (Done h) = let e : max 0 h ≡ h = omega arith in rw e
-raised_none (Refused why) = refl
+raised_none (Ok h) = let e : max 0 h ≡ h = omega arith in rw e
+raised_none (Err why) = refl
 
 raised_more : (m n : ℕ) (x : Answer) → raised m (raised n x) ≡ raised (max m n) x
-raised_more m n (Done h) = let e : max m (max n h) ≡ max (max m n) h = omega arith in rw e
-raised_more m n (Refused why) = refl
+raised_more m n (Ok h) = let e : max m (max n h) ≡ max (max m n) h = omega arith in rw e
+raised_more m n (Err why) = refl
 
 -- At least one field is left, from index `at`: the pass refuses it, or goes on after it.
 module _ (left at : ℕ) (bs : List ℕ) (some : 0 < left) where
   one : left ≡ suc (left - 1)
   one = omega arith
 
-  pub fields-short : length bs - at < 3 → measured_fields (read_written left (drop at bs)) ≡ Refused cut_short
+  pub fields-short : length bs - at < 3 → measured_fields (read_written left (drop at bs)) ≡ Err CutShort
   unfolding measured_fields read_each read_field
   fields-short h = rw (one, (takes_number 3).cut (drop at bs) (rw length-drop h))
 
   module _ (c : ℕ) (number : read_number 3 (drop at bs) ≡ read c (drop (at + 3) bs)) where
-    pub fields_bad : is_cell c ≡ false → measured_fields (read_written left (drop at bs)) ≡ Refused not_a_cell
+    pub fields_bad : is_cell c ≡ false → measured_fields (read_written left (drop at bs)) ≡ Err NotACell
     unfolding measured_fields read_each read_field
     fields_bad e = rw (one, number, e)
 

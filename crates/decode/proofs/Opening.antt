@@ -8,10 +8,10 @@ use lib.ListN.{length, drop, get_or, set, replicate, length-append, length-drop}
 use lib.Seq.{drop-drop}
 use lib.Dec.{leb}
 use borrow.Author.Tests.{leb-true}
-use Rattle.calculus.specs.declared.answer.Answer.TheVariants.{Done, Refused}
+use Rattle.std.specs.Prelude.{Ok, Err}
 use Rattle.calculus.specs.Padded.{padded}
 use Rattle.calculus.specs.Reading.{read, refused, and_then}
-use Rattle.calculus.specs.Refusal.{cut_short, bad_relation_count, bad_arity}
+use Rattle.calculus.specs.declared.refusal.Refusal.TheVariants.{CutShort, BadRelationCount, BadArity}
 use Rattle.calculus.proofs.Bools.{and_parts, zero_not_one}
 use Rattle.calculus.proofs.Padded.{padded_more}
 use Rattle.instance.specs.Header.{is_arity, arities_well_formed, max_relations}
@@ -26,11 +26,11 @@ use Rattle.decode.specs.declared.head.Head as declared-head
 use Rattle.decode.specs.Measure.{no_arities, opened_arities, no_head, opened_head}
 
 -- a refusal counts no rows
-pub none-counted : (why n : ℕ) → Refused why ≡ Done n → n < 256 ^ 2
+pub none-counted : (why n : ℕ) → Err why ≡ Ok n → n < 256 ^ 2
 none-counted why n e = let z : ◌≡◌ {A = ℕ} 0 1 = cc in absurd (zero_not_one z)
 
 pub refused-head : (card : List ℕ) {r : declared-head.Head} (why : ℕ) → r ≡ no_head why → opened_head (read_head card) ≡ no_head why
-    → (r ≡ opened_head (read_head card)) × ((n : ℕ) → r.answer ≡ Done n → n < 256 ^ 2)
+    → (r ≡ opened_head (read_head card)) × ((n : ℕ) → r.answer ≡ Ok n → n < 256 ^ 2)
 refused-head card why p e = rw (p, e) (refl, none-counted why)
 
 -- ---- the loop over the arities, which start at byte 1
@@ -57,14 +57,14 @@ module _ (card : List ℕ) (n : ℕ) where
     one : n - i ≡ suc (n - (i + 1))
     one = omega arith
 
-    pub opening_cut : length card - 1 ≤ i → opening card n ≡ no_arities cut_short
+    pub opening_cut : length card - 1 ≤ i → opening card n ≡ no_arities CutShort
     unfolding read_each opened_arities
-    opening_cut h = o.whole ∙ rw (one, byte_cut is_arity bad_arity card (i + 1) (omega arith))
+    opening_cut h = o.whole ∙ rw (one, byte_cut is_arity BadArity card (i + 1) (omega arith))
 
     module _ (room : i + 1 < length card) (a : ℕ) (is : a ≡ get_or card (i + 1) 0) where
-      pub opening_bad : is_arity a ≡ false → opening card n ≡ no_arities bad_arity
+      pub opening_bad : is_arity a ≡ false → opening card n ≡ no_arities BadArity
       unfolding read_each opened_arities
-      opening_bad e = o.whole ∙ rw (one, byte_at is_arity bad_arity card (i + 1) room, ← is, e)
+      opening_bad e = o.whole ∙ rw (one, byte_at is_arity BadArity card (i + 1) room, ← is, e)
 
       pub opening_more : is_arity a ≡ true → OpeningArities (set ars i a) (i + 1)
       unfolding read_each opened_arities
@@ -73,41 +73,41 @@ module _ (card : List ℕ) (n : ℕ) where
         within = omega arith;
         size = rw (length-append, o.size);
         array = rw o.array (padded_more max_relations o.before i a o.size (omega arith));
-        whole = o.whole ∙ rw (one, byte_at is_arity bad_arity card (i + 1) room, ← is, e) (go (read_arities (n - (i + 1)) (drop (i + 1 + 1) card)));
+        whole = o.whole ∙ rw (one, byte_at is_arity BadArity card (i + 1) room, ← is, e) (go (read_arities (n - (i + 1)) (drop (i + 1 + 1) card)));
       }
         where
           go : (p : Parsed (List ℕ)) → opened_arities o.before (and_then p (λ ars bs. read (a ∷ ars) bs)) ≡ opened_arities (o.before ++ a ∷ []) p
           go (read ars bs) = rw (append_assoc o.before (a ∷ []) ars)
           go (refused r) = refl
 
-  pub opening_end : (ars : List ℕ) (i : ℕ) → OpeningArities ars i → n ≤ i → record { answer = Done 0; arities = ars } ≡ opening card n
+  pub opening_end : (ars : List ℕ) (i : ℕ) → OpeningArities ars i → n ≤ i → record { answer = Ok 0; arities = ars } ≡ opening card n
   unfolding opened_arities read_each
   opening_end ars i o h =
       let none : n - i ≡ 0 = omega arith in
       sym (o.whole ∙ rw (none, append-nil o.before, o.array))
 
 -- the arities of an accepted answer
-pub arities_opened : (card : List ℕ) (n k : ℕ) → (opening card n).answer ≡ Done k
+pub arities_opened : (card : List ℕ) (n k : ℕ) → (opening card n).answer ≡ Ok k
     → (ars : List ℕ) × (rest : List ℕ) × (read_arities n (drop 1 card) ≡ read ars rest) × ((opening card n).arities ≡ padded max_relations ars)
 unfolding opened_arities
 arities_opened card n k = go (read_arities n (drop 1 card)) refl
   where
-    go : (p : Parsed (List ℕ)) → read_arities n (drop 1 card) ≡ p → (opened_arities [] p).answer ≡ Done k
+    go : (p : Parsed (List ℕ)) → read_arities n (drop 1 card) ≡ p → (opened_arities [] p).answer ≡ Ok k
         → (ars : List ℕ) × (rest : List ℕ) × (read_arities n (drop 1 card) ≡ read ars rest) × ((opening card n).arities ≡ padded max_relations ars)
     go (read ars rest) e a = (ars, rest, e, rw e)
     go (refused r) e a = let z : ◌≡◌ {A = ℕ} 0 1 = cc in absurd (zero_not_one z)
 
 -- ---- the head
 
-pub head-none : (card : List ℕ) → length card < 1 → opened_head (read_head card) ≡ no_head cut_short
+pub head-none : (card : List ℕ) → length card < 1 → opened_head (read_head card) ≡ no_head CutShort
 unfolding read_head opened_head
-head-none card h = rw (byte_cut is_count bad_relation_count card 0 (omega arith))
+head-none card h = rw (byte_cut is_count BadRelationCount card 0 (omega arith))
 
 -- a card that has a first byte n
 module _ (card : List ℕ) (n : ℕ) (some : 1 ≤ length card) (is : n ≡ get_or card 0 0) where
-  pub head_bad : is_count n ≡ false → opened_head (read_head card) ≡ no_head bad_relation_count
+  pub head_bad : is_count n ≡ false → opened_head (read_head card) ≡ no_head BadRelationCount
   unfolding read_head opened_head
-  head_bad e = rw (byte_at is_count bad_relation_count card 0 some, ← is, e)
+  head_bad e = rw (byte_at is_count BadRelationCount card 0 some, ← is, e)
 
   -- what is read after the first byte
   after : Parsed (List ℕ) → Parsed Head
@@ -116,13 +116,13 @@ module _ (card : List ℕ) (n : ℕ) (some : 1 ≤ length card) (is : n ≡ get_
   module _ (good : is_count n ≡ true) where
     first : read_head card ≡ after (read_arities n (drop 1 card))
     unfolding read_head after
-    first = rw (byte_at is_count bad_relation_count card 0 some, ← is, good)
+    first = rw (byte_at is_count BadRelationCount card 0 some, ← is, good)
 
-    pub head-refused : (why : ℕ) → (opening card n).answer ≡ Refused why → opened_head (read_head card) ≡ no_head why
+    pub head-refused : (why : ℕ) → (opening card n).answer ≡ Err why → opened_head (read_head card) ≡ no_head why
     unfolding opened_arities opened_head after
     head-refused why e = rw first (go (read_arities n (drop 1 card)) e)
       where
-        go : (p : Parsed (List ℕ)) → (opened_arities [] p).answer ≡ Refused why → opened_head (after p) ≡ no_head why
+        go : (p : Parsed (List ℕ)) → (opened_arities [] p).answer ≡ Err why → opened_head (after p) ≡ no_head why
         go (read ars rest) a = let z : ◌≡◌ {A = ℕ} 0 1 = cc in absurd (zero_not_one z)
         go (refused r) a = cc
 
@@ -135,12 +135,12 @@ module _ (card : List ℕ) (n : ℕ) (some : 1 ≤ length card) (is : n ≡ get_
           let same : 1 + n ≡ n + 1 = omega arith in
           (arities-read n (drop 1 card) e).after ∙ drop-drop n 1 card ∙ ap (λ (i : ℕ). drop i card) same
 
-      pub head_cut : length card - (n + 1) < 2 → opened_head (read_head card) ≡ no_head cut_short
+      pub head_cut : length card - (n + 1) < 2 → opened_head (read_head card) ≡ no_head CutShort
       unfolding opened_head after
       head_cut h = rw (first, e, place, (takes_number 2).cut (drop (n + 1) card) (rw length-drop h))
 
       pub head-answer : {count : ℕ} {end : List ℕ} → read_number 2 (drop (n + 1) card) ≡ read count end
-          → opened_head (read_head card) ≡ record { answer = Done count; relations = n; arities = padded max_relations ars }
+          → opened_head (read_head card) ≡ record { answer = Ok count; relations = n; arities = padded max_relations ars }
       unfolding opened_head after
       head-answer counted = rw (first, e, place, counted)
 
@@ -152,12 +152,12 @@ pub record Opened (card : List ℕ) (n : ℕ) (ars : List ℕ) (count : ℕ) : T
   pub long : n + 3 ≤ length card
 
 -- the same for an answer that is known to be the head's
-pub head_opened : (card : List ℕ) (r : declared-head.Head) (k : ℕ) → r ≡ opened_head (read_head card) → r.answer ≡ Done k
+pub head_opened : (card : List ℕ) (r : declared-head.Head) (k : ℕ) → r ≡ opened_head (read_head card) → r.answer ≡ Ok k
     → Opened card r.relations r.arities k
 unfolding opened_head
 head_opened card r k e a = rw e (go (read_head card) refl (rw e at a))
   where
-    go : (p : Parsed Head) → read_head card ≡ p → (opened_head p).answer ≡ Done k → Opened card (opened_head p).relations (opened_head p).arities k
+    go : (p : Parsed Head) → read_head card ≡ p → (opened_head p).answer ≡ Ok k → Opened card (opened_head p).relations (opened_head p).arities k
     go (read h rest) e a =
         let c = head_read card e in
         let t = took (takes_number 2) c.between c.count-read in

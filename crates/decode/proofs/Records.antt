@@ -9,11 +9,11 @@ use lib.Seq.{drop-drop}
 use lib.Dec.{ltb}
 use lib.Count.{ones}
 use borrow.Author.Tests.{ltb-true, lt-ltb, le-ltb}
-use Rattle.calculus.specs.declared.answer.Answer.{Answer}
-use Rattle.calculus.specs.declared.answer.Answer.TheVariants.{Done, Refused}
+use Rattle.calculus.specs.Answer.{Answer}
+use Rattle.std.specs.Prelude.{Ok, Err}
 use Rattle.calculus.specs.Cell.{nulls}
 use Rattle.calculus.specs.Reading.{read, refused, and_then}
-use Rattle.calculus.specs.Refusal.{cut_short, no_such_relation, bit_beyond_arity}
+use Rattle.calculus.specs.declared.refusal.Refusal.TheVariants.{CutShort, NoSuchRelation, BitBeyondArity}
 use Rattle.calculus.proofs.Bools.{zero_not_one}
 use Rattle.instance.specs.Header.{arity_of}
 use Rattle.instance.specs.Blanks.{Field, Record, blanks_in, highest_in, blanks, highest, written_of}
@@ -71,36 +71,36 @@ record-read n ars bs {r} {rest} e =
 
 -- what the first pass returns for a record, from what it returns for the fields
 abbrev pub measured_as : ℕ → ℕ → Answer → Measured
-measured_as arity count (Done h) = measured.Record arity count h
-measured_as arity count (Refused why) = measured.Refused why
+measured_as arity count (Ok h) = measured.Record arity count h
+measured_as arity count (Err why) = measured.Refused why
 
 -- What the first pass returns for one record, test by test.
 module _ (n : ℕ) (ars bs : List ℕ) where
-  pub record-none : length bs < 1 → measured_record (read_record n ars bs) ≡ measured.Refused cut_short
+  pub record-none : length bs < 1 → measured_record (read_record n ars bs) ≡ measured.Refused CutShort
   unfolding read_record measured_record
-  record-none h = rw (byte_cut (λ r. ltb r n) no_such_relation bs 0 (omega arith))
+  record-none h = rw (byte_cut (λ r. ltb r n) NoSuchRelation bs 0 (omega arith))
 
   module _ (x : ℕ) (some : 0 < length bs) (is : x ≡ get_or bs 0 0) where
-    pub record-unknown : n ≤ x → measured_record (read_record n ars bs) ≡ measured.Refused no_such_relation
+    pub record-unknown : n ≤ x → measured_record (read_record n ars bs) ≡ measured.Refused NoSuchRelation
     unfolding read_record measured_record
-    record-unknown h = rw (byte_at (λ r. ltb r n) no_such_relation bs 0 some, ← is, le-ltb x n h)
+    record-unknown h = rw (byte_at (λ r. ltb r n) NoSuchRelation bs 0 some, ← is, le-ltb x n h)
 
-    pub record_cut : x < n → length bs < 2 → measured_record (read_record n ars bs) ≡ measured.Refused cut_short
+    pub record_cut : x < n → length bs < 2 → measured_record (read_record n ars bs) ≡ measured.Refused CutShort
     unfolding read_record measured_record
     record_cut h l =
-        rw (byte_at (λ r. ltb r n) no_such_relation bs 0 some, ← is, lt-ltb x n h, byte_cut (λ bits. ltb bits (2 ^ arity_of ars x)) bit_beyond_arity bs 1 (omega arith))
+        rw (byte_at (λ r. ltb r n) NoSuchRelation bs 0 some, ← is, lt-ltb x n h, byte_cut (λ bits. ltb bits (2 ^ arity_of ars x)) BitBeyondArity bs 1 (omega arith))
 
     module _ (bits : ℕ) (known : x < n) (room : 1 < length bs) (map_is : bits ≡ get_or bs 1 0) where
-      pub record_beyond : 2 ^ arity_of ars x ≤ bits → measured_record (read_record n ars bs) ≡ measured.Refused bit_beyond_arity
+      pub record_beyond : 2 ^ arity_of ars x ≤ bits → measured_record (read_record n ars bs) ≡ measured.Refused BitBeyondArity
       unfolding read_record measured_record
       record_beyond h =
-          rw (byte_at (λ r. ltb r n) no_such_relation bs 0 some, ← is, lt-ltb x n known, byte_at (λ bits. ltb bits (2 ^ arity_of ars x)) bit_beyond_arity bs 1 room, ← map_is, le-ltb bits (2 ^ arity_of ars x) h)
+          rw (byte_at (λ r. ltb r n) NoSuchRelation bs 0 some, ← is, lt-ltb x n known, byte_at (λ bits. ltb bits (2 ^ arity_of ars x)) BitBeyondArity bs 1 room, ← map_is, le-ltb bits (2 ^ arity_of ars x) h)
 
       pub record_measured : bits < 2 ^ arity_of ars x
           → measured_record (read_record n ars bs) ≡ measured_as (arity_of ars x) (ones bits) (measured_fields (read_written (ones bits) (drop 2 bs)))
       unfolding read_record measured_record measured_fields
       record_measured h =
-          rw (byte_at (λ r. ltb r n) no_such_relation bs 0 some, ← is, lt-ltb x n known, byte_at (λ bits. ltb bits (2 ^ arity_of ars x)) bit_beyond_arity bs 1 room, ← map_is, lt-ltb bits (2 ^ arity_of ars x) h)
+          rw (byte_at (λ r. ltb r n) NoSuchRelation bs 0 some, ← is, lt-ltb x n known, byte_at (λ bits. ltb bits (2 ^ arity_of ars x)) BitBeyondArity bs 1 room, ← map_is, lt-ltb bits (2 ^ arity_of ars x) h)
           (go (read_fields (arity_of ars x) bits (drop 2 bs)) refl)
         where
           go : (p : Parsed (List Field)) → read_fields (arity_of ars x) bits (drop 2 bs) ≡ p

@@ -2,7 +2,7 @@
 use Prim.Native.Nat.{ℕ}
 use mathlib.Core.Path.{◌≡◌, refl, sym}
 use mathlib.Core.List.{List}
-use Rattle.calculus.specs.declared.answer.Answer.{Answer}
+use Rattle.calculus.specs.Answer.{Answer}
 use Rattle.calculus.specs.Answer.{Tells}
 use Rattle.calculus.specs.Reading.{read, refused}
 use Rattle.calculus.proofs.Answers.{tells}

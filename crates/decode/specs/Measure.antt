@@ -1,7 +1,7 @@
 -- What the first pass over a card's bytes returns. Document 01, "The card".
 use Rattle.std.specs.Prelude.{ℕ, ◌+◌, ◌-◌, ◌≡◌, List, [], ◌∷◌, ◌++◌, length, drop, replicate}
-use Rattle.calculus.specs.declared.answer.Answer.{Answer}
-use Rattle.calculus.specs.declared.answer.Answer.TheVariants.{Done, Refused}
+use Rattle.calculus.specs.Answer.{Answer}
+use Rattle.std.specs.Prelude.{Ok, Err}
 use Rattle.calculus.specs.Padded.{padded}
 use Rattle.calculus.specs.Reading.{read, refused, reading_number}
 use Rattle.instance.specs.Blanks.{Record, blanks, highest, highest_of, highest_in, written_of}
@@ -18,19 +18,19 @@ use Rattle.card.specs.Format.{Head, read_field, read_records}
 
 -- what is returned with a refusal
 abbrev pub no_arities : ℕ → declared-arities.Arities
-no_arities why = record { answer = Refused why; arities = replicate max_relations 0 }
+no_arities why = record { answer = Err why; arities = replicate max_relations 0 }
 
 abbrev pub no_head : ℕ → declared-head.Head
-no_head why = record { answer = Refused why; relations = 0; arities = replicate max_relations 0 }
+no_head why = record { answer = Err why; relations = 0; arities = replicate max_relations 0 }
 
 -- an arity for each of the 8 relations; `before` has the arities that were read already
 unfoldable pub opened_arities : List ℕ → Parsed (List ℕ) → declared-arities.Arities
-opened_arities before (read ars bs) = record { answer = Done 0; arities = padded max_relations (before ++ ars) }
+opened_arities before (read ars bs) = record { answer = Ok 0; arities = padded max_relations (before ++ ars) }
 opened_arities before (refused r) = no_arities r
 
 -- the number of rows, the number of relations and their arities
 unfoldable pub opened_head : Parsed Head → declared-head.Head
-opened_head (read h bs) = record { answer = Done h.count; relations = h.relations; arities = h.arities }
+opened_head (read h bs) = record { answer = Ok h.count; relations = h.relations; arities = h.arities }
 opened_head (refused r) = no_head r
 
 -- n fields, all of them written
@@ -38,8 +38,8 @@ abbrev pub read_written : ℕ → List ℕ → Parsed (List ℕ)
 read_written n bs = read_each read_field n bs
 
 unfoldable pub measured_fields : Parsed (List ℕ) → Answer
-measured_fields (read cs bs) = Done (highest_of cs)
-measured_fields (refused r) = Refused r
+measured_fields (read cs bs) = Ok (highest_of cs)
+measured_fields (refused r) = Err r
 
 unfoldable pub measured_record : Parsed Record → Measured
 measured_record (read r bs) = measured.Record (length r.fields) (length (written_of r.fields)) (highest_in r.fields)

@@ -9,9 +9,10 @@ use lib.Seq.{take_at, drop_at, drop-drop}
 use lib.Dec.{leb}
 use borrow.Rule.Slice.PartMut.{put_mid}
 use borrow.Author.Tests.{le-leb, lt-leb}
-use Rattle.calculus.specs.declared.answer.Answer.TheVariants.{Done, Refused}
-use Rattle.calculus.specs.declared.answer.Answer.{Answer}
+use Rattle.std.specs.Prelude.{Ok, Err}
+use Rattle.calculus.specs.Answer.{Answer}
 use Rattle.calculus.specs.Answer.{Tells}
+use Rattle.calculus.specs.declared.refusal.Refusal.TheVariants.{Unsound, OutputTooShort}
 use Rattle.calculus.specs.Refusal.{unsound, output_too_short}
 use Rattle.calculus.proofs.Answers.{two_demands, tells}
 use Rattle.instance.specs.declared.header.Header.{Header}
@@ -66,17 +67,17 @@ module _ (h : Header) (ws : List ℕ) (s : sound h ws ≡ true) (eight : length 
 
 -- the answer, once it is known whether the instance is sound and whether the card fits
 module _ (h : Header) (ws out : List ℕ) where
-  pub refused-unsound : sound h ws ≡ false → (Refused unsound ≡ encoded h ws out) × (out ≡ encoded_bytes h ws out)
+  pub refused-unsound : sound h ws ≡ false → (Err unsound ≡ encoded h ws out) × (out ≡ encoded_bytes h ws out)
   unfolding encoded encoded_bytes
   refused-unsound e = (simp e, simp e)
 
   pub refused-short : sound h ws ≡ true → length out < length (card_bytes h (rows h ws))
-      → (Refused output_too_short ≡ encoded h ws out) × (out ≡ encoded_bytes h ws out)
+      → (Err output_too_short ≡ encoded h ws out) × (out ≡ encoded_bytes h ws out)
   unfolding encoded encoded_bytes
   refused-short e l = let t = lt-leb (length (card_bytes h (rows h ws))) (length out) l in (simp (e, t), simp (e, t))
 
   pub done : sound h ws ≡ true → length (card_bytes h (rows h ws)) ≤ length out
-      → (Done (length (card_bytes h (rows h ws))) ≡ encoded h ws out)
+      → (Ok (length (card_bytes h (rows h ws))) ≡ encoded h ws out)
       × (overwrite (card_bytes h (rows h ws)) out ≡ encoded_bytes h ws out)
   unfolding encoded encoded_bytes
   done e l = let t = le-leb (length (card_bytes h (rows h ws))) (length out) l in (simp (e, t), simp (e, t))
@@ -87,4 +88,4 @@ module _ (h : Header) (ws out : List ℕ) where
   unfolding encoded
   encode-told p =
       let size = length (card_bytes h (rows h ws)) in
-      (p.0, (p.1, tells size p.0 (two_demands (sound h ws) (leb size (length out)) unsound output_too_short size)))
+      (p.0, (p.1, tells size p.0 (two_demands (sound h ws) (leb size (length out)) Unsound OutputTooShort size)))

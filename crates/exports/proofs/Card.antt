@@ -7,10 +7,10 @@ use native.Mathlib.Omega.{arith}
 use borrow.Author.Tests.{eqb-true}
 use lib.Dec.{eqb}
 use lib.ListN.{length, take, drop}
-use Rattle.calculus.specs.declared.answer.Answer.{Answer}
-use Rattle.calculus.specs.declared.answer.Answer.TheVariants.{Done, Refused}
+use Rattle.calculus.specs.Answer.{Answer}
+use Rattle.std.specs.Prelude.{Ok, Err}
 use Rattle.calculus.specs.Answer.{number_of, value_of, after}
-use Rattle.calculus.specs.Refusal.{unsound}
+use Rattle.calculus.specs.declared.refusal.Refusal.TheVariants.{Unsound}
 use Rattle.calculus.proofs.Answers.{demand_done}
 use Rattle.instance.specs.declared.header.Header.{Header}
 use Rattle.card.specs.Decode.{Decoded, decoded}
@@ -32,11 +32,11 @@ use Rattle.exports.proofs.Numbers.{every_return}
 -- a card that decodes to a header and words, by the exported call
 module _ (card hs' ws' : List ℕ) (long : length hs' ≡ header_length) (h : Header) (ws : List ℕ) (n : ℕ) where
   decodes-to :
-      decoded card ws' ≡ record { answer = Done n; header = h; words = ws } →
-      (decode_answer card hs' ws' ≡ Done n) × ((decode_header card hs' ws' ≡ header_words h) × ((decode_words card hs' ws' ≡ ws) × ((used : ℕ) → decode_used card hs' ws' used ≡ fresh)))
+      decoded card ws' ≡ record { answer = Ok n; header = h; words = ws } →
+      (decode_answer card hs' ws' ≡ Ok n) × ((decode_header card hs' ws' ≡ header_words h) × ((decode_words card hs' ws' ≡ ws) × ((used : ℕ) → decode_used card hs' ws' used ≡ fresh)))
   unfolding decode_answer decode_header decode_words decode_used
   decodes-to e =
-      let a : decode_answer card hs' ws' ≡ Done n = headed_yes hs' long (decoded card ws').answer ∙ ap (λ (d : Decoded). d.answer) e in (
+      let a : decode_answer card hs' ws' ≡ Ok n = headed_yes hs' long (decoded card ws').answer ∙ ap (λ (d : Decoded). d.answer) e in (
         a,
         (
           ap (λ (x : Answer). after x (header_words (decoded card ws').header) hs') a ∙ ap (λ (d : Decoded). header_words d.header) e,
@@ -49,8 +49,8 @@ unfolding encode_answer encode_bytes
 exported_read_back hs ws out hs' ws' count used' zero long' room = go (encode_answer hs ws out) refl ((every_return (encodes out) hs ws).accepted zero)
   where
     go : (a : Answer) → encode_answer hs ws out ≡ a → is_done a ≡ true → ReadBack hs ws (written hs ws out count) hs' ws' used'
-    go (Done n) e done =
-        let d = demand_done (eqb (length hs) header_length) unsound (encoded (header_of hs) ws out) n e in
+    go (Ok n) e done =
+        let d = demand_done (eqb (length hs) header_length) Unsound (encoded (header_of hs) ws out) n e in
         let long = eqb-true (length hs) header_length d.0 in
         let card : written hs ws out count ≡ take n (encoded_bytes (header_of hs) ws out) =
         ap (λ (x : Answer). take (value_of x count) (encode_bytes hs ws out)) e ∙ ap (take n) (kept_yes hs long (encoded_bytes (header_of hs) ws out) out)
@@ -58,13 +58,13 @@ exported_read_back hs ws out hs' ws' count used' zero long' room = go (encode_an
         let back = ap (λ (b : List ℕ). decoded b ws') card ∙ read_back (header_of hs) ws out ws' n (has_eight hs long).arities d.1 room in
         let to = decodes-to (written hs ws out count) hs' ws' long' (header_of hs) (take (header_of hs).used ws ++ drop (header_of hs).used ws') (header_of hs).used back in
         record { number = ap number_of to.0; header = to.1.0 ∙ words_back hs long; words = to.1.1.0; used = to.1.1.1 used' }
-    go (Refused r) e done = absurd (false≢true done)
+    go (Err r) e done = absurd (false≢true done)
 
 pub exported_read_again : ExportedReadAgain
 exported_read_again card hs ws out count zero zero' = go (decode_answer card hs ws) refl ((every_return (decodes card 0) hs ws).accepted zero)
   where
     go : (a : Answer) → decode_answer card hs ws ≡ a → is_done a ≡ true → ReadAgain card hs ws out count
-    go (Done n) q done =
+    go (Ok n) q done =
         let d = decoded_as card hs ws n q in
         let h = (decoded card ws).header in
         let made = decoded-sound card ws n d.answer in
@@ -81,4 +81,4 @@ exported_read_again card hs ws out count zero zero' = go (decode_answer card hs 
               again.words ∙ ap (λ (k : ℕ). take k (decode_words card hs ws) ++ drop k ws) size ∙ ap (λ (l : List ℕ). take n l ++ drop n ws) d.words ∙
               first.1 ∙ sym d.words;
         }
-    go (Refused r) q done = absurd (false≢true done)
+    go (Err r) q done = absurd (false≢true done)

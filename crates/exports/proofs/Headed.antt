@@ -4,15 +4,15 @@ use mathlib.Core.Path.{◌≡◌, sym, ap, ◌∙◌}
 use mathlib.Core.List.{List}
 use lib.ListN.{length}
 use borrow.Author.Tests.{eq-eqb, ne_eqb}
-use Rattle.calculus.specs.declared.answer.Answer.{Answer}
-use Rattle.calculus.specs.declared.answer.Answer.TheVariants.{Refused}
-use Rattle.calculus.specs.Refusal.{unsound}
+use Rattle.calculus.specs.Answer.{Answer}
+use Rattle.std.specs.Prelude.{Err}
+use Rattle.calculus.specs.declared.refusal.Refusal.TheVariants.{Unsound}
 use Rattle.instance.specs.declared.header.Header.{Header}
 use Rattle.exports.specs.Words.{header_length, header_of, headed, if_headed}
 use Rattle.calculus.specs.Answer.{number_of, value_of}
 
 module _ (hs : List ℕ) where
-  pub headed_no : (length hs ≡ header_length → ⊥) → (a : Answer) → headed hs a ≡ Refused unsound
+  pub headed_no : (length hs ≡ header_length → ⊥) → (a : Answer) → headed hs a ≡ Err Unsound
   headed_no h a = rw (ne_eqb (length hs) header_length h)
 
   pub kept_no : {A : Type 0} → (length hs ≡ header_length → ⊥) → (new old : A) → if_headed hs new old ≡ old
@@ -38,7 +38,7 @@ module _ (hs : List ℕ) {A : Type 0} (call : Header → Answer) (leaves : Heade
   abbrev pub Counted : ℕ → A → ℕ → Type 0
   Counted r x n = (r ≡ number_of (headed hs (call (header_of hs)))) × ((x ≡ if_headed hs (leaves (header_of hs)) old) × (n ≡ value_of (headed hs (call (header_of hs))) count))
 
-  pub counted_no : (length hs ≡ header_length → ⊥) → Counted unsound old count
+  pub counted_no : (length hs ≡ header_length → ⊥) → Counted Unsound old count
   counted_no ne =
       let a = headed_no hs ne (call (header_of hs)) in
       (sym (ap number_of a), (sym (kept_no hs ne (leaves (header_of hs)) old), sym (ap (λ (x : Answer). value_of x count) a)))

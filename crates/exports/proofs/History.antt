@@ -5,10 +5,10 @@ use mathlib.Core.Bool.{true, false≢true}
 use mathlib.Core.List.{List, [], ◌∷◌, ◌++◌, map}
 use native.Mathlib.Omega.{arith}
 use lib.ListN.{length}
-use Rattle.calculus.specs.declared.answer.Answer.{Answer}
-use Rattle.calculus.specs.declared.answer.Answer.TheVariants.{Done, Refused}
+use Rattle.calculus.specs.Answer.{Answer}
+use Rattle.std.specs.Prelude.{Ok, Err}
 use Rattle.calculus.specs.Answer.{number_of, after}
-use Rattle.calculus.specs.Refusal.{log_empty, bad_log}
+use Rattle.calculus.specs.declared.refusal.Refusal.TheVariants.{LogEmpty, BadLog}
 use Rattle.instance.specs.declared.header.Header.{Header}
 use Rattle.calculus.specs.Row.{Row}
 use Rattle.instance.specs.Sound.{rows, header_for}
@@ -68,8 +68,8 @@ module _ (s : library.State) (e : Eight s.header) where
       go :
           (a : Answer) → inserted s.header s.words r.relation r.cells ≡ a →
           after a (header_words (inserted_header s.header s.words r.relation r.cells)) (header_words s.header) ≡ header_words (inserted_header s.header s.words r.relation r.cells)
-      go (Done k) q = refl
-      go (Refused k) q = rw q refl
+      go (Ok k) q = refl
+      go (Err k) q = rw q refl
 
   state_is : (p : Step) → step_state p (of s) ≡ of (library.step_state (step_of p) s)
   unfolding log_words log_log log_used undo_words undo_used insert_words
@@ -90,8 +90,8 @@ module _ (s : library.State) (e : Eight s.header) where
       left a = after a (header_for s.header.relations s.header.arities (rows s.header s.words ++ r ∷ [])) s.header
 
       go : (a : Answer) → Eight (left a)
-      go (Done k) = record { arities = e.arities; counts = row_counts-size (rows s.header s.words ++ r ∷ []) }
-      go (Refused k) = e
+      go (Ok k) = record { arities = e.arities; counts = row_counts-size (rows s.header s.words ++ r ∷ []) }
+      go (Err k) = e
 
 -- ---- a list of steps
 
@@ -119,9 +119,9 @@ seen_by h ws log [] es = refl
 seen_by h ws log (p ∷ ps) es = ap (λ (xs : List Seen). seen_of p (answer_by h ws log (step_of p) es) ∷ xs) (seen_by h ws log ps (events_after h ws log (step_of p) es))
 
 -- the number of a refusal says which it is
-refused_by : (a : Answer) (r : ℕ) → (r ≡ 0 → ⊥) → number_of a ≡ r → a ≡ Refused r
-refused_by (Done n) r some e = absurd (some (sym e))
-refused_by (Refused q) r some e = ap Refused e
+refused_by : (a : Answer) (r : ℕ) → (r ≡ 0 → ⊥) → number_of a ≡ r → a ≡ Err r
+refused_by (Ok n) r some e = absurd (some (sym e))
+refused_by (Err q) r some e = ap Err e
 
 pub exported_history : ExportedHistory
 exported_history hs ws log ps long is_sound =
@@ -141,9 +141,9 @@ exported_history hs ws log ps long is_sound =
       seen = ap (steps_seen ps) begins ∙ steps.0 ∙ ap (zipped ps) holds.0 ∙ seen_by h ws log ps [];
       header = ap (λ (x : State). x.header) ends ∙ ap header_words holds.1.header;
       follows = subst (library.Follows h ws log (events_of h ws log ps)) (sym back) holds.1;
-      never_bad = λ p e. never_bad h ws log (map step_of ps) (step_of p) is_sound (sym (answers p) ∙ refused_by (step_answer p (state_after ps (start hs ws log))) bad_log (λ z. omega arith) e);
+      never_bad = λ p e. never_bad h ws log (map step_of ps) (step_of p) is_sound (sym (answers p) ∙ refused_by (step_answer p (state_after ps (start hs ws log))) BadLog (λ z. omega arith) e);
       empty = λ count. (
-        λ e. both.0 (sym (answers (undoes count)) ∙ refused_by (step_answer (undoes count) (state_after ps (start hs ws log))) log_empty (λ z. omega arith) e),
+        λ e. both.0 (sym (answers (undoes count)) ∙ refused_by (step_answer (undoes count) (state_after ps (start hs ws log))) LogEmpty (λ z. omega arith) e),
         λ e. ap number_of (answers (undoes count) ∙ both.1 e),
       );
     }
@@ -155,5 +155,5 @@ history_from_card card hs ws log used ps z =
     (go (decode_answer card hs ws) refl ((every_return (decodes card used) hs ws).accepted z), exported_history (decode_header card hs ws) (decode_words card hs ws) log ps p.long p.is_sound)
   where
     go : (a : Answer) → decode_answer card hs ws ≡ a → is_done a ≡ true → decode_used card hs ws used ≡ fresh
-    go (Done k) q done = ap (λ (a : Answer). after a fresh used) q
-    go (Refused r) q done = absurd (false≢true done)
+    go (Ok k) q done = ap (λ (a : Answer). after a fresh used) q
+    go (Err r) q done = absurd (false≢true done)

@@ -6,11 +6,11 @@ use mathlib.Core.List.{List}
 use borrow.Author.Tests.{eqb-true}
 use lib.Dec.{eqb}
 use lib.ListN.{length}
-use Rattle.calculus.specs.declared.answer.Answer.{Answer}
-use Rattle.calculus.specs.declared.answer.Answer.TheVariants.{Done, Refused}
+use Rattle.calculus.specs.Answer.{Answer}
+use Rattle.std.specs.Prelude.{Ok, Err}
 use Rattle.calculus.specs.Answer.{number_of, after}
 use Rattle.calculus.specs.Fill.{Logging, unlogged, into_log}
-use Rattle.calculus.specs.Refusal.{unsound}
+use Rattle.calculus.specs.declared.refusal.Refusal.TheVariants.{Unsound}
 use Rattle.calculus.proofs.Answers.{demand_done}
 use Rattle.instance.specs.declared.header.Header.{Header}
 use Rattle.instance.specs.Header.{max_relations}
@@ -47,14 +47,14 @@ written-sound h ws e s =
 -- what an accepted decode says of the library's
 pub record DecodedAs (card hs ws : List ℕ) (n : ℕ) : Type 0 where
   pub long : length hs ≡ header_length
-  pub answer : (decoded card ws).answer ≡ Done n
+  pub answer : (decoded card ws).answer ≡ Ok n
   pub header : decode_header card hs ws ≡ header_words (decoded card ws).header
   pub words : decode_words card hs ws ≡ (decoded card ws).words
 
-pub decoded_as : (card hs ws : List ℕ) (n : ℕ) → decode_answer card hs ws ≡ Done n → DecodedAs card hs ws n
+pub decoded_as : (card hs ws : List ℕ) (n : ℕ) → decode_answer card hs ws ≡ Ok n → DecodedAs card hs ws n
 unfolding decode_answer decode_header decode_words
 decoded_as card hs ws n q =
-    let d = demand_done (eqb (length hs) header_length) unsound (decoded card ws).answer n q in
+    let d = demand_done (eqb (length hs) header_length) Unsound (decoded card ws).answer n q in
     let long = eqb-true (length hs) header_length d.0 in
     record {
       long = long;
@@ -67,20 +67,20 @@ pub read-sound : ReadSound
 read-sound card hs ws z = go (decode_answer card hs ws) refl ((every_return (decodes card 0) hs ws).accepted z)
   where
     go : (a : Answer) → decode_answer card hs ws ≡ a → is_done a ≡ true → SoundInstance (decode_header card hs ws) (decode_words card hs ws)
-    go (Done k) q done =
+    go (Ok k) q done =
         let d = decoded_as card hs ws k q in
         let made = decoded-sound card ws k d.answer in
         rw (d.header, d.words) (written-sound (decoded card ws).header (decoded card ws).words made.eight made.is_sound)
-    go (Refused r) q done = absurd (false≢true done)
+    go (Err r) q done = absurd (false≢true done)
 
 -- an accepted fill, of either kind
-fill-sound : (hs ws : List ℕ) (l : Logging) (m c k : ℕ) → SoundInstance hs ws → headed hs (substituted (header_of hs) ws l m c) ≡ Done k → SoundInstance hs (if_headed hs (substituted_words (header_of hs) ws l m c) ws)
+fill-sound : (hs ws : List ℕ) (l : Logging) (m c k : ℕ) → SoundInstance hs ws → headed hs (substituted (header_of hs) ws l m c) ≡ Ok k → SoundInstance hs (if_headed hs (substituted_words (header_of hs) ws l m c) ws)
 fill-sound hs ws l m c k p q =
     rw (kept_yes hs p.long (substituted_words (header_of hs) ws l m c) ws)
     (record { long = p.long; is_sound = (substitute-kept (header_of hs) ws l m c k (sym (headed_yes hs p.long _) ∙ q)).is_sound })
 
 -- an accepted call
-done_sound : (j : Job) (hs ws : List ℕ) (k : ℕ) → SoundInstance hs ws → answer_on j hs ws ≡ Done k → SoundInstance (header_left j hs ws) (words_left j hs ws)
+done_sound : (j : Job) (hs ws : List ℕ) (k : ℕ) → SoundInstance hs ws → answer_on j hs ws ≡ Ok k → SoundInstance (header_left j hs ws) (words_left j hs ws)
 unfolding insert_answer insert_header insert_words inserted_header substitute_answer substitute_words log_answer log_words undo_answer undo_words
 done_sound (asks qs candidate lent budget) hs ws k p q = p
 done_sound (counts out) hs ws k p q = p
@@ -102,7 +102,7 @@ pub kept-sound : KeptSound
 kept-sound j hs ws p = go (answer_on j hs ws) refl
   where
     go : (a : Answer) → answer_on j hs ws ≡ a → SoundInstance (header_left j hs ws) (words_left j hs ws)
-    go (Done k) q = done_sound j hs ws k p q
-    go (Refused r) q =
+    go (Ok k) q = done_sound j hs ws k p q
+    go (Err r) q =
         let kept = (every_return j hs ws).refused (λ z. false≢true (sym (ap is_done q) ∙ (every_return j hs ws).accepted z)) in
         rw (kept.0, kept.1) p

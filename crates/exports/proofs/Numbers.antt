@@ -7,10 +7,11 @@ use mathlib.Core.List.{List, [], ◌∷◌}
 use native.Mathlib.Omega.{arith}
 use lib.ListN.{length}
 use lib.Dec.{eqb}
-use Rattle.calculus.specs.declared.answer.Answer.{Answer}
-use Rattle.calculus.specs.declared.answer.Answer.TheVariants.{Done, Refused}
+use Rattle.calculus.specs.Answer.{Answer}
+use Rattle.std.specs.Prelude.{Ok, Err}
 use Rattle.calculus.specs.Answer.{number_of, after}
 use Rattle.calculus.proofs.Answers.{number-kept}
+use Rattle.calculus.specs.declared.refusal.Refusal.TheVariants.{Unsound}
 use Rattle.calculus.specs.Refusal.{unsound, budget_spent}
 use Rattle.calculus.specs.Model.{outcome_of}
 use Rattle.instance.specs.NullCounts.{counted, counted_words}
@@ -48,14 +49,14 @@ record Known (ns : List ℕ) (r : ℕ) : Type 0 where
   not_zero : r ≡ 0 → ⊥
 
 AllKnown : List ℕ → Answer → Type 0
-AllKnown ns a = (r : ℕ) → a ≡ Refused r → Known ns r
+AllKnown ns a = (r : ℕ) → a ≡ Err r → Known ns r
 
 -- the library's call, which is made if the header slice has the right length
 known : (c : Call) (hs ws ns : List ℕ) → listed unsound ns ≡ true → ((r : ℕ) → listed r (numbers c) ≡ true → listed r ns ≡ true) → AllKnown ns (headed hs (answer_to c ws))
 unfolding AllKnown
 known c hs ws ns first more r = go (eqb (length hs) header_length)
   where
-    go : (b : Bool) → demand b (Refused unsound) (answer_to c ws) ≡ Refused r → Known ns r
+    go : (b : Bool) → demand b (Err Unsound) (answer_to c ws) ≡ Err r → Known ns r
     go true e = let k = every_number c ws r e in record { tabled = more r k.tabled; not_zero = k.not_zero }
     go false e = let q : unsound ≡ r = cc in record { tabled = rw (← q) first; not_zero = λ z. omega arith }
 
@@ -63,7 +64,7 @@ asked-known : (hs ws qs candidate : List ℕ) (lent : Lent) (budget : ℕ) → a
 unfolding ask_answer
 asked-known hs ws qs candidate lent budget = go (eqb (length hs) header_length)
   where
-    go : (b : Bool) → asked_as (cond b (ask (header_of hs) ws qs candidate lent budget) (asked.Refused unsound)) ≡ demand b (Refused unsound) (asked_as (ask (header_of hs) ws qs candidate lent budget))
+    go : (b : Bool) → asked_as (cond b (ask (header_of hs) ws qs candidate lent budget) (asked.Refused Unsound)) ≡ demand b (Err Unsound) (asked_as (ask (header_of hs) ws qs candidate lent budget))
     go true = refl
     go false = refl
 
@@ -89,7 +90,7 @@ all_known (decodes card used) hs ws = known (library.decodes card) hs ws (unsoun
 words-kept : (c : Call) (hs ws : List ℕ) → (number_of (headed hs (answer_to c ws)) ≡ 0 → ⊥) → if_headed hs (leaves c ws) ws ≡ ws
 words-kept c hs ws = go (eqb (length hs) header_length)
   where
-    go : (b : Bool) → (number_of (demand b (Refused unsound) (answer_to c ws)) ≡ 0 → ⊥) → cond b (leaves c ws) ws ≡ ws
+    go : (b : Bool) → (number_of (demand b (Err Unsound) (answer_to c ws)) ≡ 0 → ⊥) → cond b (leaves c ws) ws ≡ ws
     go true some = refused_writes_none c ws some
     go false some = refl
 
@@ -109,7 +110,7 @@ all-kept (decodes card used) hs ws some = (number-kept (decode_answer card hs ws
 out-kept : {A : Type 0} (hs : List ℕ) (a : Answer) (new old : A) → (number_of (headed hs a) ≡ 0 → ⊥) → if_headed hs (after a new old) old ≡ old
 out-kept hs a new old = go (eqb (length hs) header_length)
   where
-    go : (b : Bool) → (number_of (demand b (Refused unsound) a) ≡ 0 → ⊥) → cond b (after a new old) old ≡ old
+    go : (b : Bool) → (number_of (demand b (Err Unsound) a) ≡ 0 → ⊥) → cond b (after a new old) old ≡ old
     go true some = number-kept a new old some
     go false some = refl
 
@@ -122,12 +123,12 @@ buffer-kept hs ws qs candidate buffer budget =
     go (eqb (length hs) header_length) (askable (header_of hs) ws qs candidate (list buffer)) (within budget (outcome_of (model_of (header_of hs) ws candidate) (query_of (header_of hs).arities qs))) _
   where
     go :
-        (b : Bool) (a : Answer) (e : Evaluated) (new : List ℕ) → (number_of (asked_as (cond b (answered_by a e) (asked.Refused unsound))) ≡ 0 → ⊥) →
-        (number_of (asked_as (cond b (answered_by a e) (asked.Refused unsound))) ≡ budget_spent → ⊥) → cond b (after a new buffer) buffer ≡ buffer
+        (b : Bool) (a : Answer) (e : Evaluated) (new : List ℕ) → (number_of (asked_as (cond b (answered_by a e) (asked.Refused Unsound))) ≡ 0 → ⊥) →
+        (number_of (asked_as (cond b (answered_by a e) (asked.Refused Unsound))) ≡ budget_spent → ⊥) → cond b (after a new buffer) buffer ≡ buffer
     go false a e new some other = refl
-    go true (Refused r) e new some other = refl
-    go true (Done n) (evaluated.Verdict t k) new some other = absurd (some refl)
-    go true (Done n) evaluated.Spent new some other = absurd (other refl)
+    go true (Err r) e new some other = refl
+    go true (Ok n) (evaluated.Verdict t k) new some other = absurd (some refl)
+    go true (Ok n) evaluated.Spent new some other = absurd (other refl)
 
 list-kept :
     (hs ws qs candidate : List ℕ) (lent : Lent) (budget : ℕ) → (number_of (asked_as (ask_answer hs ws qs candidate lent budget)) ≡ 0 → ⊥) →
@@ -161,13 +162,13 @@ all_used (decodes card used) hs ws some = number-kept (decode_answer card hs ws)
 
 tabled-is : (ns : List ℕ) (a : Answer) → AllKnown ns a → listed (number_of a) (0 ∷ ns) ≡ true
 unfolding AllKnown listed
-tabled-is ns (Done n) t = refl
-tabled-is ns (Refused r) t = listed-right r (0 ∷ []) ns (t r refl).tabled
+tabled-is ns (Ok n) t = refl
+tabled-is ns (Err r) t = listed-right r (0 ∷ []) ns (t r refl).tabled
 
 accepted-is : (ns : List ℕ) (a : Answer) → AllKnown ns a → number_of a ≡ 0 → is_done a ≡ true
 unfolding AllKnown
-accepted-is ns (Done n) t e = refl
-accepted-is ns (Refused r) t e = absurd ((t r refl).not_zero e)
+accepted-is ns (Ok n) t e = refl
+accepted-is ns (Err r) t e = absurd ((t r refl).not_zero e)
 
 pub every_return : EveryReturn
 every_return j hs ws =

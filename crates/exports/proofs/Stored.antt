@@ -8,7 +8,7 @@ use lib.ListN.{length}
 use lib.Dec.{eqb}
 use borrow.Author.Tests.{eqb-true}
 use Rattle.calculus.specs.declared.truth.Truth.{Truth}
-use Rattle.calculus.specs.Refusal.{unsound}
+use Rattle.calculus.specs.declared.refusal.Refusal.TheVariants.{Unsound}
 use Rattle.answer.specs.declared.asked.Asked.{Asked}
 use Rattle.answer.specs.declared.asked.Asked.TheVariants as asked
 use Rattle.answer.specs.Ask.{Lent, ask}
@@ -25,7 +25,7 @@ module _ (hs ws qs candidate : List ℕ) (lent : Lent) (budget : ℕ) where
       length hs ≡ header_length →
       ask_answer hs ws qs candidate lent budget ≡ ask (header_of hs) ws qs candidate lent budget
   unfolding ask_answer
-  ask-is long = kept_yes hs long (ask (header_of hs) ws qs candidate lent budget) (asked.Refused unsound)
+  ask-is long = kept_yes hs long (ask (header_of hs) ws qs candidate lent budget) (asked.Refused Unsound)
 
   -- a question that gets a verdict has a header slice of the right length
   has-length :

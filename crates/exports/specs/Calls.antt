@@ -1,6 +1,6 @@
 -- The exported calls: those that `instance`, `log`, `card` and `answer` define, with a header that is a slice of words.
 use Rattle.std.specs.Prelude.{ℕ, List}
-use Rattle.calculus.specs.declared.answer.Answer.{Answer}
+use Rattle.calculus.specs.Answer.{Answer}
 use Rattle.calculus.specs.Answer.{after}
 use Rattle.instance.specs.Insert.{inserted, inserted_header, inserted_words}
 use Rattle.calculus.specs.Fill.{unlogged}
@@ -9,7 +9,7 @@ use Rattle.undo_log.specs.Log.{fresh, logged, logged_words, logged_log, logged_u
 use Rattle.instance.specs.NullCounts.{counted, counted_words}
 use Rattle.card.specs.Decode.{decoded}
 use Rattle.card.specs.Encode.{encoded, encoded_bytes}
-use Rattle.calculus.specs.Refusal.{unsound}
+use Rattle.calculus.specs.declared.refusal.Refusal.TheVariants.{Unsound}
 use Rattle.answer.specs.declared.asked.Asked.{Asked}
 use Rattle.answer.specs.declared.asked.Asked.TheVariants as asked
 use Rattle.answer.specs.Ask.{Lent, ask, asked_buffer}
@@ -89,7 +89,7 @@ module _ (hs ws out : List ℕ) where
 -- by `plotask_ask` if a list is lent, by `plotask_ask_unlisted` if none is
 module _ (hs ws qs candidate : List ℕ) where
   unfoldable pub ask_answer : Lent → ℕ → Asked
-  ask_answer lent budget = if_headed hs (ask (header_of hs) ws qs candidate lent budget) (asked.Refused unsound)
+  ask_answer lent budget = if_headed hs (ask (header_of hs) ws qs candidate lent budget) (asked.Refused Unsound)
 
   unfoldable pub ask_buffer : List ℕ → List ℕ
   ask_buffer buffer = if_headed hs (asked_buffer (header_of hs) ws qs candidate buffer) buffer

@@ -1,7 +1,7 @@
 -- The history for the exported calls, as C sees it: `plotask_substitute_logged`, `plotask_undo` and `plotask_insert` in any sequence on one plot and log,
 -- from a log of no words in use.
 use Rattle.std.specs.Prelude.{ℕ, ◌≡◌, ◌↔◌, true, List, [], ◌∷◌, map, length}
-use Rattle.calculus.specs.declared.answer.Answer.{Answer}
+use Rattle.calculus.specs.Answer.{Answer}
 use Rattle.calculus.specs.Answer.{number_of, value_of}
 use Rattle.calculus.specs.Refusal.{log_empty, bad_log}
 use Rattle.calculus.specs.Row.{Row}

@@ -1,8 +1,8 @@
 -- The numbers that the exported calls return: the library's, and 41 if the header slice is not as long as a header. 0
 -- means that the call was accepted.
 use Rattle.std.specs.Prelude.{ℕ, ◌≡◌, Bool, true, false, List, [], ◌∷◌, length}
-use Rattle.calculus.specs.declared.answer.Answer.{Answer}
-use Rattle.calculus.specs.declared.answer.Answer.TheVariants.{Done, Refused}
+use Rattle.calculus.specs.Answer.{Answer}
+use Rattle.std.specs.Prelude.{Ok, Err}
 use Rattle.calculus.specs.Refusal.{unsound, budget_spent}
 use Rattle.calls.specs.Numbers.{insert_numbers, fill_numbers, log_numbers, undo_numbers, write_numbers, read_numbers, asked_numbers}
 use Rattle.instance.specs.declared.header.Header.{Header}
@@ -25,8 +25,8 @@ numbers_of (undoes log used) = undo_numbers
 numbers_of (decodes card used) = unsound ∷ read_numbers
 
 abbrev pub is_done : Answer → Bool
-is_done (Done n) = true
-is_done (Refused r) = false
+is_done (Ok n) = true
+is_done (Err r) = false
 
 -- the words of a list that is lent, and what a question leaves of them
 abbrev pub list_given : Lent → List ℕ

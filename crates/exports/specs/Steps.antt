@@ -1,6 +1,6 @@
 -- The exported calls as the steps of a run. A call is lent a header and a plot: those of the run, or other slices.
 use Rattle.std.specs.Prelude.{ℕ, ◌≡◌, List, [], ◌∷◌, length}
-use Rattle.calculus.specs.declared.answer.Answer.{Answer}
+use Rattle.calculus.specs.Answer.{Answer}
 use Rattle.calculus.specs.Answer.{number_of, value_of}
 use Rattle.calculus.specs.Fill.{Logging, unlogged, into_log}
 use Rattle.calculus.specs.Model.{Fill, Model, answer_of, next}

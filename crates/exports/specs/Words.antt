@@ -1,11 +1,11 @@
 -- A header as words: the number of relations, the eight arities, the words in use, the eight row counts.
 use Rattle.std.specs.Prelude.{ℕ, ◌+◌, cond, List, ◌∷◌, ◌++◌, length, get_or, take, drop, eqb}
-use Rattle.calculus.specs.declared.answer.Answer.{Answer}
+use Rattle.calculus.specs.Answer.{Answer}
 use Rattle.calculus.specs.Demand.{demand}
-use Rattle.calculus.specs.Refusal.{unsound}
+use Rattle.calculus.specs.declared.refusal.Refusal.TheVariants.{Unsound}
 use Rattle.instance.specs.declared.header.Header.{Header}
 use Rattle.instance.specs.Header.{max_relations, header_with}
-use Rattle.calculus.specs.declared.answer.Answer.TheVariants.{Refused}
+use Rattle.std.specs.Prelude.{Err}
 
 -- where each part begins, and the length
 abbrev pub relations_at : ℕ
@@ -33,7 +33,7 @@ header_words h = h.relations ∷ h.arities ++ h.used ∷ h.counts
 
 -- a slice of another length is no header, and so the plot breaks a rule of its section: 41, before any other refusal
 abbrev pub headed : List ℕ → Answer → Answer
-headed hs a = demand (eqb (length hs) header_length) (Refused unsound) a
+headed hs a = demand (eqb (length hs) header_length) (Err Unsound) a
 
 -- the new content if the slice is as long as a header, otherwise the old
 abbrev pub if_headed : {A : Type 0} → List ℕ → A → A → A

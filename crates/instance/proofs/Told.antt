@@ -5,12 +5,12 @@ use mathlib.Core.Bool.{Bool, true, false}
 use mathlib.Core.List.{List}
 use lib.ListN.{length}
 use lib.Dec.{leb}
-use Rattle.calculus.specs.declared.answer.Answer.{Answer}
-use Rattle.calculus.specs.declared.answer.Answer.TheVariants.{Done, Refused}
+use Rattle.calculus.specs.Answer.{Answer}
+use Rattle.std.specs.Prelude.{Ok, Err}
 use Rattle.calculus.specs.Answer.{Tells}
 use Rattle.calculus.specs.Cell.{nulls}
 use Rattle.calculus.specs.Fill.{Logging, held}
-use Rattle.calculus.specs.Refusal.{unsound, output_too_short}
+use Rattle.calculus.specs.declared.refusal.Refusal.TheVariants.{Unsound, OutputTooShort}
 use Rattle.calculus.proofs.Answers.{demand_done, two_demands, tells}
 use Rattle.instance.specs.declared.header.Header.{Header}
 use Rattle.instance.specs.declared.scan.Scanned.{Scanned}
@@ -27,9 +27,9 @@ module _ (h : Header) (ws : List ℕ) where
   unfolding scanned
   scan_told e =
       let n = length (rows h ws) in
-      (e, tells n (ap scanned_as e ∙ is (sound h ws) n) (λ k d. let f : Done n ≡ Done k = (demand_done (sound h ws) unsound (Done n) k d).1 in cc))
+      (e, tells n (ap scanned_as e ∙ is (sound h ws) n) (λ k d. let f : Ok n ≡ Ok k = (demand_done (sound h ws) Unsound (Ok n) k d).1 in cc))
     where
-      is : (b : Bool) (n : ℕ) → scanned_as (tally b n) ≡ demand b (Refused unsound) (Done n)
+      is : (b : Bool) (n : ℕ) → scanned_as (tally b n) ≡ demand b (Err Unsound) (Ok n)
       is true n = refl
       is false n = refl
 
@@ -41,7 +41,7 @@ module _ (h : Header) (ws : List ℕ) where
   pub counts-told :
       (out : List ℕ) {r : Answer} {P : Type 0} → (r ≡ counted h ws out) × P → (r ≡ counted h ws out) × (P × Tells r (counted h ws out) nulls)
   unfolding counted
-  counts-told out p = (p.0, (p.1, tells nulls p.0 (two_demands (sound h ws) (leb nulls (length out)) unsound output_too_short nulls)))
+  counts-told out p = (p.0, (p.1, tells nulls p.0 (two_demands (sound h ws) (leb nulls (length out)) Unsound OutputTooShort nulls)))
 
   -- the value is the number of words in use in the header that is left
   pub insert-told :

@@ -6,7 +6,7 @@ use native.Mathlib.Omega.{arith}
 use borrow.Author.Tests.{le-leb, lt-leb, ne_eqb}
 use lib.ListN.{length, take, drop, length-drop, drop_of_length-le}
 use lib.Seq.{drop-drop}
-use Rattle.calculus.specs.Refusal.{cut_short, input_too_long, bytes_left_over}
+use Rattle.calculus.specs.declared.refusal.Refusal.TheVariants.{CutShort, InputTooLong, BytesLeftOver}
 use Rattle.calculus.specs.Reading.{read, refused, and_then}
 use Rattle.parse.specs.Parse.{Parsed}
 use Rattle.parse.specs.Number.{read_number, read_numbers, numbers_of, read_bytes}
@@ -39,7 +39,7 @@ items_read : {A B : Type 0} (m n at : ℕ) (input : List ℕ) (p : List ℕ → 
     → and_then (p (drop at input)) (λ a bs. and_then (read_number n bs) (λ x bs. f a x bs)) ≡ f a x rest
 items_read m n at input p f items next = rw (items, drop-drop, next)
 
-pub too_long : (input : List ℕ) → max_input < length input → read_input input ≡ refused input_too_long
+pub too_long : (input : List ℕ) → max_input < length input → read_input input ≡ refused InputTooLong
 unfolding read_input
 too_long input l = rw (lt-leb (length input) max_input l)
 
@@ -49,7 +49,7 @@ module _ (input : List ℕ) (fits : length input ≤ max_input) where
   unfolding read_input
   starts = rw (le-leb (length input) max_input fits)
 
-  pub cut_size : length input < 2 → read_input input ≡ refused cut_short
+  pub cut_size : length input < 2 → read_input input ≡ refused CutShort
   unfolding read_fields
   cut_size l = starts ∙ rw ((takes_number 2).cut input l)
 
@@ -60,11 +60,11 @@ module _ (input : List ℕ) (fits : length input ≤ max_input) where
 -- what is known of an input whose bytes before index `at` were read
 module _ (input : List ℕ) (at : ℕ) where
   cut_after : (n : ℕ) {p : List ℕ → Parsed Fields} → read_input input ≡ wholly (p (drop at input)) → Cuts n p → at ≤ length input → length input < at + n
-      → read_input input ≡ refused cut_short
+      → read_input input ≡ refused CutShort
   cut_after n e cut within l = e ∙ ap wholly (cut (drop at input) (rw length-drop (omega arith)))
 
   module _ (size : ℕ) (e : read_input input ≡ wholly (from_card size (drop at input))) where
-    pub cut_card : at ≤ length input → length input < at + (size + 2) → read_input input ≡ refused cut_short
+    pub cut_card : at ≤ length input → length input < at + (size + 2) → read_input input ≡ refused CutShort
     cut_card = cut_after (size + 2) e (cuts_items 2 (λ card count bs. from_words card count bs) (takes_bytes size))
 
     pub to_words : {count : ℕ} {rest : List ℕ} → at + size ≤ length input → read_number 2 (drop (at + size) input) ≡ read count rest
@@ -73,7 +73,7 @@ module _ (input : List ℕ) (at : ℕ) where
         e ∙ ap wholly (items_read size 2 at input (read_bytes size) (λ card count bs. from_words card count bs) (bytes_whole size (drop at input) (rw length-drop (omega arith))) number)
 
   module _ (card : List ℕ) (count : ℕ) (e : read_input input ≡ wholly (from_words card count (drop at input))) where
-    pub cut_words : at ≤ length input → length input < at + (4 * count + 1) → read_input input ≡ refused cut_short
+    pub cut_words : at ≤ length input → length input < at + (4 * count + 1) → read_input input ≡ refused CutShort
     cut_words = cut_after (4 * count + 1) e (cuts_items 1 (λ words k bs. from_cells card words k bs) (takes_numbers 4 count))
 
     pub to_cells : {k : ℕ} {rest : List ℕ} → at + 4 * count ≤ length input → read_number 1 (drop (at + 4 * count) input) ≡ read k rest
@@ -82,7 +82,7 @@ module _ (input : List ℕ) (at : ℕ) where
         e ∙ ap wholly (items_read (4 * count) 1 at input (read_numbers 4 count) (λ words k bs. from_cells card words k bs) (numbers-whole 4 count (drop at input) (rw length-drop (omega arith))) number)
 
   module _ (card words : List ℕ) (k : ℕ) (e : read_input input ≡ wholly (from_cells card words k (drop at input))) where
-    pub cut_cells : at ≤ length input → length input < at + (3 * k + 4) → read_input input ≡ refused cut_short
+    pub cut_cells : at ≤ length input → length input < at + (3 * k + 4) → read_input input ≡ refused CutShort
     cut_cells = cut_after (3 * k + 4) e (cuts_items 4 (λ cells budget bs. read (fields card words cells budget) bs) (takes_numbers 3 k))
 
     pub to_end : {budget : ℕ} {rest : List ℕ} → at + 3 * k ≤ length input → read_number 4 (drop (at + 3 * k) input) ≡ read budget rest
@@ -91,7 +91,7 @@ module _ (input : List ℕ) (at : ℕ) where
         e ∙ ap wholly (items_read (3 * k) 4 at input (read_numbers 3 k) (λ cells budget bs. read (fields card words cells budget) bs) (numbers-whole 3 k (drop at input) (rw length-drop (omega arith))) number)
 
   module _ (f : Fields) (e : read_input input ≡ wholly (read f (drop at input))) where
-    pub left_over : at < length input → read_input input ≡ refused bytes_left_over
+    pub left_over : at < length input → read_input input ≡ refused BytesLeftOver
     left_over l =
         let some : length input - at ≡ 0 → ⊥ = λ z. omega arith in
         e ∙ rw (length-drop, ne_eqb (length input - at) 0 some)

@@ -3,7 +3,7 @@
 use Rattle.std.specs.Prelude.{ℕ, ◌+◌, ◌≤◌, ◌<◌, ◌≡◌, true, List, [], length, take, drop, leb, eqb}
 use Rattle.calculus.specs.Demand.{demand}
 use Rattle.calculus.specs.Reading.{read, refused, and_then}
-use Rattle.calculus.specs.Refusal.{input_too_long, bytes_left_over}
+use Rattle.calculus.specs.declared.refusal.Refusal.TheVariants.{InputTooLong, BytesLeftOver}
 use Rattle.parse.specs.Parse.{Parsed, is_read}
 use Rattle.parse.specs.Number.{read_number, read_numbers, numbers_of, read_bytes}
 use Rattle.line.specs.declared.fields.Places.{Places}
@@ -29,7 +29,7 @@ read_fields bs =
 
 -- "bytes follow .. the program's last field"
 abbrev pub wholly : {A : Type 0} → Parsed A → Parsed A
-wholly (read a bs) = demand (eqb (length bs) 0) (refused bytes_left_over) (read a bs)
+wholly (read a bs) = demand (eqb (length bs) 0) (refused BytesLeftOver) (read a bs)
 wholly (refused r) = refused r
 
 -- "the program's input is over 16,384 bytes"
@@ -37,7 +37,7 @@ abbrev pub max_input : ℕ
 max_input = 16384
 
 unfoldable pub read_input : List ℕ → Parsed Fields
-read_input bs = demand (leb (length bs) max_input) (refused input_too_long) (wholly (read_fields bs))
+read_input bs = demand (leb (length bs) max_input) (refused InputTooLong) (wholly (read_fields bs))
 
 -- the fields at the given places of the input
 abbrev pub fields_at : List ℕ → Places → Fields

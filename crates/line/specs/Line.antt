@@ -1,8 +1,8 @@
 -- The whole job: from the input's bytes to the line's. Document 01, "The program": "Its plot slice and working list have 4,096 words each. Its own
 -- fields are checked first (10, 11, 18), then the card, then the question."
 use Rattle.std.specs.Prelude.{ℕ, ◌+◌, ◌*◌, List, length, replicate, leb}
-use Rattle.calculus.specs.declared.answer.Answer.{Answer}
-use Rattle.calculus.specs.declared.answer.Answer.TheVariants as answer
+use Rattle.calculus.specs.Answer.{Answer}
+use Rattle.std.specs.Prelude.{Ok, Err}
 use Rattle.calculus.specs.Demand.{demand}
 use Rattle.calculus.specs.Overwrite.{overwrite}
 use Rattle.calculus.specs.Reading.{read, refused}
@@ -31,8 +31,8 @@ asked_instance f h ws = ask h ws f.words f.candidate (list blank) f.budget
 
 -- goes on only if the card is accepted
 abbrev pub if_read : Answer → Asked → Asked
-if_read (answer.Done used) a = a
-if_read (answer.Refused r) a = Refused r
+if_read (Ok used) a = a
+if_read (Err r) a = Refused r
 
 -- "then the card, then the question"
 abbrev pub asked_decoded : Fields → Decoded → Asked

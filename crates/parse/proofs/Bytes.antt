@@ -6,7 +6,7 @@ use mathlib.Core.List.{List, [], ◌∷◌}
 use lib.ListN.{length, get_or, drop, drop_of_length-le}
 use Rattle.calculus.specs.Demand.{demand}
 use Rattle.calculus.specs.Reading.{read, refused}
-use Rattle.calculus.specs.Refusal.{cut_short}
+use Rattle.calculus.specs.declared.refusal.Refusal.TheVariants.{CutShort}
 use Rattle.calculus.proofs.Lists.{drop_step}
 use Rattle.calculus.proofs.Reading.{refused-read, demand-read}
 use Rattle.parse.specs.Parse.{read_byte}
@@ -26,6 +26,6 @@ module _ (rule : ℕ → Bool) (why : ℕ) where
   unfolding read_byte
   byte_at bs i l = rw (drop_step bs i l)
 
-  pub byte_cut : (bs : List ℕ) (i : ℕ) → length bs ≤ i → read_byte rule why (drop i bs) ≡ refused cut_short
+  pub byte_cut : (bs : List ℕ) (i : ℕ) → length bs ≤ i → read_byte rule why (drop i bs) ≡ refused CutShort
   unfolding read_byte
   byte_cut bs i l = rw (drop_of_length-le bs l)

@@ -10,6 +10,7 @@ use lib.ListN.{length, take, drop, get_or, length-drop}
 use lib.Dec.{leb}
 use lib.Seq.{drop-drop, take_at}
 use Rattle.calculus.specs.Reading.{read, refused, and_then}
+use Rattle.calculus.specs.declared.refusal.Refusal.TheVariants.{CutShort}
 use Rattle.calculus.specs.Refusal.{cut_short}
 use Rattle.calculus.proofs.Lists.{drop_step}
 use Rattle.calculus.proofs.Reading.{refused-read}
@@ -25,7 +26,7 @@ digit_more high left bytes at one l = rw (one, drop_step bytes at l)
 
 -- fewer than n bytes are refused
 abbrev pub Cuts : {A : Type 0} → ℕ → (List ℕ → Parsed A) → Type 0
-Cuts n p = (bs : List ℕ) → length bs < n → p bs ≡ refused cut_short
+Cuts n p = (bs : List ℕ) → length bs < n → p bs ≡ refused CutShort
 
 -- n bytes are read, whatever they are; fewer are refused
 pub record Takes {A : Type 0} (n : ℕ) (p : List ℕ → Parsed A) : Type 0 where
@@ -45,7 +46,7 @@ module _ {A B : Type 0} {m n : ℕ} {p : List ℕ → Parsed A} {f : A → List 
   pub cuts_then : ((a : A) → Cuts n (f a)) → Cuts (m + n) (λ bs. and_then (p bs) f)
   cuts_then u bs l = go (leb m (length bs)) refl
     where
-      go : (b : Bool) → leb m (length bs) ≡ b → and_then (p bs) f ≡ refused cut_short
+      go : (b : Bool) → leb m (length bs) ≡ b → and_then (p bs) f ≡ refused CutShort
       go true e =
           let w = t.whole bs (leb-true m (length bs) e) in
           rw w.1 (u w.0 (drop m bs) (rw length-drop (omega (arith, leb-true m (length bs) e))))

@@ -1,13 +1,13 @@
 -- Numbers in bytes. Document 01, "The card" and "The program": "high byte first".
 use Rattle.std.specs.Prelude.{ℕ, zero, suc, ◌+◌, ◌*◌, List, [], ◌∷◌}
 use Rattle.calculus.specs.Reading.{read, refused}
-use Rattle.calculus.specs.Refusal.{cut_short}
+use Rattle.calculus.specs.declared.refusal.Refusal.TheVariants.{CutShort}
 use Rattle.parse.specs.Parse.{Parsed, read_each, got}
 
 -- n more bytes of a number whose higher bytes are read already
 unfoldable pub read_digits : ℕ → ℕ → List ℕ → Parsed ℕ
 read_digits high zero bs = read high bs
-read_digits high (suc n) [] = refused cut_short
+read_digits high (suc n) [] = refused CutShort
 read_digits high (suc n) (b ∷ bs) = read_digits (high * 256 + b) n bs
 
 -- a number of n bytes

@@ -1,7 +1,7 @@
 -- Document 01, "The program": the whole case, and reading 6, "The plotask case". The bytes that the program reads are the reading's instance, question,
 -- candidate and budget.
 use Rattle.std.specs.Prelude.{ℕ, ◌≡◌, List, [], ◌∷◌, length, take}
-use Rattle.calculus.specs.declared.answer.Answer.TheVariants.{Done}
+use Rattle.std.specs.Prelude.{Ok}
 use Rattle.calculus.specs.Reading.{read}
 use Rattle.card.specs.Decode.{decoded}
 use Rattle.line.specs.Fields.{read_input}
@@ -17,6 +17,6 @@ plotask = case6 []
 
 pub record ReadsAs6 (input : List ℕ) : Type 0 where
   pub fields : read_input input ≡ read (record { card = card6; words = plotask.query; candidate = plotask.candidate; budget = plotask.budget }) []
-  pub accepted : (decoded card6 blank).answer ≡ Done (length plotask.words)
+  pub accepted : (decoded card6 blank).answer ≡ Ok (length plotask.words)
   pub header : (decoded card6 blank).header ≡ plotask.header
   pub words : take (length plotask.words) (decoded card6 blank).words ≡ plotask.words

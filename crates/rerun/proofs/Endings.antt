@@ -7,7 +7,7 @@ use native.Mathlib.Omega.{arith}
 use borrow.Author.Tests.{le-leb, lt-leb}
 use lib.ListN.{length}
 use Rattle.calculus.specs.declared.truth.Truth.{Truth}
-use Rattle.calculus.specs.Refusal.{output_too_short}
+use Rattle.calculus.specs.declared.refusal.Refusal.TheVariants.{OutputTooShort}
 use Rattle.calculus.specs.Eval.{Outcome}
 use Rattle.calculus.specs.Model.{Fill, after_fills, run}
 use Rattle.instance.specs.Header.{max_columns}
@@ -37,13 +37,13 @@ second_both t n (asked.Verdict u k) = refl
 second_both t n (asked.Refused r) = refl
 
 -- a verdict in a rerun's answer is that of the run's outcome
-first_of_lem : {o : Outcome} (b : Bool) (p q : Asked) → Of o p → Of o (first_of (cond b (both_runs p q) (Refused output_too_short)))
+first_of_lem : {o : Outcome} (b : Bool) (p q : Asked) → Of o p → Of o (first_of (cond b (both_runs p q) (Refused OutputTooShort)))
 first_of_lem true (asked.Verdict u k) (asked.Verdict v l) of t n e = of t n e
 first_of_lem true (asked.Verdict u k) (asked.Refused r) of t n e = of t n e
 first_of_lem true (asked.Refused r) q of t n e = absurd (not_refused e)
 first_of_lem false p q of t n e = absurd (not_refused e)
 
-second_of_lem : {o : Outcome} (b : Bool) (p q : Asked) → Of o q → Of o (second_of (cond b (both_runs p q) (Refused output_too_short)))
+second_of_lem : {o : Outcome} (b : Bool) (p q : Asked) → Of o q → Of o (second_of (cond b (both_runs p q) (Refused OutputTooShort)))
 second_of_lem true (asked.Verdict u k) (asked.Verdict v l) of t n e = of t n e
 second_of_lem true (asked.Verdict u k) (asked.Refused r) of t n e = absurd (not_refused e)
 second_of_lem true (asked.Refused r) q of t n e = absurd (not_refused e)
@@ -59,7 +59,7 @@ module _ (g : Given) (ws : List ℕ) where
   }
 
   pub no_place : length g.answers < length g.fills →
-      Reruns g ws (Refused output_too_short) ws g.candidate g.buffer g.answers g.log g.used g.buffer2
+      Reruns g ws (Refused OutputTooShort) ws g.candidate g.buffer g.answers g.log g.used g.buffer2
   unfolding begun reran reran_words reran_candidate reran_answers reran_log reran_used reran_buffer reran_buffer2
   no_place l =
       let e = lt-leb (length g.fills) (length g.answers) l in

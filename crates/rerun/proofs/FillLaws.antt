@@ -6,7 +6,7 @@ use native.Mathlib.Numerals.{add-one}
 use native.Mathlib.Omega.{arith}
 use lib.ListN.{length, take, drop, get_or, length-append, length-drop, take-append-drop}
 use lib.Seq.{drop-cons, drop-drop, take_at, drop_at, length-take-le}
-use Rattle.calculus.specs.declared.answer.Answer.TheVariants.{Done}
+use Rattle.std.specs.Prelude.{Ok}
 use Rattle.calculus.specs.Cell.{null}
 use Rattle.calculus.specs.Model.{Fill, after_fills, fill_answers}
 use Rattle.calculus.proofs.Counts.{count_of_le}
@@ -19,7 +19,7 @@ use Rattle.instance.proofs.Sound.{sound_gives}
 use Rattle.rerun.specs.Fills.{Wanted, wanted, wanted_of, Filled, filled_with, fill_told, fill_leaves, answer_words, fills_told, concatenated, stored}
 
 -- a fill counts at most as many cells as an instance has words
-pub count-few : (h : Header) (f : Fill) (ws : List ℕ) (k : ℕ) → fill_answer h f ws ≡ Done k → k ≤ max_words
+pub count-few : (h : Header) (f : Fill) (ws : List ℕ) (k : ℕ) → fill_answer h f ws ≡ Ok k → k ≤ max_words
 count-few h f ws k e =
     let a = substitute-accepted h ws f.log f.mark f.cell k e in
     let g = sound_gives h ws a.is_sound in

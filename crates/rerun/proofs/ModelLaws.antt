@@ -5,8 +5,8 @@ use mathlib.Core.Path.{◌≡◌, refl, ap, ap₂, ◌∙◌, subst}
 use mathlib.Core.Bool.{true}
 use mathlib.Core.List.{List, [], ◌∷◌, ◌++◌, map}
 use lib.ListN.{drop}
-use Rattle.calculus.specs.declared.answer.Answer.{Answer}
-use Rattle.calculus.specs.declared.answer.Answer.TheVariants.{Done, Refused}
+use Rattle.calculus.specs.Answer.{Answer}
+use Rattle.std.specs.Prelude.{Ok, Err}
 use Rattle.calculus.specs.Answer.{after}
 use Rattle.calculus.specs.Cell.{put}
 use Rattle.calculus.specs.Fill.{substitute}
@@ -31,8 +31,8 @@ next-candidate f b = go (answer_of f b)
         (a : Answer) →
         after a (map (put f.mark f.cell) b.candidate) b.candidate ≡
         (after a (record { rows = substitute f.mark f.cell b.rows; candidate = map (put f.mark f.cell) b.candidate }) b).candidate
-    go (Done k) = refl
-    go (Refused r) = refl
+    go (Ok k) = refl
+    go (Err r) = refl
 
 -- what the fills of a run have changed is as the model says; `first` are the instance's words before them
 pub record Kept (h : Header) (first : List ℕ) (s : Filled) (a : Account) : Type 0 where

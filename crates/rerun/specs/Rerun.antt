@@ -1,11 +1,11 @@
 -- Run A, a list of fills and run B, as one call on lent slices. Document 00, demand 3, document 01, "Run A and run B", and document 02, request 1:
 -- "Demand 3's list may hold both kinds".
 use Rattle.std.specs.Prelude.{ℕ, ◌≤◌, ◌≡◌, Bool, cond, List, ◌++◌, length, drop, leb}
-use Rattle.calculus.specs.declared.answer.Answer.{Answer}
-use Rattle.calculus.specs.declared.answer.Answer.TheVariants as answer
+use Rattle.calculus.specs.Answer.{Answer}
+use Rattle.std.specs.Prelude.{Ok, Err}
 use Rattle.calculus.specs.declared.truth.Truth.{Truth}
 use Rattle.calculus.specs.Answer.{after}
-use Rattle.calculus.specs.Refusal.{output_too_short}
+use Rattle.calculus.specs.declared.refusal.Refusal.TheVariants.{OutputTooShort}
 use Rattle.calculus.specs.Model.{after_fills, outcome_of as outcome}
 use Rattle.instance.specs.declared.header.Header.{Header}
 use Rattle.instance.specs.Rows.{words_of}
@@ -42,8 +42,8 @@ second_of (Refused r) = asked.Refused r
 
 -- the fills are made only if run A got a verdict
 abbrev pub goes_on : Asked → Answer
-goes_on (asked.Verdict t n) = answer.Done 0
-goes_on (asked.Refused r) = answer.Refused r
+goes_on (asked.Verdict t n) = Ok 0
+goes_on (asked.Refused r) = Err r
 
 -- what a rerun is given besides the instance's words: both runs ask by the same way; run A's buffer and budget are `buffer` and `budget`, run B's are
 -- `buffer2` and `budget2`
@@ -105,10 +105,10 @@ module _ (g : Given) (ws : List ℕ) where
 
   -- 44 before anything is asked, then the refusals of run A
   unfoldable pub begun : Answer
-  begun = demand has_answers (answer.Refused output_too_short) (goes_on run_a)
+  begun = demand has_answers (Err OutputTooShort) (goes_on run_a)
 
   unfoldable pub reran : Reran
-  reran = cond has_answers (both_runs run_a run_b) (Refused output_too_short)
+  reran = cond has_answers (both_runs run_a run_b) (Refused OutputTooShort)
 
   -- what is left of the instance's words, the candidate, the slice for the answers, the log with its words in use, and the buffers
   unfoldable pub reran_words : List ℕ

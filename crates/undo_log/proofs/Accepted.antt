@@ -6,10 +6,10 @@ use mathlib.Core.List.{List}
 use borrow.Author.Tests.{leb-true}
 use lib.ListN.{length}
 use lib.Dec.{leb, ltb}
-use Rattle.calculus.specs.declared.answer.Answer.TheVariants.{Done}
+use Rattle.std.specs.Prelude.{Ok}
 use Rattle.calculus.specs.Cell.{is_mark, nulls}
 use Rattle.calculus.specs.Fill.{entry_length}
-use Rattle.calculus.specs.Refusal.{bad_log}
+use Rattle.calculus.specs.declared.refusal.Refusal.TheVariants.{BadLog}
 use Rattle.calculus.proofs.Answers.{demand_done}
 use Rattle.calculus.proofs.Bools.{and_parts}
 use Rattle.instance.specs.declared.header.Header.{Header}
@@ -42,10 +42,10 @@ module _ (h : Header) (ws log : List ℕ) (used : ℕ) where
       pub entry : Entry
       pub count : k ≡ last_count log used
 
-    pub undo_accepted : undone h ws log used ≡ Done k → Undone
+    pub undo_accepted : undone h ws log used ≡ Ok k → Undone
     unfolding undone
     undo_accepted e =
         let a = demand_done (sound h ws) _ _ k e in
         let b = demand_done (ltb 0 used) _ _ k a.1 in
-        let c = demand_done (entry_well_formed h ws log used) bad_log (Done (last_count log used)) k b.1 in
+        let c = demand_done (entry_well_formed h ws log used) BadLog (Ok (last_count log used)) k b.1 in
         record { is_sound = a.0; entry = entry_met c.0; count = cc c.1 }

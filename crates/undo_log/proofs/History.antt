@@ -9,14 +9,15 @@ use borrow.Author.Tests.{le-leb, lt-ltb, le-ltb, leb-true}
 use lib.ListN.{length, take, drop, length-append, length-drop, take-append-drop}
 use lib.Seq.{take_at, drop_at, drop-drop}
 use lib.Dec.{ltb, leb, eqb}
-use Rattle.calculus.specs.declared.answer.Answer.{Answer}
-use Rattle.calculus.specs.declared.answer.Answer.TheVariants.{Done, Refused}
+use Rattle.calculus.specs.Answer.{Answer}
+use Rattle.std.specs.Prelude.{Ok, Err}
 use Rattle.calculus.specs.All.{all}
 use Rattle.calculus.specs.Cell.{null, is_mark, is_cell, put}
 use Rattle.calculus.specs.Demand.{demand}
 use Rattle.calculus.specs.Fill.{Logging, into_log, entry_length, held, substitute}
 use Rattle.calculus.specs.Overwrite.{overwrite}
-use Rattle.calculus.specs.Refusal.{log_empty, bad_log}
+use Rattle.calculus.specs.declared.refusal.Refusal.TheVariants.{LogEmpty, BadLog}
+use Rattle.calculus.specs.Refusal.{bad_log}
 use Rattle.calculus.specs.Row.{Row}
 use Rattle.calculus.proofs.All.{all_append}
 use Rattle.calculus.proofs.Bools.{and_intro, zero_not_one}
@@ -43,7 +44,7 @@ use Rattle.undo_log.specs.History.{fills_in, HistoryHolds, NeverBad, EmptyIfNoFi
 use Rattle.undo_log.proofs.Places.{filled-places, put_back}
 use Rattle.undo_log.proofs.Entries.{entry_length_lem, entry_used, entry-within, entry-count, entry-mark, entry_front, entry-places, entry-before}
 
-refused_not_done : {A : Type 0} {r k : ℕ} → Refused r ≡ Done k → A
+refused_not_done : {A : Type 0} {r k : ℕ} → Err r ≡ Ok k → A
 refused_not_done e = let z : ◌≡◌ {A = ℕ} 0 1 = cc in absurd (zero_not_one z)
 
 -- ---- events of accepted steps
@@ -90,7 +91,7 @@ struck-size es rs = words-alike (rows_by (struck es) rs) (rows_by es rs) (struck
 record Undone (h : Header) (ws log : List ℕ) (used : ℕ) (es : List Event) (rs more : List Row) (rest : List ℕ) : Type 0 where
   says : undone h ws log used ≡ undo_by es rs
   leaves :
-      (k : ℕ) → undo_by es rs ≡ Done k →
+      (k : ℕ) → undo_by es rs ≡ Ok k →
       (undone_used h ws log used ≡ length (entries_by (struck es) rs)) ×
       ((take (length (entries_by (struck es) rs)) log ≡ entries_by (struck es) rs) ×
       (undone_words h ws log used ≡ words_of (rows_by (struck es) rs ++ more) ++ rest))
@@ -224,11 +225,11 @@ module _ (h : Header) (ws log : List ℕ) (is_sound : sound h ws ≡ true) where
       unfolding substituted
       fill-says = simp (g.is_sound, g.holds, g.log_size, g.used)
 
-      fill-refused : (r : ℕ) → logged s.header s.words s.log s.used m c ≡ Refused r → Follows h ws log es (step_state (fills m c) s)
+      fill-refused : (r : ℕ) → logged s.header s.words s.log s.used m c ≡ Err r → Follows h ws log es (step_state (fills m c) s)
       unfolding logged_log logged_used
       fill-refused r e = same _ _ _ _ refl (words-refused _ _ kind m c r e) (simp e) (simp e)
 
-      module _ (k : ℕ) (e : logged s.header s.words s.log s.used m c ≡ Done k) where
+      module _ (k : ℕ) (e : logged s.header s.words s.log s.used m c ≡ Ok k) where
         accepted-fill : (is_mark m ≡ true) × (is_cell c ≡ true)
         accepted-fill = let p = substitute-accepted s.header s.words kind m c k e in (p.mark, p.cell)
 
@@ -277,11 +278,11 @@ module _ (h : Header) (ws log : List ℕ) (is_sound : sound h ws ≡ true) where
       unfolding inserted
       insert_says = rw (g.is_sound, g.size) (ap (λ (x : Header). enterable x r.relation r.cells (length ws)) g.header)
 
-      insert_refused : (k : ℕ) → inserted s.header s.words r.relation r.cells ≡ Refused k → Follows h ws log es (step_state (inserts r) s)
+      insert_refused : (k : ℕ) → inserted s.header s.words r.relation r.cells ≡ Err k → Follows h ws log es (step_state (inserts r) s)
       unfolding inserted_header inserted_words
       insert_refused k e = same _ _ _ _ (simp e) (simp e) refl refl
 
-      module _ (k : ℕ) (e : inserted s.header s.words r.relation r.cells ≡ Done k) where
+      module _ (k : ℕ) (e : inserted s.header s.words r.relation r.cells ≡ Ok k) where
         relations_are : s.header.relations ≡ h.relations
         relations_are = ap (λ (x : Header). x.relations) g.header
 
@@ -328,11 +329,11 @@ module _ (h : Header) (ws log : List ℕ) (is_sound : sound h ws ≡ true) where
         undo-by s.header s.words s.log s.used (rows h ws) (drop (length (words_of (R es))) ws) g.is_sound h.relations h.arities es [] a
         (g.holds ∙ none) (g.words ∙ ap (λ (x : List Row). words_of x ++ drop (length (words_of (R es))) ws) none) g.used g.entries
 
-    undo_refused : (r : ℕ) → undo_by es (rows h ws) ≡ Refused r → Follows h ws log es (step_state undoes s)
+    undo_refused : (r : ℕ) → undo_by es (rows h ws) ≡ Err r → Follows h ws log es (step_state undoes s)
     unfolding undone_words undone_used
     undo_refused r e = let u = back.says ∙ e in same _ _ _ _ refl (simp u) refl (simp u)
 
-    undo_done : (k : ℕ) → undo_by es (rows h ws) ≡ Done k → Follows h ws log (struck es) (step_state undoes s)
+    undo_done : (k : ℕ) → undo_by es (rows h ws) ≡ Ok k → Follows h ws log (struck es) (step_state undoes s)
     undo_done k e =
         let l = back.leaves k e in
         let S = rows_by (struck es) (rows h ws) in
@@ -357,21 +358,21 @@ module _ (h : Header) (ws log : List ℕ) (is_sound : sound h ws ≡ true) where
       says = fill-says es s g a m c
 
       go : (x : Answer) → answer_by h ws log (fills m c) es ≡ x → Went (fills m c) es s
-      go (Done k) e = record { says = says; follows = rw e (fill_done es s g a m c k (says ∙ e)); accepted = rw e (accepted-fill es s g a m c k (says ∙ e), a) }
-      go (Refused r) e = record { says = says; follows = rw e (fill-refused es s g a m c r (says ∙ e)); accepted = rw e a }
+      go (Ok k) e = record { says = says; follows = rw e (fill_done es s g a m c k (says ∙ e)); accepted = rw e (accepted-fill es s g a m c k (says ∙ e), a) }
+      go (Err r) e = record { says = says; follows = rw e (fill-refused es s g a m c r (says ∙ e)); accepted = rw e a }
   step undoes es s g a = go (undo_by es (rows h ws)) refl
     where
       go : (x : Answer) → undo_by es (rows h ws) ≡ x → Went undoes es s
-      go (Done k) e = record { says = (back es s g a).says; follows = rw e (undo_done es s g a k e); accepted = rw e (accepted-struck h.relations h.arities es a) }
-      go (Refused r) e = record { says = (back es s g a).says; follows = rw e (undo_refused es s g a r e); accepted = rw e a }
+      go (Ok k) e = record { says = (back es s g a).says; follows = rw e (undo_done es s g a k e); accepted = rw e (accepted-struck h.relations h.arities es a) }
+      go (Err r) e = record { says = (back es s g a).says; follows = rw e (undo_refused es s g a r e); accepted = rw e a }
   step (inserts r) es s g a = go (answer_by h ws log (inserts r) es) refl
     where
       says : step_answer (inserts r) s ≡ answer_by h ws log (inserts r) es
       says = insert_says es s g a r
 
       go : (x : Answer) → answer_by h ws log (inserts r) es ≡ x → Went (inserts r) es s
-      go (Done k) e = record { says = says; follows = rw e (insert_done es s g a r k (says ∙ e)); accepted = rw e (accepted_insert es s g a r k (says ∙ e), a) }
-      go (Refused q) e = record { says = says; follows = rw e (insert_refused es s g a r q (says ∙ e)); accepted = rw e a }
+      go (Ok k) e = record { says = says; follows = rw e (insert_done es s g a r k (says ∙ e)); accepted = rw e (accepted_insert es s g a r k (says ∙ e), a) }
+      go (Err q) e = record { says = says; follows = rw e (insert_refused es s g a r q (says ∙ e)); accepted = rw e a }
 
   record Ended (ps : List Step) (es : List Event) (s : State) : Type 0 where
     says : step_answers ps s ≡ answers_by h ws log ps es
@@ -412,20 +413,20 @@ history-holds h ws log ps is_sound = let e = all-steps h ws log is_sound ps in (
 
 -- a chain of demands with other numbers is not refused with 49
 module _ {a : Answer} where
-  not_bad : (b : Bool) (r : ℕ) → (r ≡ bad_log → ⊥) → (a ≡ Refused bad_log → ⊥) → demand b (Refused r) a ≡ Refused bad_log → ⊥
+  not_bad : (b : Bool) (r : ℕ) → (r ≡ bad_log → ⊥) → (a ≡ Err BadLog → ⊥) → demand b (Err r) a ≡ Err BadLog → ⊥
   not_bad true r other more e = more e
   not_bad false r other more e = other (cc)
 
-done_not_bad : (k : ℕ) → Done k ≡ Refused bad_log → ⊥
+done_not_bad : (k : ℕ) → Ok k ≡ Err BadLog → ⊥
 done_not_bad k e = let z : ◌≡◌ {A = ℕ} 0 1 = cc in zero_not_one z
 
-undo_not_bad : (es : List Event) (rs : List Row) → undo_by es rs ≡ Refused bad_log → ⊥
+undo_not_bad : (es : List Event) (rs : List Row) → undo_by es rs ≡ Err BadLog → ⊥
 unfolding undo_by
-undo_not_bad [] rs e = let z : ◌≡◌ {A = ℕ} log_empty bad_log = cc in omega arith
+undo_not_bad [] rs e = let z : ◌≡◌ {A = ℕ} LogEmpty BadLog = cc in omega arith
 undo_not_bad (insertion r ∷ es) rs e = undo_not_bad es rs e
 undo_not_bad (filling m c ∷ es) rs e = done_not_bad _ e
 
-answer_not_bad : (h : Header) (ws log : List ℕ) (p : Step) (es : List Event) → answer_by h ws log p es ≡ Refused bad_log → ⊥
+answer_not_bad : (h : Header) (ws log : List ℕ) (p : Step) (es : List Event) → answer_by h ws log p es ≡ Err BadLog → ⊥
 unfolding enterable
 answer_not_bad h ws log (fills m c) es =
     not_bad (is_mark m) _ (λ e. omega arith)
@@ -452,7 +453,7 @@ next-answer h ws log ps p is_sound =
 pub never_bad : NeverBad
 never_bad h ws log ps p is_sound e = answer_not_bad h ws log p (history h ws log ps []) (sym (next-answer h ws log ps p is_sound) ∙ e)
 
-empty-none : (es : List Event) (rs : List Row) → (undo_by es rs ≡ Refused log_empty) ↔ (fills_in es ≡ 0)
+empty-none : (es : List Event) (rs : List Row) → (undo_by es rs ≡ Err LogEmpty) ↔ (fills_in es ≡ 0)
 unfolding undo_by fills_in
 empty-none [] rs = (λ e. refl, λ e. refl)
 empty-none (insertion r ∷ es) rs = empty-none es rs

@@ -8,7 +8,7 @@ use borrow.Author.Tests.{ltb-true, ltb-false}
 use lib.ListN.{length, set, drop, length-set, take-append-drop}
 use lib.Seq.{set-append_left}
 use lib.Dec.{ltb}
-use Rattle.calculus.specs.declared.answer.Answer.TheVariants.{Done}
+use Rattle.std.specs.Prelude.{Ok}
 use Rattle.calculus.specs.All.{all}
 use Rattle.calculus.specs.Cell.{is_cell, null}
 use Rattle.calculus.specs.Row.{Row}
@@ -105,7 +105,7 @@ module _ (n : ℕ) (ars : List ℕ) (x : ℕ) (cell : is_cell x ≡ true) (post 
       ) q.1
 
 -- an accepted undo leaves a sound instance
-pub undo_kept : (h : Header) (ws log : List ℕ) (used k : ℕ) → undone h ws log used ≡ Done k → sound h (undone_words h ws log used) ≡ true
+pub undo_kept : (h : Header) (ws log : List ℕ) (used k : ℕ) → undone h ws log used ≡ Ok k → sound h (undone_words h ws log used) ≡ true
 unfolding undone_words
 undo_kept h ws log used k e =
     let a = undo_accepted h ws log used k e in

@@ -1,12 +1,12 @@
 -- Document 02, request 1: "Over noted fills, take-backs and row entries, in any sequence from a fresh log, each handed plot and log as the last left
 -- them, the plot is what the history says: the rows as entered, with the fills that still count."
 use Rattle.std.specs.Prelude.{ℕ, suc, ◌≡◌, ◌↔◌, true, List, [], ◌∷◌, ◌++◌, length, take}
-use Rattle.calculus.specs.declared.answer.Answer.{Answer}
-use Rattle.calculus.specs.declared.answer.Answer.TheVariants.{Done, Refused}
+use Rattle.calculus.specs.Answer.{Answer}
+use Rattle.std.specs.Prelude.{Ok, Err}
 use Rattle.calculus.specs.Answer.{after}
 use Rattle.calculus.specs.Fill.{into_log, held, substitute, filled}
 use Rattle.calculus.specs.Overwrite.{overwrite}
-use Rattle.calculus.specs.Refusal.{log_empty, bad_log}
+use Rattle.calculus.specs.declared.refusal.Refusal.TheVariants.{LogEmpty, BadLog}
 use Rattle.calculus.specs.Row.{Row}
 use Rattle.instance.specs.declared.header.Header.{Header}
 use Rattle.instance.specs.Rows.{words_of}
@@ -98,9 +98,9 @@ struck (filling m c ∷ es) = es
 
 -- what undo returns, asked of the history: the number of cells of the latest fill, or 48 if no fill counts
 unfoldable pub undo_by : List Event → List Row → Answer
-undo_by [] rs = Refused log_empty
+undo_by [] rs = Err LogEmpty
 undo_by (insertion r ∷ es) rs = undo_by es rs
-undo_by (filling m c ∷ es) rs = Done (held m (rows_by es rs))
+undo_by (filling m c ∷ es) rs = Ok (held m (rows_by es rs))
 
 module _ (h : Header) (ws log : List ℕ) where
   -- what a step returns, asked of the history
@@ -153,9 +153,9 @@ HistoryHolds =
 abbrev pub NeverBad : Type 0
 NeverBad =
     (h : Header) (ws log : List ℕ) (ps : List Step) (p : Step) → sound h ws ≡ true →
-    step_answer p (state_after ps (start h ws log)) ≡ Refused bad_log → ⊥
+    step_answer p (state_after ps (start h ws log)) ≡ Err BadLog → ⊥
 
 abbrev pub EmptyIfNoFillCounts : Type 0
 EmptyIfNoFillCounts =
     (h : Header) (ws log : List ℕ) (ps : List Step) → sound h ws ≡ true →
-    (step_answer undoes (state_after ps (start h ws log)) ≡ Refused log_empty) ↔ (fills_in (history h ws log ps []) ≡ 0)
+    (step_answer undoes (state_after ps (start h ws log)) ≡ Err LogEmpty) ↔ (fills_in (history h ws log ps []) ≡ 0)

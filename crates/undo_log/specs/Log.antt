@@ -1,14 +1,14 @@
 -- The log, a fill that is logged (noted) in it, and undo, which takes the latest logged fill back. Document 02, request 1: "A note is the cells' word
 -- places in the plot, counted from 0, in plot order, the mark and their number, which both calls answer; a fresh log has no words in use."
 use Rattle.std.specs.Prelude.{ℕ, ◌+◌, ◌-◌, Bool, ◌&&◌, List, [], ◌∷◌, ◌++◌, length, get_or, take, drop, leb, ltb}
-use Rattle.calculus.specs.declared.answer.Answer.{Answer}
-use Rattle.calculus.specs.declared.answer.Answer.TheVariants.{Done, Refused}
+use Rattle.calculus.specs.Answer.{Answer}
+use Rattle.std.specs.Prelude.{Ok, Err}
 use Rattle.calculus.specs.Answer.{after}
 use Rattle.calculus.specs.Cell.{null, is_mark}
 use Rattle.calculus.specs.Demand.{demand}
 use Rattle.calculus.specs.Fill.{into_log, entry_length, held}
 use Rattle.calculus.specs.Overwrite.{overwrite}
-use Rattle.calculus.specs.Refusal.{unsound, log_empty, bad_log}
+use Rattle.calculus.specs.declared.refusal.Refusal.TheVariants.{Unsound, LogEmpty, BadLog}
 use Rattle.calculus.specs.Row.{Row}
 use Rattle.instance.specs.declared.header.Header.{Header}
 use Rattle.instance.specs.Sound.{sound, rows}
@@ -62,10 +62,10 @@ module _ (h : Header) (ws log : List ℕ) (used : ℕ) where
   -- "48 when no word is in use, after 41; 49 .. after 48"
   unfoldable pub undone : Answer
   undone =
-      demand (sound h ws) (Refused unsound)
-      (demand (ltb 0 used) (Refused log_empty)
-      (demand entry_well_formed (Refused bad_log)
-      (Done (last_count log used))))
+      demand (sound h ws) (Err Unsound)
+      (demand (ltb 0 used) (Err LogEmpty)
+      (demand entry_well_formed (Err BadLog)
+      (Ok (last_count log used))))
 
   -- "the mark returns to exactly the cells it left"
   unfoldable pub undone_words : List ℕ

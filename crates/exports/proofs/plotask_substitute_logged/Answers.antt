@@ -1,6 +1,6 @@
 -- `exports::plotask_substitute_logged` meets its contract: 41 if the header slice is not as long as a header, otherwise the library's call. Assumes nothing.
 use mathlib.Core.Path.{sym, ap, ◌∙◌}
-use Rattle.calculus.specs.declared.answer.Answer.{Answer}
+use Rattle.calculus.specs.Answer.{Answer}
 use Rattle.calculus.specs.Answer.{number_of, value_of}
 use Rattle.undo_log.specs.Log.{logged, logged_words, logged_log, logged_used}
 use Rattle.exports.specs.Calls.{log_answer, log_words, log_log, log_used}

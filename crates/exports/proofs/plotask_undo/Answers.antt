@@ -1,6 +1,6 @@
 -- `exports::plotask_undo` meets its contract: 41 if the header slice is not as long as a header, otherwise the library's call. Assumes nothing.
 use mathlib.Core.Path.{sym, ap, ◌∙◌}
-use Rattle.calculus.specs.declared.answer.Answer.{Answer}
+use Rattle.calculus.specs.Answer.{Answer}
 use Rattle.calculus.specs.Answer.{number_of, value_of}
 use Rattle.undo_log.specs.Log.{undone, undone_words, undone_used}
 use Rattle.exports.specs.Calls.{undo_answer, undo_words, undo_used}

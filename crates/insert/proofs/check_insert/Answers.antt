@@ -6,9 +6,9 @@ use mathlib.Core.List.{List}
 use native.Mathlib.Omega.{arith}
 use borrow.Author.Tests.{lt-ltb, le-ltb, eq-eqb, ne_eqb, leb-true}
 use lib.ListN.{length}
-use Rattle.calculus.specs.declared.answer.Answer.TheVariants.{Done, Refused}
+use Rattle.std.specs.Prelude.{Ok, Err}
 use Rattle.calculus.specs.Demand.{demand}
-use Rattle.calculus.specs.Refusal.{not_a_cell, no_room}
+use Rattle.calculus.specs.declared.refusal.Refusal.TheVariants.{NotACell, NoRoom}
 use Rattle.instance.specs.declared.header.Header.{Header}
 use Rattle.instance.specs.Rows.{are_cells}
 use Rattle.instance.specs.Sound.{sound, scanned}
@@ -54,7 +54,7 @@ module _ (c : After-are_cells) where
   needed = c.args.header.used + (1 + length cells)
 
   so_far : (b : Bool) → c.are_cells.result ≡ b
-      → inserted c.args.header c.args.instance.now c.args.relation cells ≡ demand b (Refused not_a_cell) (demand (has_room needed (length c.args.instance.now)) (Refused no_room) (Done needed))
+      → inserted c.args.header c.args.instance.now c.args.relation cells ≡ demand b (Err NotACell) (demand (has_room needed (length c.args.instance.now)) (Err NoRoom) (Ok needed))
   unfolding inserted enterable
   so_far b e =
       let f : are_cells cells ≡ b = sym c.are_cells.ensures ∙ e in

@@ -4,8 +4,8 @@ use mathlib.Core.Path.{◌≡◌, sym, ◌∙◌}
 use mathlib.Core.List.{List}
 use native.Mathlib.Omega.{arith}
 use lib.ListN.{length-take, length-drop}
-use Rattle.calculus.specs.declared.answer.Answer.{Answer}
-use Rattle.calculus.specs.declared.answer.Answer.TheVariants.{Done}
+use Rattle.calculus.specs.Answer.{Answer}
+use Rattle.std.specs.Prelude.{Ok}
 use Rattle.instance.specs.declared.header.Header.{Header}
 use Rattle.instance.specs.Insert.{inserted, inserted_header, inserted_words}
 use Rattle.instance.proofs.Passes.{row_put}
@@ -25,7 +25,7 @@ returns-in_default c = let f = sym c.check_insert-answer.ensures ∙ c.in_defaul
     by_answer_header_words_told (insert-told _ _ _ _ (c.check_insert-answer.ensures, (simp f, simp f)))
 
 -- what an accepted answer of check_insert says
-accepted : (h : Header) (ws : List ℕ) (r : ℕ) (cs : List ℕ) (k : ℕ) (a : Answer) → a ≡ inserted h ws r cs → a ≡ Done k → Inserted h ws r cs k
+accepted : (h : Header) (ws : List ℕ) (r : ℕ) (cs : List ℕ) (k : ℕ) (a : Answer) → a ≡ inserted h ws r cs → a ≡ Ok k → Inserted h ws r cs k
 accepted h ws r cs k a e f = insert_accepted h ws r cs k (sym e ∙ f)
 
 -- the row's relation is one of eight
@@ -58,7 +58,7 @@ returns c =
     let ws = c.args.instance.now in
     let r = c.args.relation in
     let cs = c.args.cells.now in
-    let done : inserted h ws r cs ≡ Done _ = sym c.check_insert-answer.ensures ∙ c.in-Done.is in
+    let done : inserted h ws r cs ≡ Ok _ = sym c.check_insert-answer.ensures ∙ c.in-Done.is in
     by_answer_header_words_told (insert-told h ws r cs (
       sym done,
       (

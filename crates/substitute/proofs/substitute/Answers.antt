@@ -4,10 +4,10 @@ use mathlib.Core.Path.{◌≡◌, refl, sym, ap, ◌∙◌}
 use mathlib.Core.List.{List, ◌++◌}
 use native.Mathlib.Omega.{arith}
 use lib.ListN.{drop, take-append-drop}
-use Rattle.calculus.specs.declared.answer.Answer.TheVariants.{Done}
+use Rattle.std.specs.Prelude.{Ok}
 use Rattle.calculus.specs.Fill.{unlogged, held}
 use Rattle.instance.specs.declared.header.Header.{Header}
-use Rattle.calculus.specs.declared.answer.Answer.{Answer}
+use Rattle.calculus.specs.Answer.{Answer}
 use Rattle.instance.specs.Substitute.{fillable}
 use Rattle.instance.specs.Sound.{rows}
 use Rattle.instance.proofs.Sound.{sound_gives}
@@ -25,7 +25,7 @@ returns-in_default c =
     by_answer_words_told (fill-told _ _ _ _ _ (c.in_default.is ∙ sym e, sym (words-refused _ _ _ _ _ _ e)))
 
 -- what the test says
-tested : (h : Header) (ws : List ℕ) (m cell n : ℕ) (a : Answer) → a ≡ fillable h ws m cell → a ≡ Done n → Fillable h ws m cell
+tested : (h : Header) (ws : List ℕ) (m cell n : ℕ) (a : Answer) → a ≡ fillable h ws m cell → a ≡ Ok n → Fillable h ws m cell
 tested h ws m cell n a e f = fillable_met h ws m cell n (sym e ∙ f)
 
 pub slice_bounds-replace-end : goal.slice_bounds-replace-end
@@ -63,7 +63,7 @@ returns c =
     let f = tested _ _ _ _ _ _ c.test_fill-tested.ensures c.in-Done.is in
     let count_is : c.replace-count.result ≡ held m (rows h ws) = c.replace-count.ensures.count ∙ sym (held-words h ws f.is_sound m) in
     let done = all_held _ _ _ _ f unlogged (omega arith) refl in by_answer_words_told (fill-told _ _ _ _ _ (
-      ap Done count_is ∙ sym done,
+      ap Ok count_is ∙ sym done,
       ap (λ (l : List ℕ). l ++ drop h.used ws) (c.replace-count.ensures.words ∙ sym (filled_words_lem _ _ f.is_sound m cell))
           ∙ sym (words_done _ _ _ _ _ _ done),
     ))

@@ -6,12 +6,12 @@ use mathlib.Core.List.{List, ◌++◌}
 use native.Mathlib.Omega.{arith}
 use borrow.Author.Tests.{le-leb, lt-leb}
 use lib.ListN.{length, take, drop, length-drop}
-use Rattle.calculus.specs.declared.answer.Answer.{Answer}
-use Rattle.calculus.specs.declared.answer.Answer.TheVariants.{Done, Refused}
+use Rattle.calculus.specs.Answer.{Answer}
+use Rattle.std.specs.Prelude.{Ok, Err}
 use Rattle.calculus.specs.Answer.{Tells}
 use Rattle.calculus.specs.Fill.{into_log, held, substitute, entry_length}
 use Rattle.calculus.specs.Overwrite.{overwrite}
-use Rattle.calculus.specs.Refusal.{log_too_short}
+use Rattle.calculus.specs.declared.refusal.Refusal.TheVariants.{LogTooShort}
 use Rattle.instance.specs.declared.header.Header.{Header}
 use Rattle.instance.specs.Rows.{words_of}
 use Rattle.instance.specs.Sound.{rows}
@@ -34,18 +34,18 @@ module _ (h : Header) (ws log : List ℕ) (used m c : ℕ) where
       (a ≡ logged h ws log used m c) × ((words ≡ logged_words h ws log used m c) × ((left ≡ logged_log h ws log used m c) × ((next ≡ logged_used h ws log used m c)
       × Tells a (logged h ws log used m c) (held m (rows h ws)))))
 
-  refused : {a : Answer} (r : ℕ) → a ≡ Refused r → logged h ws log used m c ≡ Refused r → Promised a ws log used
+  refused : {a : Answer} (r : ℕ) → a ≡ Err r → logged h ws log used m c ≡ Err r → Promised a ws log used
   unfolding logged_log logged_used
   refused r q e =
       let t = fill-told h ws (into_log (length log) used) m c (q ∙ sym e, sym (words-refused _ _ _ _ _ _ e)) in
       (t.0, (t.1.0, (rw e refl, (rw e refl, t.1.1))))
 
-  accepted : {words left : List ℕ} {n : ℕ} → n ≡ held m (rows h ws) → logged h ws log used m c ≡ Done (held m (rows h ws))
+  accepted : {words left : List ℕ} {n : ℕ} → n ≡ held m (rows h ws) → logged h ws log used m c ≡ Ok (held m (rows h ws))
       → words ≡ words_of (substitute m c (rows h ws)) ++ drop h.used ws → left ≡ take used log ++ overwrite (entry_of m (rows h ws)) (drop used log)
-      → Promised (Done n) words left (used + entry_length n)
+      → Promised (Ok n) words left (used + entry_length n)
   unfolding logged_log logged_used
   accepted count e filled noted =
-      let t = fill-told h ws (into_log (length log) used) m c (ap Done count ∙ sym e, filled ∙ sym (words_done _ _ _ _ _ _ e)) in
+      let t = fill-told h ws (into_log (length log) used) m c (ap Ok count ∙ sym e, filled ∙ sym (words_done _ _ _ _ _ _ e)) in
       (t.0, (t.1.0, (rw e noted, (rw e (ap (λ (k : ℕ). used + entry_length k) count), t.1.1))))
 
 pub returns-in_default : goal.returns-in_default
@@ -78,9 +78,9 @@ returns-then-count-eq0 c =
     by_answer_words_log_used_told (refused _ _ c.args.log.now c.args.used _ _ _ refl (none-held _ _ _ _ f (into_log (length c.args.log.now) c.args.used) (sym count_is ∙ c.if-count-eq0.true)))
 
 -- some cell holds the null, and the log lacks words for the entry
-no_room : (h : Header) (ws log : List ℕ) (used m c : ℕ) → Fillable h ws m c → 0 < held m (rows h ws) → length log < used + entry_length (held m (rows h ws)) →
-    Promised h ws log used m c (Refused log_too_short) ws log used
-no_room h ws log used m c f some l =
+NoRoom : (h : Header) (ws log : List ℕ) (used m c : ℕ) → Fillable h ws m c → 0 < held m (rows h ws) → length log < used + entry_length (held m (rows h ws)) →
+    Promised h ws log used m c (Err LogTooShort) ws log used
+NoRoom h ws log used m c f some l =
     refused _ _ _ _ _ _ _ refl
     (no_room-held _ _ _ _ f (into_log (length log) used) some (lt-leb (used + entry_length (held m (rows h ws))) (length log) l))
 
@@ -91,7 +91,7 @@ returns-then-log-used c =
     let m = c.args.mark in
     let f = fillable_met _ _ _ _ _ (sym c.test_fill-answer.ensures ∙ c.in-Done.is) in
     let count_is : c.held-count.result ≡ held m (rows h ws) = c.held-count.ensures ∙ sym (held-words h ws f.is_sound m) in
-    by_answer_words_log_used_told (no_room h ws c.args.log.now c.args.used m c.args.cell f (omega arith) (omega arith))
+    by_answer_words_log_used_told (NoRoom h ws c.args.log.now c.args.used m c.args.cell f (omega arith) (omega arith))
 
 pub returns-then-log-used-2 : goal.returns-then-log-used-2
 returns-then-log-used-2 c =
@@ -100,7 +100,7 @@ returns-then-log-used-2 c =
     let m = c.args.mark in
     let f = fillable_met _ _ _ _ _ (sym c.test_fill-answer.ensures ∙ c.in-Done.is) in
     let count_is : c.held-count.result ≡ held m (rows h ws) = c.held-count.ensures ∙ sym (held-words h ws f.is_sound m) in
-    by_answer_words_log_used_told (no_room h ws c.args.log.now c.args.used m c.args.cell f (omega arith) (omega arith))
+    by_answer_words_log_used_told (NoRoom h ws c.args.log.now c.args.used m c.args.cell f (omega arith) (omega arith))
 
 pub slice_bounds-note-end : goal.slice_bounds-note-end
 slice_bounds-note-end c =

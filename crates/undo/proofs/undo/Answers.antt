@@ -4,7 +4,7 @@ use mathlib.Core.Path.{◌≡◌, sym, ap, ◌∙◌}
 use mathlib.Core.List.{List}
 use native.Mathlib.Omega.{arith}
 use lib.ListN.{length, get_or, take, drop}
-use Rattle.calculus.specs.declared.answer.Answer.TheVariants.{Done}
+use Rattle.std.specs.Prelude.{Ok}
 use Rattle.calculus.specs.Cell.{null}
 use Rattle.instance.specs.declared.header.Header.{Header}
 use Rattle.instance.specs.Sound.{rows}
@@ -81,7 +81,7 @@ returns c =
     let ws = c.args.instance.now in
     let log = c.args.log.now in
     let used = c.args.used in
-    let done : undone h ws log used ≡ Done c.in-Done.count = sym c.test_undo-answer.ensures ∙ c.in-Done.is in
+    let done : undone h ws log used ≡ Ok c.in-Done.count = sym c.test_undo-answer.ensures ∙ c.in-Done.is in
     let u = undo_accepted _ _ _ _ _ done in by_answer_words_used_told (undo-told h ws log used (
       sym done,
       (

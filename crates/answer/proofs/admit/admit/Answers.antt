@@ -6,7 +6,7 @@ use mathlib.Core.List.{List}
 use borrow.Author.Rules.{rules}
 use borrow.Author.Tests.{not-true, not-false}
 use lib.ListN.{length}
-use Rattle.calculus.specs.declared.answer.Answer.TheVariants.{Done}
+use Rattle.std.specs.Prelude.{Ok}
 use Rattle.instance.specs.declared.header.Header.{Header}
 use Rattle.instance.specs.declared.scan.Scanned.TheVariants.{Rows}
 use Rattle.instance.specs.Header.{max_relations}
@@ -81,4 +81,4 @@ returns c =
     let l = (goal.at.returns c).Else-not-right_length in
     let b = scan l in
     let q = passed-number _ _ _ _ (sym c.check-refusal.ensures ∙ c.if-refusal-ne0.false) in
-    ap Done (sym (scanned-rows (h b) (ws b) (count b) (is-scanned b))) ∙ none-refused (h b) (ws b) (qs b) (cs b) (is_sound b) (right l) q.0 q.1
+    ap Ok (sym (scanned-rows (h b) (ws b) (count b) (is-scanned b))) ∙ none-refused (h b) (ws b) (qs b) (cs b) (is_sound b) (right l) q.0 q.1

@@ -6,8 +6,8 @@ use native.Mathlib.Omega.{arith}
 use borrow.Author.Rules.{rules}
 use lib.ListN.{length, take, length-append}
 use lib.Seq.{length-take-le}
-use Rattle.calculus.specs.declared.answer.Answer.{Answer}
-use Rattle.calculus.specs.declared.answer.Answer.TheVariants as answer
+use Rattle.calculus.specs.Answer.{Answer}
+use Rattle.std.specs.Prelude.{Ok, Err}
 use Rattle.calculus.specs.Row.{cells_of}
 use Rattle.calculus.specs.Domain.{range_over}
 use Rattle.calculus.specs.Model.{outcome_of}
@@ -68,7 +68,7 @@ module _ (c : After-admit) where
   told p q = (p, (q, ask-told h ws qs cs (list buffer) budget p))
 
   refused-told :
-      (r : ℕ) → askable h ws qs cs (list buffer) ≡ answer.Refused r →
+      (r : ℕ) → askable h ws qs cs (list buffer) ≡ Err r →
       (Refused r ≡ ask h ws qs cs (list buffer) budget) ×
       ((buffer ≡ asked_buffer h ws qs cs buffer) × TellsVerdict (Refused r) (ask h ws qs cs (list buffer) budget) (outcome_of (model_of h ws cs) (query_of h.arities qs)))
   refused-told r e = told (refused-asked h ws qs cs (list buffer) budget r e) (refused-buffer h ws qs cs buffer r e)
@@ -86,7 +86,7 @@ module _ (c : After-arities-1) where
   count = c.in-Done.count
 
   passes : Admitted (h at) (ws at) (qs at) (cs at) count
-  passes = admitted_done (h at) (ws at) (qs at) (cs at) count (answers at (answer.Done count) c.in-Done.is)
+  passes = admitted_done (h at) (ws at) (qs at) (cs at) count (answers at (Ok count) c.in-Done.is)
 
   abbrev given : Sound (h at) (ws at)
   given = sound_gives (h at) (ws at) passes.is_sound

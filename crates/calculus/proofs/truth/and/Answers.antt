@@ -13,9 +13,9 @@ pub returns : goal.returns
 returns c =
     record {
       answer = (and_told c.args.a c.args.b
-          (rw (c.place.ensures.0, c.place-2.ensures.0)
+          (rw (c.rank.ensures.0, c.rank-2.ensures.0)
           (table_is table (join conj) tt c.args.a c.args.b))).0;
       verdict = (and_told c.args.a c.args.b
-          (rw (c.place.ensures.0, c.place-2.ensures.0)
+          (rw (c.rank.ensures.0, c.rank-2.ensures.0)
           (table_is table (join conj) tt c.args.a c.args.b))).1;
     }

@@ -5,7 +5,7 @@ use mathlib.Core.Bool.{true}
 use mathlib.Core.List.{List, []}
 use borrow.Author.Tests.{le-leb, lt-leb}
 use lib.ListN.{drop}
-use Rattle.calculus.specs.declared.answer.Answer.TheVariants.{Done}
+use Rattle.std.specs.Prelude.{Ok}
 use Rattle.calculus.specs.Padded.{padded}
 use Rattle.calculus.specs.Reading.{read}
 use Rattle.instance.specs.Header.{max_relations}
@@ -19,7 +19,7 @@ by_head_counted : {A B : Type 0} → A × B → record { head : A; counted : B }
 by_head_counted p = record { head = p.0; counted = p.1 }
 
 -- the arities, if they were accepted
-accepted : (card : List ℕ) (n k : ℕ) (r : Arities) → r ≡ opened_arities [] (read_arities n (drop 1 card)) → r.answer ≡ Done k
+accepted : (card : List ℕ) (n k : ℕ) (r : Arities) → r ≡ opened_arities [] (read_arities n (drop 1 card)) → r.answer ≡ Ok k
     → (ars : List ℕ) × (rest : List ℕ) × (read_arities n (drop 1 card) ≡ read ars rest) × ((opened_arities [] (read_arities n (drop 1 card))).arities ≡ padded max_relations ars)
 accepted card n k r e f = arities_opened card n k (ap (λ r. r.answer) (sym e) ∙ f)
 
@@ -73,7 +73,7 @@ returns c =
     let counted : is_count n.result ≡ true = simp (le-leb 1 n.result c.if-relations-lt1.false, le-leb n.result max_relations c.if-relations-gt-RELATIONS.false) in
     let a = accepted card n.result _ _ c.read_arities-read.ensures c.in-Done.is in
     record {
-      head = ap (λ (ars : List ℕ). record { answer = Done c.number-count.result; relations = n.result; arities = ars }) (ap (λ r. r.arities) c.read_arities-read.ensures ∙ a.3)
+      head = ap (λ (ars : List ℕ). record { answer = Ok c.number-count.result; relations = n.result; arities = ars }) (ap (λ r. r.arities) c.read_arities-read.ensures ∙ a.3)
           ∙ sym (head-answer card n.result c.if-card-lt1.false n.ensures.0 counted a.0 a.1 a.2 c.number-count.ensures.read);
       counted = λ k e. let same : c.number-count.result ≡ k = cc in rw (← same) c.number-count.ensures.small;
     }

@@ -8,7 +8,7 @@ use native.Mathlib.Omega.{arith}
 use borrow.Author.Tests.{le-leb, lt-leb, not-true, not-false}
 use lib.ListN.{length}
 use lib.Pow.{pow_pos}
-use Rattle.calculus.specs.Refusal.{bad_candidate}
+use Rattle.calculus.specs.declared.refusal.Refusal.TheVariants.{BadCandidate}
 use Rattle.instance.specs.Rows.{are_cells}
 use Rattle.query.specs.Words.{node_count}
 use Rattle.query.specs.Scope.{at_the_top, candidate_scope}
@@ -40,7 +40,7 @@ module _ (c : Else-candidate) where
   abbrev cs : List ℕ
   cs = c.args.candidate.now
 
-  so_far : (b : Bool) → are_cells cs ≡ b → check_query n ars qs cs ≡ demand b (refused bad_candidate) (check_nodes n ars qs 0 (node_count qs) (at_the_top (length cs)))
+  so_far : (b : Bool) → are_cells cs ≡ b → check_query n ars qs cs ≡ demand b (refused BadCandidate) (check_nodes n ars qs 0 (node_count qs) (at_the_top (length cs)))
   unfolding check_query
   so_far b e = simp (le-leb _ _ c.if-candidate.false, e)
 

@@ -3,7 +3,7 @@ use Prim.Native.Nat.{ℕ, ◌+◌, ◌-◌}
 use mathlib.Core.Path.{◌≡◌, refl, sym, ◌∙◌}
 use mathlib.Core.Bool.{Bool, true, false}
 use mathlib.Core.List.{List}
-use Rattle.calculus.specs.Refusal.{bad_node, unbound_variable}
+use Rattle.calculus.specs.declared.refusal.Refusal.TheVariants.{BadNode, UnboundVariable}
 use native.Mathlib.Omega.{arith}
 use native.Mathlib.Nat.{add-zero, sub-zero}
 use borrow.Author.Tests.{not-true, not-false}
@@ -36,8 +36,8 @@ module _ (c : After-is_term) where
 
   seen : (s : Scopes)
       → check_terms qs c.args.mask c.args.node c.args.from c.args.count s
-      ≡ demand (is_term w) (refused bad_node)
-      (demand (is_bound c.args.mask w) (refused unbound_variable)
+      ≡ demand (is_term w) (refused BadNode)
+      (demand (is_bound c.args.mask w) (refused UnboundVariable)
       (check_terms qs c.args.mask c.args.node (c.args.from + (k + 1)) (c.args.count - (k + 1)) s))
   seen s = c.loop-k.invariant.1 s ∙ terms_rest _ _ _ _ _ _ s (omega arith)
 

@@ -5,8 +5,8 @@ use mathlib.Core.List.{List, map}
 use native.Mathlib.Omega.{arith}
 use borrow.Author.Tests.{leb-true}
 use lib.Dec.{leb}
-use Rattle.calculus.specs.declared.answer.Answer.{Answer}
-use Rattle.calculus.specs.declared.answer.Answer.TheVariants.{Done}
+use Rattle.calculus.specs.Answer.{Answer}
+use Rattle.std.specs.Prelude.{Ok}
 use Rattle.calculus.specs.Answer.{after}
 use Rattle.calculus.specs.Cell.{nulls, put}
 use Rattle.calculus.specs.Model.{Fill}
@@ -37,7 +37,7 @@ module _ (c : After-fill_instance-made) where
   abbrev left : Answer → List ℕ
   left a = after a (map (put f.mark f.cell) start.args.candidate.now) start.args.candidate.now
 
-  few : (k : ℕ) → c.fill_instance-made.result.answer ≡ Done k → k ≤ max_words
+  few : (k : ℕ) → c.fill_instance-made.result.answer ≡ Ok k → k ≤ max_words
   few k e = count-few h f ws k (sym c.fill_instance-made.ensures.answer ∙ e)
 
 pub replace-requires : goal.replace-requires

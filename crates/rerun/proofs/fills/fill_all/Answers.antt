@@ -5,7 +5,7 @@ use mathlib.Core.List.{List, ◌++◌}
 use native.Mathlib.Omega.{arith}
 use borrow.Author.Rules.{rules}
 use lib.ListN.{length, take, drop, length-drop}
-use Rattle.calculus.specs.declared.answer.Answer.{Answer}
+use Rattle.calculus.specs.Answer.{Answer}
 use Rattle.instance.proofs.Parts.{part_to_end, put_to_end}
 use Rattle.rerun.specs.Fills.{filled_with, answer_words}
 use Rattle.rerun.proofs.FillLaws.{wanted_at, begin, step, finish}

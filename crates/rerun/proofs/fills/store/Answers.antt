@@ -7,7 +7,7 @@ use native.Mathlib.Omega.{arith}
 use borrow.Author.Tests.{lt-ltb, le-ltb}
 use lib.ListN.{length, drop, set, length-set}
 use lib.Dec.{ltb}
-use Rattle.calculus.specs.declared.answer.Answer.{Answer}
+use Rattle.calculus.specs.Answer.{Answer}
 use Rattle.calculus.specs.Fill.{entry_length}
 use Rattle.rerun.specs.Fills.{wanted, answer_words}
 use Rattle.rerun.proofs.fills.store.Goals as goal
