@@ -4,6 +4,7 @@ use mathlib.Core.Path.{◌≡◌, refl, ap, ◌∙◌}
 use mathlib.Core.Bool.{Bool, true, ◌&&◌}
 use mathlib.Core.List.{List, [], ◌∷◌, ◌++◌, map, Memᴰ}
 use lib.ListN.{length, get_or, drop, set, replicate}
+use Rattle.std.specs.List.{list_all}
 use Rattle.calculus.specs.All.{all}
 use Rattle.calculus.proofs.Bools.{and_parts, and_intro}
 use Rattle.calculus.proofs.Lists.{drop_step}
@@ -77,3 +78,9 @@ module _ {A : Type 0} (test : A → Bool) where
 pub all_rest : (test : ℕ → Bool) (xs : List ℕ) (i : ℕ) → i < length xs → all test (drop i xs) ≡ test (get_or xs i 0) && all test (drop (i + 1) xs)
 unfolding all
 all_rest test xs i l = rw (drop_step xs i l)
+
+-- std's word for the same
+pub all_is : {A : Type 0} (test : A → Bool) (xs : List A) → list_all test xs ≡ all test xs
+unfolding all
+all_is test [] = refl
+all_is test (x ∷ xs) = ap (λ (b : Bool). test x && b) (all_is test xs)

@@ -7,6 +7,7 @@ use borrow.Author.Tests.{lt-ltb, le-ltb, leb-true}
 use native.Mathlib.Omega.{arith}
 use lib.ListN.{drop}
 use lib.Dec.{leb}
+use Rattle.calculus.specs.declared.refusal.Refusal.{Refusal}
 use Rattle.calculus.specs.Answer.{Answer}
 use Rattle.std.specs.Prelude.{Ok, Err}
 use Rattle.calculus.specs.Cell.{nulls, is_cell, is_mark}
@@ -36,12 +37,12 @@ module _ (h : Header) (ws : List ℕ) (m c : ℕ) where
       record { is_sound = a.0; mark = b.0; high = leb-true m nulls (and_parts (leb 1 m) (leb m nulls) b.0).1; cell = d.0 }
 
   -- refused before the count: the fill is refused with the same number
-  pub early_refused : (l : Logging) (r : ℕ) → fillable h ws m c ≡ Err r → substituted h ws l m c ≡ Err r
+  pub early_refused : (l : Logging) (r : Refusal) → fillable h ws m c ≡ Err r → substituted h ws l m c ≡ Err r
   unfolding fillable substituted
   early_refused l r e = go (sound h ws) (is_mark m) (is_cell c) e _
     where
       go :
-          (x y z : Bool) → demand x (Err Unsound) (demand y (Err NoSuchNull) (demand z (Err NotACell) (Ok 0))) ≡ Err r →
+          (x y z : Bool) → demand {A = Answer} x (Err Unsound) (demand y (Err NoSuchNull) (demand z (Err NotACell) (Ok 0))) ≡ Err r →
           (a : Answer) → demand x (Err Unsound) (demand y (Err NoSuchNull) (demand z (Err NotACell) a)) ≡ Err r
       go false y z q a = q
       go true false z q a = q
@@ -67,6 +68,6 @@ module _ (h : Header) (ws : List ℕ) (l : Logging) (m c : ℕ) where
   unfolding substituted_words
   words_done k e = rw e
 
-  pub words-refused : (r : ℕ) → substituted h ws l m c ≡ Err r → substituted_words h ws l m c ≡ ws
+  pub words-refused : (r : Refusal) → substituted h ws l m c ≡ Err r → substituted_words h ws l m c ≡ ws
   unfolding substituted_words
   words-refused r e = rw e

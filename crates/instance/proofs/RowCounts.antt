@@ -1,23 +1,26 @@
 -- The rows of each relation, counted row by row. Assumes nothing.
 use Prim.Native.Nat.{ℕ, zero, suc, ◌+◌, ◌<◌}
-use mathlib.Core.Path.{◌≡◌, refl, sym, ap}
+use mathlib.Core.Path.{◌≡◌, refl, sym, ap, ◌∙◌}
 use mathlib.Core.List.{List, [], ◌∷◌, ◌++◌}
 use native.Mathlib.Omega.{arith}
-use lib.ListN.{length, get_or, set, drop, length-append}
+use lib.ListN.{length, get_or, set, length-append}
+use Rattle.std.specs.List.{sum}
+use Rattle.std.proofs.lemmas.List.Sums.{sum_by-cons}
 use Rattle.calculus.specs.Row.{Row}
 use Rattle.calculus.specs.Closed.{tuples}
-use Rattle.calculus.proofs.Lists.{drop_step}
 use Rattle.calculus.proofs.Counting.{Counting, counting-one, counting_ends}
 use Rattle.calculus.proofs.Table.{table-size, table_at}
 use Rattle.calculus.proofs.Tuples.{tuples-here, tuples-other, tuples-append}
 use Rattle.instance.specs.Header.{max_relations}
 use Rattle.instance.specs.RowCounts.{row_counts, sum_of}
 
--- the sum of counts from index i on, and with one more row
-pub sum_step : (cs : List ℕ) (i : ℕ) → i < length cs → sum_of (drop i cs) ≡ get_or cs i 0 + sum_of (drop (i + 1) cs)
+-- std's word for the same
+pub sum_is : (cs : List ℕ) → sum cs ≡ sum_of cs
 unfolding sum_of
-sum_step cs i l = rw (drop_step cs i l)
+sum_is [] = refl
+sum_is (c ∷ cs) = sum_by-cons (λ (n : ℕ). n) c cs ∙ ap (λ (n : ℕ). c + n) (sum_is cs)
 
+-- with one more row
 pub sum_one : (cs : List ℕ) (i : ℕ) → i < length cs → sum_of (set cs i (get_or cs i 0 + 1)) ≡ sum_of cs + 1
 unfolding sum_of
 sum_one [] i l = absurd (omega arith)

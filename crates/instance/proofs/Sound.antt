@@ -7,13 +7,17 @@ use native.Mathlib.Omega.{arith}
 use borrow.Author.Tests.{leb-true, ltb-true, ltb-false}
 use lib.ListN.{length, take, get_or, get_or-eq_default}
 use lib.Seq.{length-take-le}
+use Rattle.std.specs.Prelude.{Ok, Err}
+use Rattle.calculus.specs.declared.refusal.Refusal.{Refusal}
+use Rattle.calculus.specs.declared.refusal.Refusal.TheVariants.{Unsound}
+use Rattle.calculus.specs.Answer.{Answer}
 use Rattle.calculus.specs.Closed.{tuples}
 use Rattle.calculus.specs.Row.{Row}
 use Rattle.instance.specs.declared.header.Header.{Header}
-use Rattle.instance.specs.declared.scan.Scanned.TheVariants.{Rows, Unsound}
 use Rattle.instance.specs.Header.{max_relations, max_words}
 use lib.Dec.{ltb}
 use Rattle.instance.specs.Rows.{rows_well_formed, words_of, rows_from}
+use Rattle.calculus.specs.Demand.{demand}
 use Rattle.instance.specs.Sound.{sound, rows, header_for, MeansCounts, tally, scanned}
 use Rattle.instance.specs.InstanceWellFormed.{InstanceWellFormed}
 use Rattle.instance.specs.RowCounts.{row_counts}
@@ -88,27 +92,37 @@ count_low h ws e r l =
     omega (arith, (counts_mean h ws e).stand r l, tuples_le r (rows h ws), rows_at_most (rows h ws), ap length g.words, g.in_use, g.few)
 
 -- what a scan's result says
-pub scanned-sound : (h : Header) (ws : List ℕ) (k : ℕ) → scanned h ws ≡ Rows k → sound h ws ≡ true
+pub scanned-sound : (h : Header) (ws : List ℕ) (k : ℕ) → scanned h ws ≡ Ok k → sound h ws ≡ true
 unfolding scanned
 scanned-sound h ws k e = go (sound h ws) _ e
   where
-    go : (b : Bool) (n : ℕ) → tally b n ≡ Rows k → b ≡ true
+    go : (b : Bool) (n : ℕ) → tally b n ≡ Ok k → b ≡ true
     go true n q = refl
     go false n q = cc
 
-pub scanned-unsound : (h : Header) (ws : List ℕ) → scanned h ws ≡ Unsound → sound h ws ≡ false
+pub scanned-unsound : (h : Header) (ws : List ℕ) → scanned h ws ≡ Err Unsound → sound h ws ≡ false
 unfolding scanned
 scanned-unsound h ws e = go (sound h ws) _ e
   where
-    go : (b : Bool) (n : ℕ) → tally b n ≡ Unsound → b ≡ false
+    go : (b : Bool) (n : ℕ) → tally b n ≡ Err Unsound → b ≡ false
     go true n q = cc
     go false n q = refl
 
+-- a scan's refusal is that of any call that scans first
+pub scan_refused : (h : Header) (ws : List ℕ) (a : Answer) (r : Refusal) → scanned h ws ≡ Err r
+    → demand (sound h ws) (Err Unsound) a ≡ Err r
+unfolding scanned
+scan_refused h ws a r e = go (sound h ws) _ e
+  where
+    go : (b : Bool) (n : ℕ) → tally b n ≡ Err r → demand b (Err Unsound) a ≡ Err r
+    go true n q = cc
+    go false n q = q
+
 -- the number of rows that a scan returns
-pub scanned-rows : (h : Header) (ws : List ℕ) (k : ℕ) → scanned h ws ≡ Rows k → length (rows h ws) ≡ k
+pub scanned-rows : (h : Header) (ws : List ℕ) (k : ℕ) → scanned h ws ≡ Ok k → length (rows h ws) ≡ k
 unfolding scanned
 scanned-rows h ws k e = go (sound h ws) e
   where
-    go : (b : Bool) → tally b (length (rows h ws)) ≡ Rows k → length (rows h ws) ≡ k
+    go : (b : Bool) → tally b (length (rows h ws)) ≡ Ok k → length (rows h ws) ≡ k
     go true q = cc
     go false q = cc

@@ -1,6 +1,6 @@
 -- What each call of an instance tells, in the paper's numbers, if its answer is the definition's. Assumes nothing.
 use Prim.Native.Nat.{ℕ}
-use mathlib.Core.Path.{◌≡◌, refl, ap, ◌∙◌}
+use mathlib.Core.Path.{◌≡◌, refl, ◌∙◌}
 use mathlib.Core.Bool.{Bool, true, false}
 use mathlib.Core.List.{List}
 use lib.ListN.{length}
@@ -13,8 +13,7 @@ use Rattle.calculus.specs.Fill.{Logging, held}
 use Rattle.calculus.specs.declared.refusal.Refusal.TheVariants.{Unsound, OutputTooShort}
 use Rattle.calculus.proofs.Answers.{demand_done, two_demands, tells}
 use Rattle.instance.specs.declared.header.Header.{Header}
-use Rattle.instance.specs.declared.scan.Scanned.{Scanned}
-use Rattle.instance.specs.Sound.{sound, rows, tally, scanned, scanned_as, sound_answer}
+use Rattle.instance.specs.Sound.{sound, rows, tally, scanned, sound_answer}
 use Rattle.instance.specs.Insert.{inserted, inserted_header}
 use Rattle.instance.specs.Substitute.{substituted}
 use Rattle.instance.specs.NullCounts.{counted}
@@ -23,13 +22,13 @@ use Rattle.instance.proofs.Kept.{entered_used}
 use Rattle.calculus.specs.Demand.{demand}
 
 module _ (h : Header) (ws : List ℕ) where
-  pub scan_told : {r : Scanned} → r ≡ scanned h ws → (r ≡ scanned h ws) × Tells (scanned_as r) (sound_answer h ws) (length (rows h ws))
+  pub scan_told : {r : Answer} → r ≡ scanned h ws → (r ≡ scanned h ws) × Tells r (sound_answer h ws) (length (rows h ws))
   unfolding scanned
   scan_told e =
       let n = length (rows h ws) in
-      (e, tells n (ap scanned_as e ∙ is (sound h ws) n) (λ k d. let f : Ok n ≡ Ok k = (demand_done (sound h ws) Unsound (Ok n) k d).1 in cc))
+      (e, tells n (e ∙ is (sound h ws) n) (λ k d. let f : Ok n ≡ Ok k = (demand_done (sound h ws) Unsound (Ok n) k d).1 in cc))
     where
-      is : (b : Bool) (n : ℕ) → scanned_as (tally b n) ≡ demand b (Err Unsound) (Ok n)
+      is : (b : Bool) (n : ℕ) → tally b n ≡ demand b (Err Unsound) (Ok n)
       is true n = refl
       is false n = refl
 

@@ -7,12 +7,5 @@ use calculus::cell::is_cell;
 pub fn are_cells(cells: &[u32]) -> bool
     ensures { result ≡ are_cells cells.now }
 {
-    let mut i = 0;
-    while i < cells.len() {
-        if !is_cell(cells[i]) {
-            return false;
-        }
-        i += 1;
-    }
-    true
+    cells.iter().all(|cell| is_cell(*cell))
 }

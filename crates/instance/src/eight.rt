@@ -9,22 +9,14 @@ pub fn eight(words: &[u32], at: usize) -> [u32; 8]
     ensures { result ≡ take max_relations (drop at words.now) }
 {
     let mut values = [0u32; 8];
-    let mut i = 0;
-    while i < 8 {
-        values[i] = words[at + i];
-        i += 1;
-    }
+    values.copy_from_slice(&words[at..at + 8]);
     values
 }
 
 // Writes eight words from index `at`; the other words stay.
 pub fn put_eight(words: &mut [u32], at: usize, values: &[u32; 8])
-    requires { (at + max_relations ≤ length words.old) × (length values.now ≡ max_relations) }
+    requires { at + max_relations ≤ length words.old }
     ensures { words.new ≡ paste words.old at values.now max_relations }
 {
-    let mut i = 0;
-    while i < 8 {
-        words[at + i] = values[i];
-        i += 1;
-    }
+    words[at..at + 8].copy_from_slice(values);
 }

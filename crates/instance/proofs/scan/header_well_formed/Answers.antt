@@ -1,69 +1,46 @@
--- `instance::scan::header_well_formed` meets its contract: the first i arities are well formed, so the others decide. Assumes nothing.
-use Prim.Native.Nat.{ℕ, ◌≤◌, ◌<◌, ◌-◌, ◌+◌}
-use mathlib.Core.Path.{◌≡◌, ◌∙◌}
-use native.Mathlib.Omega.{arith}
-use borrow.Author.Tests.{le-leb, lt-leb, eq-eqb, ne_eqb}
-use lib.ListN.{length, drop, get_or}
-use lib.Seq.{drop-length}
+-- `instance::scan::header_well_formed` meets its contract: both parts of the arities are tested by a chain. Assumes nothing.
+use Rattle.std.proofs.Common.{◌≡◌, ◌∙◌, sym, rules, Bool, true, false, ◌&&◌, List, ℕ, ◌≤◌, length, take, drop, arith}
 use lib.Dec.{eqb}
-use mathlib.Core.Bool.{◌&&◌}
-use mathlib.Core.List.{List}
-use native.Mathlib.Nat.{sub-zero}
-use Rattle.instance.specs.Header.{header_well_formed, arities_well_formed, is_arity}
-use Rattle.instance.proofs.ScanSteps.{arities_with, arities-without}
+use borrow.Author.Tests.{tests, leb-true}
+use Rattle.std.specs.List.{list_all}
+use Rattle.std.proofs.lemmas.Iterator.{YieldsList-from_slice}
+use Rattle.std.proofs.lemmas.Iterator.Search.{all_from_yields_List}
+use Rattle.calculus.proofs.Bools.{and_parts}
+use Rattle.instance.specs.Header.{header_well_formed, is_arity, is_count}
+use Rattle.instance.proofs.ScanSteps.{arities_split}
 use Rattle.instance.proofs.scan.header_well_formed.Goals as goal
-use Rattle.instance.proofs.scan.header_well_formed.Goals.{In-loop-i, else-i-relations+else-a-ne0, then-i-relations+else-a-lt1+else-a-gt-COLUMNS}
+use Rattle.instance.proofs.scan.header_well_formed.Goals.{After-all}
 
-pub returns-then-relations-lt1 : goal.returns-then-relations-lt1
+pub returns-then-not-is_count : goal.returns-then-not-is_count
 unfolding header_well_formed
-returns-then-relations-lt1 c = simp (lt-leb _ _ c.if-relations-lt1.true)
+returns-then-not-is_count c = let h : is_count c.args.relations ≡ false = cc in rw h
 
-pub returns-then-relations-gt-RELATIONS : goal.returns-then-relations-gt-RELATIONS
+both_parts : (n : ℕ) (ars : List ℕ) (b : Bool) → is_count n ≡ true → 8 ≤ length ars
+    → b ≡ (list_all is_arity (take n ars) && list_all (λ a. eqb a 0) (drop n ars)) → b ≡ header_well_formed n ars
 unfolding header_well_formed
-returns-then-relations-gt-RELATIONS c = simp (le-leb _ _ c.if-relations-lt1.false, lt-leb _ _ c.if-relations-gt-RELATIONS.true)
+both_parts n ars b e l f =
+    let few = leb-true n 8 (and_parts _ _ e).1 in f ∙ sym (arities_split n ars (omega arith)) ∙ rw e
 
-pub loop-i-init : goal.loop-i-init
-unfolding header_well_formed
-loop-i-init c = (omega arith, simp (le-leb _ _ c.if-relations-lt1.false, le-leb _ _ c.if-relations-gt-RELATIONS.false, sub-zero))
+-- what the first chain tells
+module _ (c : After-all) where
+  first : c.all.result ≡ list_all is_arity (take c.args.relations c.args.arities.now)
+  first =
+      all_from_yields_List is_arity _ _ _ c.all.ensures.ran
+      (YieldsList-from_slice (take c.args.relations c.args.arities.now) cc)
+      (λ x b q k. search (rules, tests))
 
--- whether the header is well formed, by the arity at index i and those after it
-module _ (c : In-loop-i) where
-  abbrev n : ℕ
-  n = c.args.relations
+pub returns-then-all : goal.returns-then-all
+returns-then-all c =
+    let b = (goal.at.returns-then-all c).After-all in
+    let counted : is_count c.args.relations ≡ true = cc in
+    let second = all_from_yields_List (λ a. eqb a 0) _ _ _ c.all-then-all.ensures.ran
+    (YieldsList-from_slice (drop c.args.relations c.args.arities.now) cc) (λ x b q k. search (rules, tests)) in
+    both_parts c.args.relations c.args.arities.now _ counted (omega arith)
+    (second ∙ rw (sym (first b) ∙ c.if-all.true))
 
-  abbrev ars : List ℕ
-  ars = c.args.arities.now
-
-  abbrev here : ℕ
-  here = c.loop-i.i
-
-  within : here < length ars
-  within = omega (arith, c.requires)
-
-  with_columns : here < n → header_well_formed n ars ≡ is_arity (get_or ars here 0) && arities_well_formed (n - (here + 1)) (drop (here + 1) ars)
-  with_columns l = c.loop-i.invariant.1 ∙ arities_with n ars here within l
-
-  without : n ≤ here → header_well_formed n ars ≡ eqb (get_or ars here 0) 0 && arities_well_formed (n - (here + 1)) (drop (here + 1) ars)
-  without l = c.loop-i.invariant.1 ∙ arities-without n ars here within l
-
-pub returns-then-a-lt1 : goal.returns-then-a-lt1
-returns-then-a-lt1 c = rw (with_columns (goal.at.returns-then-a-lt1 c).In-loop-i c.if-i-relations.true) (simp (lt-leb _ _ c.if-a-lt1.true))
-
-pub returns-then-a-gt-COLUMNS : goal.returns-then-a-gt-COLUMNS
-returns-then-a-gt-COLUMNS c = rw (with_columns (goal.at.returns-then-a-gt-COLUMNS c).In-loop-i c.if-i-relations.true) (simp (le-leb _ _ c.if-a-lt1.false, lt-leb _ _ c.if-a-gt-COLUMNS.true))
-
-pub returns-then-a-ne0 : goal.returns-then-a-ne0
-returns-then-a-ne0 c = rw (without (goal.at.returns-then-a-ne0 c).In-loop-i c.if-i-relations.false) (simp (ne_eqb _ _ c.if-a-ne0.true))
-
-pub loop-i-preserved : goal.loop-i-preserved
-loop-i-preserved c = (
-  omega arith,
-  (elim c.if-i-relations.branch [ then-i-relations+else-a-lt1+else-a-gt-COLUMNS w ↦ with_columns (goal.at.loop-i-preserved c).In-loop-i w.if-i-relations.true ∙ simp (le-leb _ _ w.if-a-lt1.false, le-leb _ _ w.if-a-gt-COLUMNS.false) | else-i-relations+else-a-ne0 w ↦ without (goal.at.loop-i-preserved c).In-loop-i w.if-i-relations.false ∙ simp (eq-eqb _ _ w.if-a-ne0.false) ]),
-)
-
-pub returns : goal.returns
-unfolding arities_well_formed
-returns c =
-    let e : c.loop-i.i ≡ length c.args.arities.now = omega (arith, c.requires) in
-    let z : c.args.relations - c.loop-i.i ≡ 0 = omega arith in
-    rw (c.loop-i.invariant.1, z, e, drop-length)
+pub returns-else-all : goal.returns-else-all
+returns-else-all c =
+    let b = (goal.at.returns-else-all c).After-all in
+    let counted : is_count c.args.relations ≡ true = cc in
+    both_parts c.args.relations c.args.arities.now _ counted (omega arith)
+    (c.if-all.false ∙ rw (sym (first b) ∙ c.if-all.false))

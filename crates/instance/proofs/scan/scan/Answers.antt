@@ -9,7 +9,6 @@ use lib.Seq.{length-take-le}
 use Rattle.instance.specs.Sound.{sound, rows, scanned, scanned_words}
 use Rattle.instance.specs.Header.{header_well_formed}
 use Rattle.instance.proofs.Told.{scan_told}
-use borrow.Author.Rules.{rules}
 use Rattle.instance.proofs.scan.scan.Goals as goal
 use Rattle.instance.proofs.scan.scan.Goals.{After-header_well_formed, Else-not-header_well_formed}
 
@@ -39,7 +38,7 @@ well_formed : (c : Else-not-header_well_formed) → header_well_formed c.args.he
 well_formed c = sym c.header_well_formed.ensures ∙ not-false _ c.if-not-header_well_formed.false-raw
 
 pub scan_words-requires : goal.scan_words-requires
-scan_words-requires c = (well_formed (goal.at.scan_words-requires c).Else-not-header_well_formed, simp (length-take) (omega arith), search rules)
+scan_words-requires c = (well_formed (goal.at.scan_words-requires c).Else-not-header_well_formed, simp (length-take) (omega arith))
 
 pub returns : goal.returns
 unfolding scanned sound scanned_words rows

@@ -5,12 +5,12 @@ use mathlib.Core.Bool.{Bool, true, false, cond}
 use mathlib.Core.List.{List}
 use native.Mathlib.Nat.{zero-add}
 use native.Mathlib.Omega.{arith}
-use borrow.Author.Rules.{rules}
 use borrow.Author.Tests.{lt-ltb, le-ltb, not-true, not-false}
 use lib.ListN.{length, take, drop, get_or, set, length-drop}
 use lib.Seq.{drop-length, drop-drop}
 use lib.Dec.{ltb}
-use Rattle.instance.specs.declared.scan.Scanned.TheVariants.{Rows, Unsound}
+use Rattle.std.specs.Prelude.{Err}
+use Rattle.calculus.specs.declared.refusal.Refusal.TheVariants.{Unsound}
 use Rattle.instance.specs.Header.{arity_of, max_relations, max_words}
 use Rattle.instance.specs.Rows.{are_cells, rows_from}
 use Rattle.instance.specs.RowCounts.{row_counts, sum_of}
@@ -24,7 +24,7 @@ use Rattle.calculus.specs.Closed.{identical}
 use Rattle.calculus.proofs.Lists.{drop_step}
 use Rattle.instance.proofs.scan.scan_words.Goals as goal
 use Rattle.instance.proofs.scan.scan_words.Lts.View.{up-In-loop-i, up-Joined-w-relation}
-use Rattle.instance.proofs.scan.scan_words.Goals.{After-are_cells, After-loop-i, Else-not-same_counts, Else-relations-w, In-loop-i, Joined-w-relation, Start, else-w-relation, then-w-relation+else-relations-w}
+use Rattle.instance.proofs.scan.scan_words.Goals.{After-are_cells, After-loop-i, Else-relations-w, In-loop-i, Joined-w-relation, Start, else-w-relation, then-w-relation+else-relations-w}
 
 pub overflow_cast-arity : goal.overflow_cast-arity
 overflow_cast-arity c = omega (arith, (headed _ _ c.requires.0).narrow 0)
@@ -65,25 +65,25 @@ module _ (c : In-loop-i) where
   abbrev well_formed : Headed n ars
   well_formed = headed n ars c.requires.0
 
-  at_row : (b : Bool) → ltb w n ≡ b → scanned_words n ars counts ws ≡ cond b (scan_from n ars right (k + 1) (arity_of ars w) behind) Unsound
+  at_row : (b : Bool) → ltb w n ≡ b → scanned_words n ars counts ws ≡ cond b (scan_from n ars right (k + 1) (arity_of ars w) behind) (Err Unsound)
   at_row b e =
       c.loop-i.invariant.2
       ∙ ap (scan_from n ars right k 0) (drop_step ws i (omega arith))
       ∙ scan_row n ars right k w behind
-      ∙ ap (λ (b : Bool). cond b (scan_from n ars right (k + 1) (arity_of ars w) behind) Unsound) e
+      ∙ ap (λ (b : Bool). cond b (scan_from n ars right (k + 1) (arity_of ars w) behind) (Err Unsound)) e
 
   -- its cells
   module _ (known : w < n) where
-    too_few : length ws < i + 1 + arity_of ars w → scanned_words n ars counts ws ≡ Unsound
+    too_few : length ws < i + 1 + arity_of ars w → scanned_words n ars counts ws ≡ Err Unsound
     too_few l = at_row true (lt-ltb w n known) ∙ scan_short n ars right (k + 1) (arity_of ars w) behind (omega (arith, length-drop (i + 1) ws))
 
     past : (b : Bool) → i + 1 + arity_of ars w ≤ length ws → are_cells (take (arity_of ars w) behind) ≡ b
-        → scanned_words n ars counts ws ≡ cond b (scan_from n ars right (k + 1) 0 (drop (i + 1 + arity_of ars w) ws)) Unsound
+        → scanned_words n ars counts ws ≡ cond b (scan_from n ars right (k + 1) 0 (drop (i + 1 + arity_of ars w) ws)) (Err Unsound)
     past b l e =
         at_row true (lt-ltb w n known)
         ∙ scan_cells n ars right (k + 1) (arity_of ars w) behind (omega (arith, length-drop (i + 1) ws))
-        ∙ ap (λ (b : Bool). cond b (scan_from n ars right (k + 1) 0 (drop (arity_of ars w) behind)) Unsound) e
-        ∙ ap (λ (ws : List ℕ). cond b (scan_from n ars right (k + 1) 0 ws) Unsound) (drop-drop (arity_of ars w) (i + 1) ws)
+        ∙ ap (λ (b : Bool). cond b (scan_from n ars right (k + 1) 0 (drop (arity_of ars w) behind)) (Err Unsound)) e
+        ∙ ap (λ (ws : List ℕ). cond b (scan_from n ars right (k + 1) 0 ws) (Err Unsound)) (drop-drop (arity_of ars w) (i + 1) ws)
 
 pub returns-then-relations-w : goal.returns-then-relations-w
 returns-then-relations-w c = sym (at_row (goal.at.returns-then-relations-w c).In-loop-i false (le-ltb _ _ c.if-relations-w.true))
@@ -196,18 +196,8 @@ module _ (c : After-loop-i) where
       c.loop-i.invariant.2 ∙ ap (scan_from _ _ _ _ 0) (ap (λ (k : ℕ). drop k c.args.words.now) ends ∙ drop-length c.args.words.now) ∙ scan_end _ _ _ _ ∙
       ap (λ (x : Bool). tally x (sum_of c.loop-i.found)) (ap (identical c.args.counts.now) (sym found_is) ∙ e)
 
-pub same_counts-requires : goal.same_counts-requires
-same_counts-requires c = (search rules, search rules)
-
-pub returns-then-not-same_counts : goal.returns-then-not-same_counts
-returns-then-not-same_counts c = sym (scanned-is (goal.at.returns-then-not-same_counts c).After-loop-i false (sym c.same_counts.ensures ∙ not-true _ c.if-not-same_counts.true-raw))
-
-pub all_rows-requires : goal.all_rows-requires
-all_rows-requires c =
-    let loop = c.loop-i in
-    (search rules, omega (arith, loop.invariant.0, loop.invariant.1, c.requires.1))
+pub tally-requires : goal.tally-requires
+tally-requires c = let loop = c.loop-i in omega (arith, loop.invariant.0, loop.invariant.1, c.requires.1)
 
 pub returns : goal.returns
-returns c =
-    let e = (goal.at.returns c).Else-not-same_counts in
-    ap Rows c.all_rows.ensures ∙ sym (scanned-is (goal.at.returns c).After-loop-i true (sym c.same_counts.ensures ∙ not-false _ c.if-not-same_counts.false-raw))
+returns c = c.tally.ensures ∙ sym (scanned-is (goal.at.returns c).After-loop-i _ refl)
