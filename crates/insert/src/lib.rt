@@ -2,38 +2,36 @@
 
 #![tactic(auto)]
 
-ghost use Rattle.std.specs.Prelude.{◌≡◌, ◌+◌, ◌≤◌, ◌<◌, ◌∷◌, ◌++◌, length, drop};
+ghost use Rattle.std.specs.Prelude.{◌≡◌, ◌+◌, ◌≤◌, ◌∷◌, ◌++◌, length, drop};
 ghost use Rattle.calculus.specs.Answer.{Tells};
 ghost use Rattle.instance.specs.Insert.{inserted, inserted_header, inserted_words};
 
 use calculus::answer::Answer;
-use calculus::refusal::{NO_ROOM, NO_SUCH_RELATION, NOT_A_CELL, UNSOUND, WRONG_ROW_LENGTH};
+use calculus::refusal::Refusal;
 use instance::cells::are_cells;
-use instance::header::{Header, Stored, header_with};
+use instance::header::Header;
 use instance::room::has_room;
-use instance::scan::{Scanned, scan};
+use instance::scan::scan;
 
 fn check_insert(header: Header, instance: &[u32], relation: u32, cells: &[u32]) -> Answer
     ensures { result ≡ inserted header instance.now relation cells.now }
 {
-    let Scanned::Rows(_) = scan(header, instance) else {
-        return Answer::Refused(UNSOUND);
-    };
+    scan(header, instance)?;
     if header.relations <= relation {
-        return Answer::Refused(NO_SUCH_RELATION);
+        return Err(Refusal::NoSuchRelation);
     }
     let arities = header.arities;
     if cells.len() != arities[relation as usize] as usize {
-        return Answer::Refused(WRONG_ROW_LENGTH);
+        return Err(Refusal::WrongRowLength);
     }
     if !are_cells(cells) {
-        return Answer::Refused(NOT_A_CELL);
+        return Err(Refusal::NotACell);
     }
     let used = header.used as usize + (1 + cells.len());
     if !has_room(used, instance.len()) {
-        return Answer::Refused(NO_ROOM);
+        return Err(Refusal::NoRoom);
     }
-    Answer::Done(used as u32)
+    Ok(used as u32)
 }
 
 // Writes a row's words at the start of a part of the instance.
@@ -42,32 +40,20 @@ fn write_row(part: &mut [u32], relation: u32, cells: &[u32])
     ensures { part.new ≡ relation ∷ cells.now ++ drop (1 + length cells.now) part.old }
 {
     part[0] = relation;
-    let mut i = 0;
-    while i < cells.len() {
-        part[i + 1] = cells[i];
-        i += 1;
-    }
+    part[1..1 + cells.len()].copy_from_slice(cells);
 }
 
 // Inserts a row after the words in use.
-pub fn insert(header: Header, instance: &mut [u32], relation: u32, cells: &[u32]) -> Stored
-    ensures answer { result.answer ≡ inserted header instance.old relation cells.now }
-    ensures header { result.header ≡ inserted_header header instance.old relation cells.now }
-    ensures words { instance.new ≡ inserted_words header instance.old relation cells.now }
-    ensures told { Tells result.answer (inserted header instance.old relation cells.now) (inserted_header header instance.old relation cells.now).used }
+pub fn insert(header: &mut Header, instance: &mut [u32], relation: u32, cells: &[u32]) -> Answer
+    ensures answer { result ≡ inserted header.old instance.old relation cells.now }
+    ensures header { header.new ≡ inserted_header header.old instance.old relation cells.now }
+    ensures words { instance.new ≡ inserted_words header.old instance.old relation cells.now }
+    ensures told { Tells result (inserted header.old instance.old relation cells.now)
+        (inserted_header header.old instance.old relation cells.now).used }
 {
-    let answer = check_insert(header, instance, relation, cells);
-    let Answer::Done(used) = answer else {
-        return Stored { answer, header };
-    };
-    let at = header.used as usize;
-    write_row(&mut instance[at..], relation, cells);
-    let arities = header.arities;
-    let mut counts = header.counts;
-    counts[relation as usize] += 1;
-    let grown = header_with(header.relations, arities, used, counts);
-    Stored {
-        answer,
-        header: grown,
-    }
+    let used = check_insert(*header, instance, relation, cells)?;
+    write_row(&mut instance[header.used as usize..], relation, cells);
+    header.used = used;
+    header.counts[relation as usize] += 1;
+    Ok(used)
 }

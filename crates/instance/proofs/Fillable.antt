@@ -9,7 +9,7 @@ use lib.ListN.{drop}
 use lib.Dec.{leb}
 use Rattle.calculus.specs.declared.refusal.Refusal.{Refusal}
 use Rattle.calculus.specs.Answer.{Answer}
-use Rattle.std.specs.Prelude.{Ok, Err}
+use Rattle.std.specs.Prelude.{Result, Ok, Err}
 use Rattle.calculus.specs.Cell.{nulls, is_cell, is_mark}
 use Rattle.calculus.specs.Demand.{demand}
 use Rattle.calculus.specs.Fill.{Logging, has_room_for, held, substitute}
@@ -28,12 +28,12 @@ module _ (h : Header) (ws : List ℕ) (m c : ℕ) where
     pub high : m ≤ nulls
     pub cell : is_cell c ≡ true
 
-  pub fillable_met : (k : ℕ) → fillable h ws m c ≡ Ok k → Fillable
+  pub fillable_met : fillable h ws m c ≡ Ok tt → Fillable
   unfolding fillable
-  fillable_met k e =
-      let a = demand_done (sound h ws) _ _ k e in
-      let b = demand_done (is_mark m) _ _ k a.1 in
-      let d = demand_done (is_cell c) NotACell (Ok 0) k b.1 in
+  fillable_met e =
+      let a = demand_done (sound h ws) _ _ tt e in
+      let b = demand_done (is_mark m) _ _ tt a.1 in
+      let d = demand_done (is_cell c) NotACell (Ok tt) tt b.1 in
       record { is_sound = a.0; mark = b.0; high = leb-true m nulls (and_parts (leb 1 m) (leb m nulls) b.0).1; cell = d.0 }
 
   -- refused before the count: the fill is refused with the same number
@@ -42,11 +42,11 @@ module _ (h : Header) (ws : List ℕ) (m c : ℕ) where
   early_refused l r e = go (sound h ws) (is_mark m) (is_cell c) e _
     where
       go :
-          (x y z : Bool) → demand {A = Answer} x (Err Unsound) (demand y (Err NoSuchNull) (demand z (Err NotACell) (Ok 0))) ≡ Err r →
+          (x y z : Bool) → demand {A = Result Unit Refusal} x (Err Unsound) (demand y (Err NoSuchNull) (demand z (Err NotACell) (Ok tt))) ≡ Err r →
           (a : Answer) → demand x (Err Unsound) (demand y (Err NoSuchNull) (demand z (Err NotACell) a)) ≡ Err r
-      go false y z q a = q
-      go true false z q a = q
-      go true true false q a = q
+      go false y z q a = cc
+      go true false z q a = cc
+      go true true false q a = cc
       go true true true q a = cc
 
   module _ (f : Fillable) (l : Logging) where

@@ -7,7 +7,7 @@ use native.Mathlib.Omega.{arith}
 use borrow.Author.Tests.{leb-true, ltb-true, ltb-false}
 use lib.ListN.{length, take, get_or, get_or-eq_default}
 use lib.Seq.{length-take-le}
-use Rattle.std.specs.Prelude.{Ok, Err}
+use Rattle.std.specs.Prelude.{Result, Ok, Err}
 use Rattle.calculus.specs.declared.refusal.Refusal.{Refusal}
 use Rattle.calculus.specs.declared.refusal.Refusal.TheVariants.{Unsound}
 use Rattle.calculus.specs.Answer.{Answer}
@@ -109,14 +109,14 @@ scanned-unsound h ws e = go (sound h ws) _ e
     go false n q = refl
 
 -- a scan's refusal is that of any call that scans first
-pub scan_refused : (h : Header) (ws : List ℕ) (a : Answer) (r : Refusal) → scanned h ws ≡ Err r
+pub scan_refused : {A : Type 0} (h : Header) (ws : List ℕ) (a : Result A Refusal) (r : Refusal) → scanned h ws ≡ Err r
     → demand (sound h ws) (Err Unsound) a ≡ Err r
 unfolding scanned
-scan_refused h ws a r e = go (sound h ws) _ e
+scan_refused {A} h ws a r e = go (sound h ws) _ e
   where
-    go : (b : Bool) (n : ℕ) → tally b n ≡ Err r → demand b (Err Unsound) a ≡ Err r
+    go : (b : Bool) (n : ℕ) → tally b n ≡ Err r → demand {A = Result A Refusal} b (Err Unsound) a ≡ Err r
     go true n q = cc
-    go false n q = q
+    go false n q = cc
 
 -- the number of rows that a scan returns
 pub scanned-rows : (h : Header) (ws : List ℕ) (k : ℕ) → scanned h ws ≡ Ok k → length (rows h ws) ≡ k

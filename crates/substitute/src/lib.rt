@@ -11,28 +11,23 @@ ghost use Rattle.instance.specs.Sound.{rows};
 ghost use Rattle.instance.specs.Substitute.{fillable, substituted, substituted_words};
 
 use calculus::answer::Answer;
-use calculus::cell::{CONSTANTS, NULLS, is_cell};
-use calculus::refusal::{NO_SUCH_NULL, NOT_A_CELL, NULL_ABSENT, UNSOUND};
+use calculus::cell::{CONSTANTS, is_cell, is_mark};
+use calculus::refusal::Refusal;
 use instance::header::Header;
-use instance::scan::{Scanned, scan};
+use instance::scan::scan;
 
 // Tests what comes before a null's cells are counted, for fills with a log and without.
-pub fn test_fill(header: Header, instance: &[u32], mark: u32, cell: u32) -> Answer
+pub fn test_fill(header: Header, instance: &[u32], mark: u32, cell: u32) -> Result<(), Refusal>
     ensures { result ≡ fillable header instance.now mark cell }
 {
-    let Scanned::Rows(_) = scan(header, instance) else {
-        return Answer::Refused(UNSOUND);
-    };
-    if mark < 1 {
-        return Answer::Refused(NO_SUCH_NULL);
-    }
-    if NULLS < mark {
-        return Answer::Refused(NO_SUCH_NULL);
+    scan(header, instance)?;
+    if !is_mark(mark) {
+        return Err(Refusal::NoSuchNull);
     }
     if !is_cell(cell) {
-        return Answer::Refused(NOT_A_CELL);
+        return Err(Refusal::NotACell);
     }
-    Answer::Done(0)
+    Ok(())
 }
 
 // A relation's number is below every null, so the pass need not tell relation numbers from cells.
@@ -43,13 +38,11 @@ pub fn replace(words: &mut [u32], mark: u32, cell: u32) -> u32
 {
     let null = CONSTANTS + mark;
     let mut count: u32 = 0;
-    let mut i = 0;
-    while i < words.len() {
-        if words[i] == null {
-            words[i] = cell;
+    for word in words {
+        if *word == null {
+            *word = cell;
             count += 1;
         }
-        i += 1;
     }
     count
 }
@@ -60,14 +53,11 @@ pub fn substitute(header: Header, instance: &mut [u32], mark: u32, cell: u32) ->
     ensures words { instance.new ≡ substituted_words header instance.old unlogged mark cell }
     ensures told { Tells result (substituted header instance.old unlogged mark cell) (held mark (rows header instance.old)) }
 {
-    let tested = test_fill(header, instance, mark, cell);
-    let Answer::Done(_) = tested else {
-        return tested;
-    };
+    test_fill(header, instance, mark, cell)?;
     let used = header.used as usize;
     let count = replace(&mut instance[..used], mark, cell);
     if count == 0 {
-        return Answer::Refused(NULL_ABSENT);
+        return Err(Refusal::NullAbsent);
     }
-    Answer::Done(count)
+    Ok(count)
 }

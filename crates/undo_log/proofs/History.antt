@@ -16,6 +16,7 @@ use Rattle.calculus.specs.Cell.{null, is_mark, is_cell, put}
 use Rattle.calculus.specs.Demand.{demand}
 use Rattle.calculus.specs.Fill.{Logging, into_log, entry_length, held, substitute}
 use Rattle.calculus.specs.Overwrite.{overwrite}
+use Rattle.calculus.specs.declared.refusal.Refusal.{Refusal}
 use Rattle.calculus.specs.declared.refusal.Refusal.TheVariants.{LogEmpty, BadLog}
 use Rattle.calculus.specs.Refusal.{bad_log}
 use Rattle.calculus.specs.Row.{Row}
@@ -44,7 +45,7 @@ use Rattle.undo_log.specs.History.{fills_in, HistoryHolds, NeverBad, EmptyIfNoFi
 use Rattle.undo_log.proofs.Places.{filled-places, put_back}
 use Rattle.undo_log.proofs.Entries.{entry_length_lem, entry_used, entry-within, entry-count, entry-mark, entry_front, entry-places, entry-before}
 
-refused_not_done : {A : Type 0} {r k : ℕ} → Err r ≡ Ok k → A
+refused_not_done : {A : Type 0} {r : Refusal} {k : ℕ} → Err r ≡ Ok k → A
 refused_not_done e = let z : ◌≡◌ {A = ℕ} 0 1 = cc in absurd (zero_not_one z)
 
 -- ---- events of accepted steps
@@ -225,7 +226,7 @@ module _ (h : Header) (ws log : List ℕ) (is_sound : sound h ws ≡ true) where
       unfolding substituted
       fill-says = simp (g.is_sound, g.holds, g.log_size, g.used)
 
-      fill-refused : (r : ℕ) → logged s.header s.words s.log s.used m c ≡ Err r → Follows h ws log es (step_state (fills m c) s)
+      fill-refused : (r : Refusal) → logged s.header s.words s.log s.used m c ≡ Err r → Follows h ws log es (step_state (fills m c) s)
       unfolding logged_log logged_used
       fill-refused r e = same _ _ _ _ refl (words-refused _ _ kind m c r e) (simp e) (simp e)
 
@@ -278,7 +279,7 @@ module _ (h : Header) (ws log : List ℕ) (is_sound : sound h ws ≡ true) where
       unfolding inserted
       insert_says = rw (g.is_sound, g.size) (ap (λ (x : Header). enterable x r.relation r.cells (length ws)) g.header)
 
-      insert_refused : (k : ℕ) → inserted s.header s.words r.relation r.cells ≡ Err k → Follows h ws log es (step_state (inserts r) s)
+      insert_refused : (k : Refusal) → inserted s.header s.words r.relation r.cells ≡ Err k → Follows h ws log es (step_state (inserts r) s)
       unfolding inserted_header inserted_words
       insert_refused k e = same _ _ _ _ (simp e) (simp e) refl refl
 
@@ -329,7 +330,7 @@ module _ (h : Header) (ws log : List ℕ) (is_sound : sound h ws ≡ true) where
         undo-by s.header s.words s.log s.used (rows h ws) (drop (length (words_of (R es))) ws) g.is_sound h.relations h.arities es [] a
         (g.holds ∙ none) (g.words ∙ ap (λ (x : List Row). words_of x ++ drop (length (words_of (R es))) ws) none) g.used g.entries
 
-    undo_refused : (r : ℕ) → undo_by es (rows h ws) ≡ Err r → Follows h ws log es (step_state undoes s)
+    undo_refused : (r : Refusal) → undo_by es (rows h ws) ≡ Err r → Follows h ws log es (step_state undoes s)
     unfolding undone_words undone_used
     undo_refused r e = let u = back.says ∙ e in same _ _ _ _ refl (simp u) refl (simp u)
 
@@ -411,36 +412,36 @@ history-holds h ws log ps is_sound = let e = all-steps h ws log is_sound ps in (
 
 -- ---- which refusals occur
 
--- a chain of demands with other numbers is not refused with 49
+-- a chain of demands with other refusals is not refused with 49
 module _ {a : Answer} where
-  not_bad : (b : Bool) (r : ℕ) → (r ≡ bad_log → ⊥) → (a ≡ Err BadLog → ⊥) → demand b (Err r) a ≡ Err BadLog → ⊥
+  not_bad : (b : Bool) (r : Refusal) → (r ≡ BadLog → ⊥) → (a ≡ Err BadLog → ⊥) → demand b (Err r) a ≡ Err BadLog → ⊥
   not_bad true r other more e = more e
   not_bad false r other more e = other (cc)
 
 done_not_bad : (k : ℕ) → Ok k ≡ Err BadLog → ⊥
-done_not_bad k e = let z : ◌≡◌ {A = ℕ} 0 1 = cc in zero_not_one z
+done_not_bad k e = cc
 
 undo_not_bad : (es : List Event) (rs : List Row) → undo_by es rs ≡ Err BadLog → ⊥
 unfolding undo_by
-undo_not_bad [] rs e = let z : ◌≡◌ {A = ℕ} LogEmpty BadLog = cc in omega arith
+undo_not_bad [] rs e = cc
 undo_not_bad (insertion r ∷ es) rs e = undo_not_bad es rs e
 undo_not_bad (filling m c ∷ es) rs e = done_not_bad _ e
 
 answer_not_bad : (h : Header) (ws log : List ℕ) (p : Step) (es : List Event) → answer_by h ws log p es ≡ Err BadLog → ⊥
 unfolding enterable
 answer_not_bad h ws log (fills m c) es =
-    not_bad (is_mark m) _ (λ e. omega arith)
-    (not_bad (is_cell c) _ (λ e. omega arith)
-    (not_bad (ltb 0 (held m (rows_by es (rows h ws)))) _ (λ e. omega arith)
-    (not_bad (leb (length (entries_by es (rows h ws)) + entry_length (held m (rows_by es (rows h ws)))) (length log)) _ (λ e. omega arith)
+    not_bad (is_mark m) _ (λ e. cc)
+    (not_bad (is_cell c) _ (λ e. cc)
+    (not_bad (ltb 0 (held m (rows_by es (rows h ws)))) _ (λ e. cc)
+    (not_bad (leb (length (entries_by es (rows h ws)) + entry_length (held m (rows_by es (rows h ws)))) (length log)) _ (λ e. cc)
     (done_not_bad _))))
 answer_not_bad h ws log undoes es = undo_not_bad es (rows h ws)
 answer_not_bad h ws log (inserts r) es =
     let used = length (words_of (rows_by es (rows h ws))) in
-    not_bad (ltb r.relation h.relations) _ (λ e. omega arith)
-    (not_bad (eqb (length r.cells) (arity_of h.arities r.relation)) _ (λ e. omega arith)
-    (not_bad (are_cells r.cells) _ (λ e. omega arith)
-    (not_bad (has_room (used + (1 + length r.cells)) (length ws)) _ (λ e. omega arith)
+    not_bad (ltb r.relation h.relations) _ (λ e. cc)
+    (not_bad (eqb (length r.cells) (arity_of h.arities r.relation)) _ (λ e. cc)
+    (not_bad (are_cells r.cells) _ (λ e. cc)
+    (not_bad (has_room (used + (1 + length r.cells)) (length ws)) _ (λ e. cc)
     (done_not_bad _))))
 
 -- what a step returns after a list of steps is what the history says

@@ -1,9 +1,9 @@
 -- Worked histories, as one table under one claim: what the calls return and leave, and what the history says of them.
+use Rattle.calculus.specs.declared.refusal.Refusal.TheVariants.{NoSuchNull, NullAbsent, LogTooShort, LogEmpty}
 use Rattle.std.specs.Prelude.{ℕ, ◌≡◌, List, [], ◌∷◌, ◌++◌, map, take, replicate}
 use Rattle.calculus.specs.Answer.{Answer}
 use Rattle.std.specs.Prelude.{Ok, Err}
 use Rattle.calculus.specs.Cell.{null}
-use Rattle.calculus.specs.Refusal.{no_such_null, null_absent, log_too_short, log_empty}
 use Rattle.calculus.specs.Row.{Row, cells_of}
 use Rattle.instance.specs.declared.header.Header.{Header}
 use Rattle.instance.specs.Rows.{words_of}
@@ -78,9 +78,9 @@ table =
     -- two cells are noted, by their places, the mark and their number
     case (m1 ∷ 8 ∷ m1 ∷ []) 4 (fills 1 5 ∷ []) (Ok 2 ∷ []) (5 ∷ 8 ∷ 5 ∷ []) (1 ∷ 5 ∷ 1 ∷ 2 ∷ [])
     -- the entry needs four words
-    ∷ case (m1 ∷ 8 ∷ m1 ∷ []) 3 (fills 1 5 ∷ []) (Err log_too_short ∷ []) (m1 ∷ 8 ∷ m1 ∷ []) []
+    ∷ case (m1 ∷ 8 ∷ m1 ∷ []) 3 (fills 1 5 ∷ []) (Err LogTooShort ∷ []) (m1 ∷ 8 ∷ m1 ∷ []) []
     -- taken back, the mark is in the cells that it left and in no other
-    ∷ case (m1 ∷ 5 ∷ m1 ∷ []) 4 (fills 1 5 ∷ undoes ∷ undoes ∷ []) (Ok 2 ∷ Ok 2 ∷ Err log_empty ∷ []) (m1 ∷ 5 ∷ m1 ∷ []) []
+    ∷ case (m1 ∷ 5 ∷ m1 ∷ []) 4 (fills 1 5 ∷ undoes ∷ undoes ∷ []) (Ok 2 ∷ Ok 2 ∷ Err LogEmpty ∷ []) (m1 ∷ 5 ∷ m1 ∷ []) []
     -- a fill does not reach a row that is inserted after it, and stays if a later one is taken back
     ∷ case (m1 ∷ []) 6 (fills 1 5 ∷ inserts (row m1) ∷ fills 1 7 ∷ undoes ∷ []) (Ok 1 ∷ Ok 4 ∷ Ok 1 ∷ Ok 1 ∷ []) (5 ∷ m1 ∷ []) (1 ∷ 1 ∷ 1 ∷ [])
     -- an insert is not taken back: the latest fill is
@@ -89,7 +89,7 @@ table =
     ∷ case (m1 ∷ m2 ∷ []) 7 (fills 1 m2 ∷ fills 2 m2 ∷ undoes ∷ undoes ∷ []) (Ok 1 ∷ Ok 2 ∷ Ok 2 ∷ Ok 1 ∷ []) (m1 ∷ m2 ∷ []) []
     -- refused steps add nothing
     ∷ case (m1 ∷ []) 3 (undoes ∷ fills 0 5 ∷ fills 2 5 ∷ fills 1 5 ∷ fills 1 5 ∷ undoes ∷ [])
-    (Err log_empty ∷ Err no_such_null ∷ Err null_absent ∷ Ok 1 ∷ Err null_absent ∷ Ok 1 ∷ []) (m1 ∷ []) []
+    (Err LogEmpty ∷ Err NoSuchNull ∷ Err NullAbsent ∷ Ok 1 ∷ Err NullAbsent ∷ Ok 1 ∷ []) (m1 ∷ []) []
     ∷ []
 
 abbrev pub WorkedHistories : Type 0

@@ -1,6 +1,6 @@
 -- `instance::scan::header_well_formed` meets its contract: both parts of the arities are tested by a chain. Assumes nothing.
 use Rattle.std.proofs.Common.{◌≡◌, ◌∙◌, sym, rules, Bool, true, false, ◌&&◌, List, ℕ, ◌≤◌, length, take, drop, arith}
-use lib.Dec.{eqb}
+use lib.Dec.{eqb, leb}
 use borrow.Author.Tests.{tests, leb-true}
 use Rattle.std.specs.List.{list_all}
 use Rattle.std.proofs.lemmas.Iterator.{YieldsList-from_slice}
@@ -19,7 +19,7 @@ both_parts : (n : ℕ) (ars : List ℕ) (b : Bool) → is_count n ≡ true → 8
     → b ≡ (list_all is_arity (take n ars) && list_all (λ a. eqb a 0) (drop n ars)) → b ≡ header_well_formed n ars
 unfolding header_well_formed
 both_parts n ars b e l f =
-    let few = leb-true n 8 (and_parts _ _ e).1 in f ∙ sym (arities_split n ars (omega arith)) ∙ rw e
+    let few : n ≤ 8 = leb-true n 8 (and_parts (leb 1 n) (leb n 8) e).1 in f ∙ sym (arities_split n ars (omega arith)) ∙ rw e
 
 -- what the first chain tells
 module _ (c : After-all) where
