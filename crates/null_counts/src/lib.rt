@@ -10,9 +10,9 @@ ghost use Rattle.instance.specs.NullCounts.{counted, counted_words, nulls_in};
 
 use calculus::answer::Answer;
 use calculus::cell::{CONSTANTS, NULLS};
-use calculus::refusal::{OUTPUT_TOO_SHORT, UNSOUND};
+use calculus::refusal::Refusal;
 use instance::header::Header;
-use instance::scan::{Scanned, scan};
+use instance::scan::scan;
 
 // The count of each null in words, in one pass.
 fn count_words(words: &[u32]) -> [u32; 200]
@@ -20,14 +20,11 @@ fn count_words(words: &[u32]) -> [u32; 200]
     ensures { result ≡ nulls_in words.now }
 {
     let mut counts = [0u32; 200];
-    let mut i = 0;
-    while i < words.len() {
-        let w = words[i];
+    for &w in words {
         if CONSTANTS < w && w <= CONSTANTS + NULLS {
             let k = (w - CONSTANTS - 1) as usize;
             counts[k] += 1;
         }
-        i += 1;
     }
     counts
 }
@@ -37,18 +34,12 @@ pub fn null_counts(header: Header, instance: &[u32], counts: &mut [u32]) -> Answ
     ensures words { counts.new ≡ counted_words header instance.now counts.old }
     ensures told { Tells result (counted header instance.now counts.old) nulls }
 {
-    let Scanned::Rows(_) = scan(header, instance) else {
-        return Answer::Refused(UNSOUND);
-    };
+    scan(header, instance)?;
     if counts.len() < 200 {
-        return Answer::Refused(OUTPUT_TOO_SHORT);
+        return Err(Refusal::OutputTooShort);
     }
     let used = header.used as usize;
     let found = count_words(&instance[..used]);
-    let mut i = 0;
-    while i < 200 {
-        counts[i] = found[i];
-        i += 1;
-    }
-    Answer::Done(NULLS)
+    counts[..200].copy_from_slice(&found);
+    Ok(NULLS)
 }

@@ -14,10 +14,10 @@ use Rattle.calculus.proofs.Counts.{count_of_le}
 use Rattle.calculus.proofs.Counting.{counting_starts, counting_ends}
 use Rattle.calculus.specs.Fill.{count_of}
 use Rattle.null_counts.proofs.count_words.Goals as goal
-use Rattle.null_counts.proofs.count_words.Goals.{In-loop-i, then-w-gt-CONSTANTS+then-w, else-w-gt-CONSTANTS, else-w-gt-CONSTANTS-via-then-w-gt-CONSTANTS+else-w, else-w-gt-CONSTANTS-via-else-w-gt-CONSTANTS}
+use Rattle.null_counts.proofs.count_words.Goals.{In-loop-w, then-w-gt-CONSTANTS+then-w, else-w-gt-CONSTANTS, else-w-gt-CONSTANTS-via-then-w-gt-CONSTANTS+else-w, else-w-gt-CONSTANTS-via-else-w-gt-CONSTANTS}
 
-pub loop-i-init : goal.loop-i-init
-loop-i-init c = (omega arith, counting_starts nulls _)
+pub loop-w-init : goal.loop-w-init
+loop-w-init c = counting_starts nulls _
 
 pub overflow_cast-k : goal.overflow_cast-k
 overflow_cast-k c = omega (arith, leb-true)
@@ -29,24 +29,24 @@ pub bounds-counts-k : goal.bounds-counts-k
 bounds-counts-k c = omega (arith, leb-true)
 
 -- the word at index i
-module _ (c : In-loop-i) where
+module _ (c : In-loop-w) where
   abbrev ws : List ℕ
   ws = c.args.words.now
 
   abbrev counts : List ℕ
-  counts = c.loop-i.counts
+  counts = c.loop-w.counts
 
   abbrev w : ℕ
-  w = get_or ws c.loop-i.i 0
+  w = get_or ws c.loop-w.w-index 0
 
   abbrev place : ℕ
   place = w - 1000000 - 1
 
   abbrev behind : List ℕ
-  behind = drop (c.loop-i.i + 1) ws
+  behind = drop (c.loop-w.w-index + 1) ws
 
   seen : Census ws (w ∷ behind) counts
-  seen = rw (drop_step ws c.loop-i.i (omega arith)) at c.loop-i.invariant.1
+  seen = rw (drop_step ws c.loop-w.w-index (omega arith)) at c.loop-w.invariant
 
   at_null : constants < w → w ≤ constants + nulls → Census ws behind (set counts place (get_or counts place 0 + 1))
   at_null l g =
@@ -57,30 +57,28 @@ module _ (c : In-loop-i) where
   at_other ne = census_other ws behind counts w ne seen
 
   below : (k : ℕ) → k < nulls → get_or counts k 0 ≤ max_words
-  below k l = omega (arith, c.loop-i.invariant.1.each k l, count_of_le (null (1 + k)) ws)
+  below k l = omega (arith, c.loop-w.invariant.each k l, count_of_le (null (1 + k)) ws)
 
 pub overflow_add-counts : goal.overflow_add-counts
-overflow_add-counts c = omega (arith, below (goal.at.overflow_add-counts c).In-loop-i (place (goal.at.overflow_add-counts c).In-loop-i) (omega (arith, leb-true)))
+overflow_add-counts c = omega (arith, below (goal.at.overflow_add-counts c).In-loop-w (place (goal.at.overflow_add-counts c).In-loop-w) (omega (arith, leb-true)))
 
 pub bounds-counts-k-then-w : goal.bounds-counts-k-then-w
 bounds-counts-k-then-w c = omega (arith, leb-true)
 
-pub loop-i-preserved : goal.loop-i-preserved
-loop-i-preserved c =
-    let b = (goal.at.loop-i-preserved c).In-loop-i in (
-      omega arith,
-      elim c.if-w-gt-CONSTANTS.branch [
-        | then-w-gt-CONSTANTS+then-w a ↦ rw a.counts-is (at_null b a.if-w-gt-CONSTANTS.true (omega (arith, leb-true)))
-        | else-w-gt-CONSTANTS a ↦ rw a.counts-is (at_other b (λ k l q. elim a.else-w-gt-CONSTANTS.branch [
-          | else-w-gt-CONSTANTS-via-then-w-gt-CONSTANTS+else-w s ↦ omega (arith, leb-false)
-          | else-w-gt-CONSTANTS-via-else-w-gt-CONSTANTS s ↦ omega arith
-        ]))
-      ],
-    )
+pub loop-w-preserved : goal.loop-w-preserved
+loop-w-preserved c =
+    let b = (goal.at.loop-w-preserved c).In-loop-w in
+    elim c.if-w-gt-CONSTANTS.branch [
+      | then-w-gt-CONSTANTS+then-w a ↦ rw a.counts-is (at_null b a.if-w-gt-CONSTANTS.true (omega (arith, leb-true)))
+      | else-w-gt-CONSTANTS a ↦ rw a.counts-is (at_other b (λ k l q. elim a.else-w-gt-CONSTANTS.branch [
+        | else-w-gt-CONSTANTS-via-then-w-gt-CONSTANTS+else-w s ↦ omega (arith, leb-false)
+        | else-w-gt-CONSTANTS-via-else-w-gt-CONSTANTS s ↦ omega arith
+      ]))
+    ]
 
 pub returns : goal.returns
 unfolding count_of
 returns c =
     let ws = c.args.words.now in
-    let e : c.loop-i.i ≡ length ws = omega arith in
-    counting_ends nulls _ _ _ (λ k. refl) (rw (e, drop-length) at c.loop-i.invariant.1)
+    let e : c.loop-w.w-index ≡ length ws = omega arith in
+    counting_ends nulls _ _ _ (λ k. refl) (rw (e, drop-length) at c.loop-w.invariant)
