@@ -1,12 +1,13 @@
 -- How often a number occurs in a list. Assumes nothing.
 use Prim.Native.Nat.{ℕ, suc, ◌+◌, ◌≤◌, ◌<◌}
-use mathlib.Core.Path.{◌≡◌}
+use mathlib.Core.Path.{◌≡◌, refl, ap}
 use mathlib.Core.Bool.{Bool, true, false, cond}
 use mathlib.Core.List.{List, [], ◌∷◌, ◌++◌}
 use native.Mathlib.Omega.{arith}
 use borrow.Author.Tests.{eq-eqb, ne_eqb}
 use lib.ListN.{length, get_or, drop}
 use lib.Dec.{eqb}
+use Rattle.std.specs.List.{filter}
 use Rattle.calculus.specs.Fill.{count_of}
 use Rattle.calculus.proofs.Lists.{drop_step}
 
@@ -49,3 +50,14 @@ module _ (x : ℕ) where
       count_of x (drop i xs) ≡ cond (eqb (get_or xs i 0) x) (suc (count_of x (drop (i + 1) xs))) (count_of x (drop (i + 1) xs))
   unfolding count_of
   countOf-drop-step xs i l = rw (drop_step xs i l)
+
+-- the elements that a filter leaves
+pub count_of_filter : (x : ℕ) (ys : List ℕ) → length (filter (λ y. eqb y x) ys) ≡ count_of x ys
+unfolding count_of
+count_of_filter x [] = refl
+count_of_filter x (y ∷ ys) = go (eqb y x) (count_of_filter x ys)
+  where
+    go : (b : Bool) → length (filter (λ y. eqb y x) ys) ≡ count_of x ys
+        → length (cond b (y ∷ filter (λ y. eqb y x) ys) (filter (λ y. eqb y x) ys)) ≡ cond b (suc (count_of x ys)) (count_of x ys)
+    go true e = ap suc e
+    go false e = e

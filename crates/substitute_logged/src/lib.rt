@@ -14,29 +14,22 @@ ghost use Rattle.undo_log.specs.Log.{logged, logged_words, logged_log, logged_us
 
 use calculus::answer::Answer;
 use calculus::cell::CONSTANTS;
-use calculus::refusal::{LOG_TOO_SHORT, NULL_ABSENT};
+use calculus::refusal::Refusal;
 use instance::header::Header;
 use substitute::test_fill;
-use undo_log::Logged;
 
-// How often a null occurs in words. A relation's number is below every null, so the pass need not tell relation numbers from cells.
+// How often a null occurs in words. A relation's number is below every null, so the pass need not tell relation numbers
+// from cells.
 fn held(words: &[u32], mark: u32) -> u32
     requires { (mark ≤ nulls) × (length words.now ≤ max_words) }
     ensures { result ≡ count_of (null mark) words.now }
 {
     let null = CONSTANTS + mark;
-    let mut count: u32 = 0;
-    let mut i = 0;
-    while i < words.len() {
-        if words[i] == null {
-            count += 1;
-        }
-        i += 1;
-    }
-    count
+    words.iter().filter(|word| **word == null).count() as u32
 }
 
-// Fills, and writes the entry at the start of a part of the log: each place as it is filled, then the mark and the number of places.
+// Fills, and writes the entry at the start of a part of the log: each place as it is filled, then the mark and the
+// number of places.
 fn note(words: &mut [u32], part: &mut [u32], mark: u32, cell: u32)
     requires { (mark ≤ nulls) × (length words.old ≤ max_words) × (entry_length (count_of (null mark) words.old) ≤ length part.old) }
     ensures words { words.new ≡ map (put mark cell) words.old }
@@ -44,58 +37,48 @@ fn note(words: &mut [u32], part: &mut [u32], mark: u32, cell: u32)
 {
     let null = CONSTANTS + mark;
     let mut count = 0;
-    let mut i = 0;
-    while i < words.len() {
-        let next = i + 1;
+    for i in 0..words.len() {
         if words[i] == null {
             words[i] = cell;
             part[count] = i as u32;
             count += 1;
         }
-        i = next;
     }
-    let number = count as u32;
     part[count] = mark;
-    part[count + 1] = number;
+    part[count + 1] = count as u32;
 }
 
-// A fill with a log. The null's cells are counted before any is filled, since a log without room for their entry refuses the fill.
+// A fill with a log, of which the first `used` words are in use. The null's cells are counted before any is filled,
+// since a log without room for their entry refuses the fill.
 pub fn substitute_logged(
     header: Header,
     instance: &mut [u32],
     log: &mut [u32],
-    used: usize,
+    used: &mut usize,
     mark: u32,
     cell: u32,
-) -> Logged
-    ensures answer { result.answer ≡ logged header instance.old log.old used mark cell }
-    ensures words { instance.new ≡ logged_words header instance.old log.old used mark cell }
-    ensures log { log.new ≡ logged_log header instance.old log.old used mark cell }
-    ensures used { result.log ≡ logged_used header instance.old log.old used mark cell }
-    ensures told { Tells result.answer (logged header instance.old log.old used mark cell) (held mark (rows header instance.old)) }
+) -> Answer
+    ensures answer { result ≡ logged header instance.old log.old used.old mark cell }
+    ensures words { instance.new ≡ logged_words header instance.old log.old used.old mark cell }
+    ensures log { log.new ≡ logged_log header instance.old log.old used.old mark cell }
+    ensures used { used.new ≡ logged_used header instance.old log.old used.old mark cell }
+    ensures told { Tells result (logged header instance.old log.old used.old mark cell) (held mark (rows header instance.old)) }
 {
-    let answer = test_fill(header, instance, mark, cell);
-    let Answer::Done(_) = answer else {
-        return Logged { answer, log: used };
-    };
+    test_fill(header, instance, mark, cell)?;
     let end = header.used as usize;
     let count = held(&instance[..end], mark);
     if count == 0 {
-        let answer = Answer::Refused(NULL_ABSENT);
-        return Logged { answer, log: used };
+        return Err(Refusal::NullAbsent);
     }
     let entry = 2 + count as usize;
-    // Two tests and no sum: used may be any number, and the sum may not fit.
-    if log.len() < used {
-        let answer = Answer::Refused(LOG_TOO_SHORT);
-        return Logged { answer, log: used };
+    // Two tests and no sum: `used` may be any number, and the sum may not fit.
+    if log.len() < *used {
+        return Err(Refusal::LogTooShort);
     }
-    if log.len() - used < entry {
-        let answer = Answer::Refused(LOG_TOO_SHORT);
-        return Logged { answer, log: used };
+    if log.len() - *used < entry {
+        return Err(Refusal::LogTooShort);
     }
-    note(&mut instance[..end], &mut log[used..], mark, cell);
-    let answer = Answer::Done(count);
-    let used = used + entry;
-    Logged { answer, log: used }
+    note(&mut instance[..end], &mut log[*used..], mark, cell);
+    *used += entry;
+    Ok(count)
 }

@@ -12,11 +12,10 @@ ghost use Rattle.undo_log.specs.Log.{last_count, entry_well_formed, undone, undo
 ghost use Rattle.undo.specs.RowStart.{RowStart, RowOf};
 
 use calculus::answer::Answer;
-use calculus::cell::{CONSTANTS, NULLS};
-use calculus::refusal::{BAD_LOG, LOG_EMPTY, UNSOUND};
+use calculus::cell::{CONSTANTS, is_mark};
+use calculus::refusal::Refusal;
 use instance::header::Header;
-use instance::scan::{Scanned, scan};
-use undo_log::Logged;
+use instance::scan::scan;
 
 // The start of the row that has a place, by a walk from row to row; a row starts at `from`, at or before the place.
 fn row_of(words: &[u32], arities: &[u32; 8], relations: u32, from: usize, place: usize) -> usize
@@ -36,16 +35,15 @@ fn row_of(words: &[u32], arities: &[u32; 8], relations: u32, from: usize, place:
     }
 }
 
-// Whether all numbers are places of cells. Each search starts at the row of the last place, so places that rise, as a logged fill writes them, take one
-// pass; a place before that row is sought from the first row.
+// Whether all numbers are places of cells. Each search starts at the row of the last place, so places that rise, as a
+// logged fill writes them, take one pass; a place before that row is sought from the first row.
 fn are_places(words: &[u32], arities: &[u32; 8], relations: u32, places: &[u32]) -> bool
     requires { InstanceWellFormed relations arities.now words.now }
     ensures { result ≡ are_places (rows_from arities.now 0 words.now) places.now }
 {
     let mut row = 0;
-    let mut i = 0;
-    while i < places.len() {
-        let place = places[i] as usize;
+    for &p in places {
+        let place = p as usize;
         if words.len() <= place {
             return false;
         }
@@ -56,7 +54,6 @@ fn are_places(words: &[u32], arities: &[u32; 8], relations: u32, places: &[u32])
         if row == place {
             return false;
         }
-        i += 1;
     }
     true
 }
@@ -78,10 +75,7 @@ fn entry_well_formed(header: Header, instance: &[u32], log: &[u32], used: usize)
         return false;
     }
     let mark = log[end];
-    if mark < 1 {
-        return false;
-    }
-    if NULLS < mark {
+    if !is_mark(mark) {
         return false;
     }
     let start = end - count;
@@ -99,16 +93,14 @@ fn entry_well_formed(header: Header, instance: &[u32], log: &[u32], used: usize)
 fn test_undo(header: Header, instance: &[u32], log: &[u32], used: usize) -> Answer
     ensures { result ≡ undone header instance.now log.now used }
 {
-    let Scanned::Rows(_) = scan(header, instance) else {
-        return Answer::Refused(UNSOUND);
-    };
+    scan(header, instance)?;
     if used == 0 {
-        return Answer::Refused(LOG_EMPTY);
+        return Err(Refusal::LogEmpty);
     }
     if !entry_well_formed(header, instance, log, used) {
-        return Answer::Refused(BAD_LOG);
+        return Err(Refusal::BadLog);
     }
-    Answer::Done(log[used - 1])
+    Ok(log[used - 1])
 }
 
 // Writes x at each of the places.
@@ -116,27 +108,24 @@ fn put_all(words: &mut [u32], places: &[u32], x: u32)
     requires { (k : ℕ) → k < length places.now → get_or places.now k 0 < length words.old }
     ensures { words.new ≡ put_at places.now x words.old }
 {
-    let mut k = 0;
-    while k < places.len() {
-        words[places[k] as usize] = x;
-        k += 1;
+    for &place in places {
+        words[place as usize] = x;
     }
 }
 
-// Puts the latest entry's null back into the cells that it was filled in, and takes the entry out of the words in use; the log's words stay.
-pub fn undo(header: Header, instance: &mut [u32], log: &[u32], used: usize) -> Logged
-    ensures answer { result.answer ≡ undone header instance.old log.now used }
-    ensures words { instance.new ≡ undone_words header instance.old log.now used }
-    ensures used { result.log ≡ undone_used header instance.old log.now used }
-    ensures told { Tells result.answer (undone header instance.old log.now used) (last_count log.now used) }
+// Puts the latest entry's null back into the cells that it was filled in, and takes the entry out of the words in use;
+// the log's words stay.
+pub fn undo(header: Header, instance: &mut [u32], log: &[u32], used: &mut usize) -> Answer
+    ensures answer { result ≡ undone header instance.old log.now used.old }
+    ensures words { instance.new ≡ undone_words header instance.old log.now used.old }
+    ensures used { used.new ≡ undone_used header instance.old log.now used.old }
+    ensures told { Tells result (undone header instance.old log.now used.old) (last_count log.now used.old) }
 {
-    let answer = test_undo(header, instance, log, used);
-    let Answer::Done(count) = answer else {
-        return Logged { answer, log: used };
-    };
-    let end = used - 2;
+    let count = test_undo(header, instance, log, *used)?;
+    let end = *used - 2;
     let start = end - count as usize;
     let mark = log[end];
     put_all(instance, &log[start..end], CONSTANTS + mark);
-    Logged { answer, log: start }
+    *used = start;
+    Ok(count)
 }

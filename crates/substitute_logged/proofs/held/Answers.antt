@@ -1,28 +1,24 @@
--- `substitute_logged::held` meets its contract: `count` plus the count from index i is the count in all words. Assumes nothing.
-use mathlib.Core.Path.{◌≡◌}
-use native.Mathlib.Omega.{arith}
-use borrow.Author.Tests.{eq-eqb, ne_eqb}
-use lib.ListN.{length, drop}
-use lib.Seq.{drop-length}
+-- `substitute_logged::held` meets its contract: the chain counts the words that are the null. Assumes nothing.
+use Rattle.std.proofs.Common.{◌≡◌, ◌∙◌, rules, arith}
+use lib.Dec.{eqb}
+use borrow.Author.Tests.{tests}
+use Rattle.std.proofs.lemmas.Iterator.{YieldsList-from_slice}
+use Rattle.std.proofs.lemmas.Iterator.Consumers.{YieldsList-from_filter, count_from_yields_List}
 use Rattle.calculus.specs.Cell.{null}
 use Rattle.calculus.specs.Fill.{count_of}
-use Rattle.calculus.proofs.Counts.{countOf-drop-step}
+use Rattle.calculus.proofs.Counts.{count_of_filter, count_of_le}
 use Rattle.substitute_logged.proofs.held.Goals as goal
-use Rattle.substitute_logged.proofs.held.Goals.{In-loop-i, else-words-i, then-words-i}
+use Rattle.substitute_logged.proofs.held.Goals.{After-count}
 
-pub loop-i-init : goal.loop-i-init
-loop-i-init c = (omega arith, omega arith, omega arith)
+counted : (c : After-count) → c.count.result ≡ count_of (null c.args.mark) c.args.words.now
+counted c =
+    count_from_yields_List _ _ c.count.ensures.ran
+    (YieldsList-from_filter _ (λ w. eqb w (null c.args.mark)) (YieldsList-from_slice c.args.words.now cc) c.filter.ensures.closure
+    (λ x b q k. search (rules, tests)))
+    ∙ count_of_filter (null c.args.mark) c.args.words.now
 
-pub loop-i-preserved : goal.loop-i-preserved
-loop-i-preserved c =
-    let b = (goal.at.loop-i-preserved c).In-loop-i in
-    let step = countOf-drop-step (null c.args.mark) c.args.words.now c.loop-i.i (omega arith) in
-    (elim c.if-words-i.branch [ then-words-i a ↦ (omega arith, omega arith, omega (arith, simp (eq-eqb _ _ a.if-words-i.true) at step)) | else-words-i a ↦ (omega arith, omega arith, omega (arith, simp (ne_eqb _ _ a.if-words-i.false) at step)) ])
+pub overflow_cast-result : goal.overflow_cast-result
+overflow_cast-result c = omega (arith, counted (goal.at.overflow_cast-result c).After-count, count_of_le (null c.args.mark) c.args.words.now)
 
 pub returns : goal.returns
-unfolding count_of
-returns c =
-    let was = c.args.words.now in
-    let e : c.loop-i.i ≡ length was = omega arith in
-    let z : count_of (null c.args.mark) (drop c.loop-i.i was) ≡ 0 = rw (e, drop-length) in
-    omega arith
+returns c = counted (goal.at.returns c).After-count

@@ -16,7 +16,7 @@ use Rattle.undo_log.proofs.Places.{in_count}
 use Rattle.substitute.proofs.Filling.{filling-starts, filling-here, filling-null, filling-other, filling_ends}
 use Rattle.substitute_logged.proofs.note.Invariants.{then_end, Noting}
 use Rattle.substitute_logged.proofs.note.Goals as goal
-use Rattle.substitute_logged.proofs.note.Goals.{After-loop-i, In-loop-i}
+use Rattle.substitute_logged.proofs.note.Goals.{After-loop-i, In-loop-i, then-words-i, else-words-i}
 
 by_words_part : {A B : Type 0} → A × B → record { words : A; part : B }
 by_words_part p = record { words = p.0; part = p.1 }
@@ -57,14 +57,19 @@ module _ (c : In-loop-i) where
 pub bounds-part-count : goal.bounds-part-count
 bounds-part-count c = let w = at_null (goal.at.bounds-part-count c).In-loop-i c.if-words-i.true in omega arith
 
-pub loop-i-preserved-then-words-i : goal.loop-i-preserved-then-words-i
-loop-i-preserved-then-words-i c = (
-  filling-null _ _ _ (omega arith) c.loop-i.invariant.0 c.if-words-i.true,
-  written_store _ refl (at_null (goal.at.loop-i-preserved-then-words-i c).In-loop-i c.if-words-i.true),
-)
-
 pub loop-i-preserved : goal.loop-i-preserved
-loop-i-preserved c = (filling-other _ _ _ (omega arith) c.loop-i.invariant.0 c.if-words-i.false, at_other (goal.at.loop-i-preserved c).In-loop-i c.if-words-i.false)
+loop-i-preserved c =
+    let b = (goal.at.loop-i-preserved c).In-loop-i in
+    elim c.if-words-i.branch [
+      | then-words-i w ↦ rw (w.words-is, w.part-is, w.count-is) (
+        filling-null _ _ _ (omega arith) c.loop-i.invariant.0 w.if-words-i.true,
+        written_store _ refl (at_null b w.if-words-i.true),
+      )
+      | else-words-i w ↦ rw (w.words-is, w.part-is, w.count-is) (
+        filling-other _ _ _ (omega arith) c.loop-i.invariant.0 w.if-words-i.false,
+        at_other b w.if-words-i.false,
+      )
+    ]
 
 -- past the last word, the mark and the number of places are still to be written
 module _ (c : After-loop-i) where

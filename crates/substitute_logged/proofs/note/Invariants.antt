@@ -1,6 +1,5 @@
-use Prim.Native.Nat.{◌-◌}
 use mathlib.Core.List.{◌∷◌, ◌++◌}
-use lib.ListN.{length, drop}
+use lib.ListN.{drop}
 use Rattle.calculus.specs.Cell.{null}
 use Rattle.undo_log.specs.Places.{places_in}
 use Rattle.substitute.proofs.Filling.{Filling}
@@ -21,6 +20,3 @@ Noting m was rest part₀ part count = Written (then_end (places_in (null m) 0 w
 abbrev pub invariant-loop-i : goal.invariant-loop-i
 invariant-loop-i l =
     Filling l.mark l.cell l.initial.words l.words l.count l.i × Noting l.mark l.initial.words (then_end (places_in l.null l.i (drop l.i l.initial.words)) l.mark l.initial.words) l.initial.part l.part l.count
-
-abbrev pub decreases-loop-i : goal.decreases-loop-i
-decreases-loop-i l = length l.initial.words - l.i

@@ -5,7 +5,9 @@ use mathlib.Core.Path.{refl, sym, ap, ◌∙◌}
 use mathlib.Core.Bool.{and-false}
 use native.Mathlib.Omega.{arith}
 use borrow.Author.Tests.{le-leb, lt-leb}
-use Rattle.calculus.specs.Cell.{nulls}
+use mathlib.Core.Path.{◌≡◌}
+use mathlib.Core.Bool.{true, false}
+use Rattle.calculus.specs.Cell.{is_mark}
 use Rattle.calculus.specs.Fill.{entry_length}
 use Rattle.instance.specs.Sound.{rows}
 use Rattle.instance.proofs.Sound.{sound_gives}
@@ -24,15 +26,11 @@ returns-then-used-lt2 c = sym (entry-short _ _ _ _ (omega arith))
 pub returns-then-end-count : goal.returns-then-end-count
 returns-then-end-count c = sym (entry-short _ _ _ _ (omega arith))
 
-pub returns-then-mark-lt1 : goal.returns-then-mark-lt1
+pub returns-then-not-is_mark : goal.returns-then-not-is_mark
 unfolding entry_well_formed
-returns-then-mark-lt1 c = simp (lt-leb _ _ c.if-mark-lt1.true, and-false)
-
-pub returns-then-mark-gt-NULLS : goal.returns-then-mark-gt-NULLS
-unfolding entry_well_formed
-returns-then-mark-gt-NULLS c =
-    let a = c.args in
-    simp (lt-leb (last_mark a.log.now a.used) nulls (omega arith), and-false)
+returns-then-not-is_mark c =
+    let m : is_mark (last_mark c.args.log.now c.args.used) ≡ false = sym c.is_mark.ensures ∙ c.if-not-is_mark.true in
+    simp (m, and-false)
 
 pub slice_bounds-are_places-end : goal.slice_bounds-are_places-end
 slice_bounds-are_places-end c = sym (sound_gives _ _ c.requires).in_use
@@ -47,8 +45,7 @@ returns c =
     let used = c.args.used in
     let whole : entry_length (last_count log used) ≤ used = omega arith in
     let in_log = le-leb _ _ c.if-log-used.false in
-    let low = le-leb _ _ c.if-mark-lt1.false in
-    let high = le-leb _ _ c.if-mark-gt-NULLS.false in
+    let m : is_mark (last_mark log used) ≡ true = sym c.is_mark.ensures ∙ c.if-not-is_mark.false in
     c.are_places.ensures
     ∙ ap (are_places (rows c.args.header c.args.instance.now)) (places-lent log used _ refl whole)
-    ∙ simp (in_log, le-leb _ _ whole, low, high)
+    ∙ simp (in_log, le-leb _ _ whole, m)

@@ -5,6 +5,7 @@ use mathlib.Core.List.{List}
 use native.Mathlib.Omega.{arith}
 use lib.ListN.{length, get_or, take, drop}
 use Rattle.std.specs.Prelude.{Ok}
+use Rattle.std.proofs.lemmas.Result.{err_from_is_err_and}
 use Rattle.calculus.specs.Cell.{null}
 use Rattle.instance.specs.declared.header.Header.{Header}
 use Rattle.instance.specs.Sound.{rows}
@@ -19,10 +20,12 @@ use Rattle.undo.proofs.undo.Goals as goal
 by_answer_words_used_told : {A B C D : Type 0} → A × (B × (C × D)) → record { answer : A; words : B; used : C; told : D }
 by_answer_words_used_told p = record { answer = p.0; words = p.1.0; used = p.1.1.0; told = p.1.1.1 }
 
-pub returns-in_default : goal.returns-in_default
+pub returns-in_err-count : goal.returns-in_err-count
 unfolding undone_words undone_used
-returns-in_default c =
-    let e = sym c.test_undo-answer.ensures ∙ c.in_default.is in by_answer_words_used_told (undo-told _ _ _ _ (c.test_undo-answer.ensures, (simp e, simp e)))
+returns-in_err-count c =
+    let p = err_from_is_err_and c.from_residual.result c.from_residual.ensures.1 in
+    let e = sym c.test_undo.ensures ∙ c.in_err-count.was in
+    rw (p.1, p.2) (by_answer_words_used_told (undo-told _ _ _ _ (sym e, (simp e, simp e))))
 
 -- what an accepted answer of test_undo says
 module _ (h : Header) (ws log : List ℕ) (used count : ℕ) (u : Undone h ws log used count) where
@@ -36,42 +39,42 @@ module _ (h : Header) (ws log : List ℕ) (used count : ℕ) (u : Undone h ws lo
 
 pub overflow_sub-end : goal.overflow_sub-end
 overflow_sub-end c =
-    let u = undo_accepted _ _ _ _ _ (sym c.test_undo-answer.ensures ∙ c.in-Done.is) in
+    let u = undo_accepted _ _ _ _ _ (sym c.test_undo.ensures ∙ c.in_ok-count.was) in
     omega (arith, u.entry.whole)
 
 pub overflow_sub-start : goal.overflow_sub-start
 overflow_sub-start c =
-    let u = undo_accepted _ _ _ _ _ (sym c.test_undo-answer.ensures ∙ c.in-Done.is) in
+    let u = undo_accepted _ _ _ _ _ (sym c.test_undo.ensures ∙ c.in_ok-count.was) in
     omega (arith, u.count, u.entry.whole)
 
 pub offset_bounds-log-end : goal.offset_bounds-log-end
 offset_bounds-log-end c =
-    let u = undo_accepted _ _ _ _ _ (sym c.test_undo-answer.ensures ∙ c.in-Done.is) in
+    let u = undo_accepted _ _ _ _ _ (sym c.test_undo.ensures ∙ c.in_ok-count.was) in
     omega (arith, u.entry.within, u.entry.whole)
 
 pub bounds-log-end : goal.bounds-log-end
 bounds-log-end c =
-    let u = undo_accepted _ _ _ _ _ (sym c.test_undo-answer.ensures ∙ c.in-Done.is) in
+    let u = undo_accepted _ _ _ _ _ (sym c.test_undo.ensures ∙ c.in_ok-count.was) in
     omega (arith, u.entry.within, u.entry.whole)
 
 pub offset_bounds-log-start : goal.offset_bounds-log-start
 offset_bounds-log-start c =
-    let u = undo_accepted _ _ _ _ _ (sym c.test_undo-answer.ensures ∙ c.in-Done.is) in
+    let u = undo_accepted _ _ _ _ _ (sym c.test_undo.ensures ∙ c.in_ok-count.was) in
     omega (arith, u.entry.within, u.entry.whole)
 
 pub slice_bounds-put_all-end : goal.slice_bounds-put_all-end
 slice_bounds-put_all-end c =
-    let u = undo_accepted _ _ _ _ _ (sym c.test_undo-answer.ensures ∙ c.in-Done.is) in
+    let u = undo_accepted _ _ _ _ _ (sym c.test_undo.ensures ∙ c.in_ok-count.was) in
     omega (arith, u.entry.within)
 
 pub overflow_add-mark : goal.overflow_add-mark
 overflow_add-mark c =
-    let u = undo_accepted _ _ _ _ _ (sym c.test_undo-answer.ensures ∙ c.in-Done.is) in
+    let u = undo_accepted _ _ _ _ _ (sym c.test_undo.ensures ∙ c.in_ok-count.was) in
     omega (arith, u.entry.high)
 
 pub put_all-requires : goal.put_all-requires
 put_all-requires c =
-    let u = undo_accepted _ _ _ _ _ (sym c.test_undo-answer.ensures ∙ c.in-Done.is) in
+    let u = undo_accepted _ _ _ _ _ (sym c.test_undo.ensures ∙ c.in_ok-count.was) in
     rw (lent _ _ _ _ _ u) (below _ _ _ _ _ u)
 
 pub returns : goal.returns
@@ -80,8 +83,8 @@ returns c =
     let h = c.args.header in
     let ws = c.args.instance.now in
     let log = c.args.log.now in
-    let used = c.args.used in
-    let done : undone h ws log used ≡ Ok c.in-Done.count = sym c.test_undo-answer.ensures ∙ c.in-Done.is in
+    let used = c.args.used.now in
+    let done : undone h ws log used ≡ Ok _ = sym c.test_undo.ensures ∙ c.in_ok-count.was in
     let u = undo_accepted _ _ _ _ _ done in by_answer_words_used_told (undo-told h ws log used (
       sym done,
       (
