@@ -2,7 +2,6 @@
 use Prim.Native.Nat.{◌+◌, ◌-◌}
 use mathlib.Core.Path.{◌≡◌, refl, ◌∙◌}
 use native.Mathlib.Omega.{arith}
-use native.Mathlib.Nat.{sub-zero}
 use borrow.Author.Rules.{rules}
 use Rattle.query.specs.Words.{node_count}
 use Rattle.query.specs.Check.{Checked, check_node, check_nodes}
@@ -10,9 +9,6 @@ use Rattle.calculus.specs.Reading.{and_then}
 use Rattle.query.proofs.Steps.{nodes_rest, answers-passed, answers-refused}
 use Rattle.query.proofs.check.check_nodes.Goals as goal
 use Rattle.query.proofs.check.check_nodes.Goals.{After-check_node}
-
-pub loop-number-init : goal.loop-number-init
-loop-number-init c = rw sub-zero
 
 -- the node, and the nodes after it
 module _ (c : After-check_node) where

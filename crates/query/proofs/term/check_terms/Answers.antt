@@ -3,7 +3,6 @@ use Prim.Native.Nat.{ℕ, ◌+◌, ◌-◌, ◌*◌, ◌<◌}
 use mathlib.Core.Path.{◌≡◌, refl, sym, ap, ◌∙◌}
 use mathlib.Core.List.{List}
 use native.Mathlib.Omega.{arith}
-use native.Mathlib.Nat.{add-zero, sub-zero}
 use lib.ListN.{length, get_or, drop}
 use Rattle.std.proofs.lemmas.List.{length-take-le, length-drop}
 use Rattle.calculus.specs.declared.refusal.Refusal.TheVariants.{BadNode, UnboundVariable}
@@ -15,9 +14,6 @@ use Rattle.query.specs.Check.{is_term, is_bound, check_terms}
 use Rattle.query.proofs.Steps.{part_word, terms_rest}
 use Rattle.query.proofs.term.check_terms.Goals as goal
 use Rattle.query.proofs.term.check_terms.Goals.{After-is_term, Then-not-is_bound}
-
-pub loop-w-init : goal.loop-w-init
-loop-w-init c = λ s. simp (add-zero, sub-zero)
 
 -- the word at index k, and the words after it
 module _ (c : After-is_term) where
