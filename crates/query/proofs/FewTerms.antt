@@ -1,16 +1,16 @@
 -- A question that passed has at most 300 inked terms: only a node without a child has terms, at most six, and of 100 nodes at most 50 have no child, since
 -- every node but the top is the child of one other. Assumes nothing.
 use Prim.Native.Nat.{ℕ, zero, suc, ◌+◌, ◌*◌, ◌≤◌, ◌<◌}
-use mathlib.Core.Path.{◌≡◌, refl}
-use mathlib.Core.Bool.{true, ◌&&◌}
+use mathlib.Core.Path.{◌≡◌, refl, ap}
+use mathlib.Core.Bool.{Bool, true, false, not, ◌&&◌}
 use mathlib.Core.List.{List, [], ◌∷◌}
 use native.Mathlib.Nat.{le_of_suc-le-suc}
 use native.Mathlib.Omega.{arith}
-use borrow.Author.Tests.{ltb-true, eqb-true}
+use borrow.Author.Tests.{ltb-true, not-true}
 use lib.ListN.{length, get_or, set}
-use lib.Dec.{ltb, eqb}
+use lib.Dec.{ltb}
 use Rattle.calculus.proofs.From.{first_or_later}
-use Rattle.calculus.proofs.Bools.{and_parts}
+use Rattle.calculus.proofs.Bools.{and_parts, false_not_true}
 use Rattle.calculus.specs.Formula.{variables}
 use Rattle.instance.specs.Header.{arity_of, max_columns}
 use Rattle.query.specs.Words.{Kind, row_stands, equals, negates, no_such_kind, joins, ranges, kind_of, word_at, node_count, max_nodes, right_length}
@@ -25,21 +25,28 @@ use Rattle.query.proofs.Passed.{parts, count-within}
 
 -- ---- sums
 
-sum : List ℕ → ℕ
-sum [] = 0
-sum (x ∷ xs) = x + sum xs
+flag : Bool → ℕ
+flag false = 0
+flag true = 1
 
-sum_set : (xs : List ℕ) (i v : ℕ) → i < length xs → sum (set xs i v) + get_or xs i 0 ≡ sum xs + v
+-- how many flags are set
+sum : List Bool → ℕ
+sum [] = 0
+sum (x ∷ xs) = flag x + sum xs
+
+sum_set : (xs : List Bool) (i : ℕ) (v : Bool) → i < length xs → sum (set xs i v) + flag (get_or xs i false) ≡ sum xs + flag v
 unfolding sum
 sum_set [] i v l = absurd (omega arith)
 sum_set (x ∷ xs) zero v l = omega arith
 sum_set (x ∷ xs) (suc i) v l = omega (arith, sum_set xs i v (le_of_suc-le-suc l))
 
-sum_ones : (n : ℕ) (xs : List ℕ) → ((j : ℕ) → j < n → get_or xs j 0 ≡ 1) → n ≤ sum xs
-unfolding sum
+sum_ones : (n : ℕ) (xs : List Bool) → ((j : ℕ) → j < n → get_or xs j false ≡ true) → n ≤ sum xs
+unfolding sum flag
 sum_ones zero xs all = omega arith
-sum_ones (suc n) [] all = let z = all 0 (omega arith) in absurd (omega arith)
-sum_ones (suc n) (x ∷ xs) all = omega (arith, all 0 (omega arith), sum_ones n xs (λ j l. all (suc j) (omega arith)))
+sum_ones (suc n) [] all = false_not_true (all 0 (omega arith))
+sum_ones (suc n) (x ∷ xs) all =
+    let one : flag x ≡ 1 = ap flag (all 0 (omega arith)) in
+    omega (arith, one, sum_ones n xs (λ j l. all (suc j) (omega arith)))
 
 -- ---- children
 
@@ -64,14 +71,14 @@ passed-same : {s t : Scopes} → passed s ≡ passed t → t ≡ s
 passed-same e = cc
 
 child_sum : (count : ℕ) → count ≤ max_nodes → (mask i child : ℕ) (s t : Scopes) → Long s → check_child count mask i child s ≡ passed t → sum t.named ≡ suc (sum s.named)
-unfolding check_child
+unfolding check_child flag
 child_sum count few mask i child s t l e =
     let p = demand-read (is_child count i child s) _ _ e in
-    let q = and_parts (ltb i child && ltb child count) (eqb (get_or s.named child 0) 0) p.0 in
+    let q = and_parts (ltb i child && ltb child count) (not (get_or s.named child false)) p.0 in
     let below = ltb-true child count (and_parts (ltb i child) (ltb child count) q.0).1 in
-    let z = eqb-true (get_or s.named child 0) 0 q.1 in
+    let z : flag (get_or s.named child false) ≡ 0 = ap flag (not-true (get_or s.named child false) q.1) in
     let m : t ≡ naming s child mask = passed-same p.1 in
-    rw m (omega (arith, sum_set s.named child 1 (omega (arith, l.named)), z))
+    rw m (omega (arith, sum_set s.named child true (omega (arith, l.named)), z))
 
 module _ (n : ℕ) (ars qs : List ℕ) (few : node_count qs ≤ max_nodes) where
   by_sum : (i mask : ℕ) (s t : Scopes) → Long s → (k : Kind) → check_by n ars qs i mask s k ≡ passed t → sum t.named ≡ sum s.named + child_count k
@@ -108,26 +115,26 @@ module _ (n : ℕ) (ars qs : List ℕ) (few : node_count qs ≤ max_nodes) where
   nodes-leaves i (suc k) s t l e =
       let b = then_read (check_node n ars qs i s) (λ first. check_nodes n ars qs (suc i) k) e in
       let p = node-passed n ars qs few s l i b.first in
-      let here = by_sum i (get_or s.masks i 0) s b.state l (kind_of (word_at qs i 0)) (demand-read (eqb (get_or s.named i 0) 1) _ _ b.first).1 in
+      let here = by_sum i (get_or s.masks i 0) s b.state l (kind_of (word_at qs i 0)) (demand-read (get_or s.named i false) _ _ b.first).1 in
       omega (arith, here, nodes-leaves (suc i) k b.state t p.1.long b.second, kind-leaves (kind_of (word_at qs i 0)))
 
   -- every node is named at the end
-  all_named : (i k : ℕ) (s t : Scopes) → Long s → check_nodes n ars qs i k s ≡ passed t → (j : ℕ) → i ≤ j → j < i + k → get_or t.named j 0 ≡ 1
+  all_named : (i k : ℕ) (s t : Scopes) → Long s → check_nodes n ars qs i k s ≡ passed t → (j : ℕ) → i ≤ j → j < i + k → get_or t.named j false ≡ true
   unfolding check_nodes
   all_named i zero s t l e j a b = absurd (omega arith)
   all_named i (suc k) s t l e j a m =
       let b = then_read (check_node n ars qs i s) (λ first. check_nodes n ars qs (suc i) k) e in
       let p = node-passed n ars qs few s l i b.first in
       let r = nodes-passed n ars qs few (suc i) k b.state p.1.long b.second in
-      let here : get_or t.named i 0 ≡ 1 = (r.0 i (get_or s.masks i 0) (p.1.kept i (get_or s.masks i 0) (record { named = p.0; scope = refl }))).named in
-      first_or_later (λ j. get_or t.named j 0 ≡ 1) i k j here
+      let here : get_or t.named i false ≡ true = (r.0 i (get_or s.masks i 0) (p.1.kept i (get_or s.masks i 0) (record { named = p.0; scope = refl }))).named in
+      first_or_later (λ j. get_or t.named j false ≡ true) i k j here
       (λ q o. all_named (suc i) k b.state t p.1.long b.second j q o) a m
 
 top_long : (k : ℕ) → Long (at_the_top k)
 top_long k = record { named = refl; masks = refl }
 
 top_sum : (k : ℕ) → sum (at_the_top k).named ≡ 1
-unfolding sum
+unfolding sum flag
 top_sum k = refl
 
 pub few-terms :

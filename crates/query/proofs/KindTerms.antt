@@ -1,6 +1,6 @@
 -- The words of a node's terms, and the constants among them. Assumes nothing.
 use Prim.Native.Nat.{ℕ, zero, suc, ◌+◌, ◌-◌, ◌*◌, ◌≤◌, ◌<◌}
-use mathlib.Core.Path.{◌≡◌, refl, ap, ◌∙◌}
+use mathlib.Core.Path.{◌≡◌, refl, sym, ap, ◌∙◌}
 use mathlib.Core.Bool.{Bool, true, false, cond}
 use mathlib.Core.List.{List, [], ◌∷◌, ◌++◌, append-nil}
 use native.Mathlib.Numerals.{add-one}
@@ -8,6 +8,8 @@ use native.Mathlib.Omega.{arith}
 use borrow.Author.Tests.{lt-ltb, le-ltb}
 use lib.ListN.{length, get_or, take, drop}
 use lib.Seq.{take-suc}
+use Rattle.std.specs.List.{count_by}
+use Rattle.std.proofs.lemmas.List.Recursion.{is_count_by}
 use Rattle.calculus.specs.Cell.{is_constant}
 use Rattle.calculus.proofs.Lists.{drop_step}
 use Rattle.query.specs.Words.{Kind, row_stands, equals, negates, no_such_kind, joins, ranges, kind_of, word_at, node_words, node_count}
@@ -48,6 +50,15 @@ among_append (x ∷ xs) ys = go (is_constant x) (among_append xs ys)
         cond b (x ∷ constants_among (xs ++ ys)) (constants_among (xs ++ ys)) ≡ cond b (x ∷ constants_among xs) (constants_among xs) ++ constants_among ys
     go true e = ap (λ (l : List ℕ). x ∷ l) e
     go false e = e
+
+-- their number
+pub among_count : (ws : List ℕ) → count_by is_constant ws ≡ length (constants_among ws)
+unfolding constants_among
+among_count ws = sym (is_count_by (λ l. length (constants_among l)) is_constant refl (λ x xs. go x xs (is_constant x)) ws)
+  where
+    go : (x : ℕ) (xs : List ℕ) (b : Bool) → length (cond b (x ∷ constants_among xs) (constants_among xs)) ≡ cond b (1 + length (constants_among xs)) (length (constants_among xs))
+    go x xs true = omega arith
+    go x xs false = refl
 
 -- the constants among words, one word more
 pub among_next : (ws : List ℕ) (i : ℕ) → i < length ws → constants_among (take (i + 1) ws) ≡ constants_among (take i ws) ++ cond (is_constant (get_or ws i 0)) (get_or ws i 0 ∷ []) []

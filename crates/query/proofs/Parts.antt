@@ -1,15 +1,15 @@
 -- What a passed check says of each node: its tests hold, and its children are named, each with its scope. Assumes nothing.
 use Prim.Native.Nat.{ℕ, zero, suc, ◌+◌, ◌<◌, ◌≤◌}
-use mathlib.Core.Path.{◌≡◌, refl, ◌∙◌}
-use mathlib.Core.Bool.{Bool, true, false, ◌&&◌}
+use mathlib.Core.Path.{◌≡◌, refl, sym, ◌∙◌}
+use mathlib.Core.Bool.{Bool, true, false, not, ◌&&◌}
 use mathlib.Core.List.{List}
 use native.Mathlib.Nat.{add-zero}
 use native.Mathlib.Omega.{arith}
-use borrow.Author.Tests.{ltb-true, eqb-true, eqb-false}
+use borrow.Author.Tests.{ltb-true, eqb-true, eqb-false, not-true}
 use lib.ListN.{length-set, get_or}
 use lib.Seq.{get_or-set_same, get_or-set_other}
 use lib.Dec.{ltb, eqb}
-use Rattle.calculus.proofs.Bools.{and_parts}
+use Rattle.calculus.proofs.Bools.{and_parts, false_not_true}
 use Rattle.calculus.specs.Formula.{variables}
 use Rattle.instance.specs.Header.{arity_of}
 use Rattle.query.specs.Words.{Kind, row_stands, equals, negates, no_such_kind, joins, ranges, kind_of, word_at, node_count, max_nodes}
@@ -20,7 +20,7 @@ use Rattle.calculus.proofs.Reading.{demand-read, then_read, refused-read}
 
 -- node i is named, in a scope
 pub record NamedIn (s : Scopes) (i mask : ℕ) : Type 0 where
-  pub named : get_or s.named i 0 ≡ 1
+  pub named : get_or s.named i false ≡ true
   pub scope : get_or s.masks i 0 ≡ mask
 
 -- a node that is named stays so, in its scope
@@ -46,11 +46,11 @@ module _ (count : ℕ) (few : count ≤ max_nodes) (mask i child : ℕ) (s : Sco
   naming-long : Long (naming s child mask)
   naming-long = record { named = rw length-set l.named; masks = rw length-set l.masks }
 
-  naming-kept : get_or s.named child 0 ≡ 0 → Kept s (naming s child mask)
+  naming-kept : get_or s.named child false ≡ false → Kept s (naming s child mask)
   naming-kept z j m k =
-      let other : (j ≡ child → ⊥) = λ e. let o : get_or s.named child 0 ≡ 1 = rw (← e) k.named in omega arith in
+      let other : (j ≡ child → ⊥) = λ e. let o : get_or s.named child false ≡ true = rw (← e) k.named in false_not_true (sym z ∙ o) in
       record {
-        named = get_or-set_other s.named child j 1 0 other ∙ k.named;
+        named = get_or-set_other s.named child j true false other ∙ k.named;
         scope = get_or-set_other s.masks child j mask 0 other ∙ k.scope;
       }
 
@@ -58,11 +58,11 @@ module _ (count : ℕ) (few : count ≤ max_nodes) (mask i child : ℕ) (s : Sco
   unfolding check_child
   child-passed {t} e =
       let p = demand-read (is_child count i child s) _ _ e in
-      let q = and_parts (ltb i child && ltb child count) (eqb (get_or s.named child 0) 0) p.0 in
+      let q = and_parts (ltb i child && ltb child count) (not (get_or s.named child false)) p.0 in
       let o = and_parts (ltb i child) (ltb child count) q.0 in
       let b = ltb-true i child o.0 in
       let a = ltb-true child count o.1 in
-      let z = eqb-true (get_or s.named child 0) 0 q.1 in
+      let z = not-true (get_or s.named child false) q.1 in
       let m : t ≡ naming s child mask = cc in
       rw m
       (record {
@@ -70,7 +70,7 @@ module _ (count : ℕ) (few : count ≤ max_nodes) (mask i child : ℕ) (s : Sco
           above = b;
           below = a;
           named = record {
-            named = get_or-set_same s.named child 1 0 (omega (arith, l.named));
+            named = get_or-set_same s.named child true false (omega (arith, l.named));
             scope = get_or-set_same s.masks child mask 0 (omega (arith, l.masks));
           };
         };
@@ -157,17 +157,17 @@ module _ (n : ℕ) (ars qs : List ℕ) where
 
     -- the node is named, and well formed by its kind in its scope
     pub node-passed : {t : Scopes} (i : ℕ) → check_node n ars qs i s ≡ passed t
-        → (get_or s.named i 0 ≡ 1) × NodePassed s i (get_or s.masks i 0) (kind_of (word_at qs i 0)) t
+        → (get_or s.named i false ≡ true) × NodePassed s i (get_or s.masks i 0) (kind_of (word_at qs i 0)) t
     unfolding check_node
     node-passed i e =
-        let p = demand-read (eqb (get_or s.named i 0) 1) _ _ e in
-        (eqb-true _ _ p.0, by_passed i (get_or s.masks i 0) (kind_of (word_at qs i 0)) p.1)
+        let p = demand-read (get_or s.named i false) _ _ e in
+        (p.0, by_passed i (get_or s.masks i 0) (kind_of (word_at qs i 0)) p.1)
 
   -- each of the k nodes from i is well formed in its scope
   abbrev pub AllWellFormed : Scopes → ℕ → ℕ → Type 0
   AllWellFormed t i k = (j : ℕ) → i ≤ j → j < i + k → WellFormedIn t j (get_or t.masks j 0) (kind_of (word_at qs j 0))
 
-  one_more : {s t : Scopes} (i k : ℕ) → get_or s.named i 0 ≡ 1 → NodePassed s i (get_or s.masks i 0) (kind_of (word_at qs i 0)) t → (u : Scopes) → Kept t u
+  one_more : {s t : Scopes} (i k : ℕ) → get_or s.named i false ≡ true → NodePassed s i (get_or s.masks i 0) (kind_of (word_at qs i 0)) t → (u : Scopes) → Kept t u
       → AllWellFormed u (suc i) k → AllWellFormed u i (suc k)
   one_more {s} {t} i k named p u κ all j l m = go (eqb j i) refl
     where

@@ -23,14 +23,11 @@ pub fn term_count(query: &[u32], arities: &[u32; 8], node: usize) -> usize
     ensures { result ≡ term_count arities.now query.now node
         (kind_of (word_at query.now node 0)) }
 {
-    let kind = query[node * NODE_WORDS];
-    if kind == 1 {
-        return arities[query[node * NODE_WORDS + 1] as usize] as usize;
+    match query[node * NODE_WORDS] {
+        1 => arities[query[node * NODE_WORDS + 1] as usize] as usize,
+        2 => 2,
+        _ => 0,
     }
-    if kind == 2 {
-        return 2;
-    }
-    0
 }
 
 // A node's terms, as a part of the question.
@@ -47,15 +44,7 @@ pub fn terms_of<'a>(query: &'a [u32], arities: &[u32; 8], node: usize) -> &'a [u
 fn count_constants(words: &[u32]) -> usize
     ensures { result ≡ length (constants_among words.now) }
 {
-    let mut count = 0;
-    let mut i = 0;
-    while i < words.len() {
-        if words[i] < CONSTANTS {
-            count += 1;
-        }
-        i += 1;
-    }
-    count
+    words.iter().filter(|w| **w < CONSTANTS).count()
 }
 
 // The number of a question's inked terms, each occurrence of one.
@@ -64,10 +53,8 @@ pub fn count_named(query: &[u32], arities: &[u32; 8]) -> usize
     ensures { result ≡ length (named_in arities.now query.now) }
 {
     let mut count = 0;
-    let mut node = 0;
-    while node < query.len() / NODE_WORDS {
+    for node in 0..query.len() / NODE_WORDS {
         count += count_constants(terms_of(query, arities, node));
-        node += 1;
     }
     count
 }

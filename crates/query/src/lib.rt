@@ -5,5 +5,6 @@
 pub mod check;
 pub mod inked;
 mod node;
+mod scopes;
 mod term;
 pub mod words;

@@ -1,19 +1,20 @@
 // Terms, and the variables that are bound in a scope: a mask with bit v for variable v.
-ghost use Rattle.std.specs.Prelude.{◌≡◌, true, ◌+◌, ◌*◌, ◌≤◌, ◌<◌, length};
+ghost use Rattle.std.specs.Prelude.{◌≡◌, true, ◌+◌, ◌≤◌, ◌<◌};
 ghost use Rattle.calculus.specs.Formula.{variables};
+ghost use Rattle.query.specs.declared.scopes.Scopes.{Scopes};
 ghost use Rattle.query.specs.Words.{node_words};
-ghost use Rattle.query.specs.Scope.{Scopes, bound, binding};
+ghost use Rattle.query.specs.Scope.{bound, binding};
 ghost use Rattle.query.specs.Check.{is_term, is_bound, check_terms};
 ghost use Rattle.query.specs.Answers.{Answers};
 
-use super::words::{NODE_WORDS, VARIABLE_BASE, VARIABLES};
+use super::words::{Node, VARIABLE_BASE, VARIABLES};
 use calculus::cell::CONSTANTS;
-use calculus::refusal::{BAD_NODE, UNBOUND_VARIABLE};
+use calculus::refusal::Refusal;
 
 fn is_term(w: u32) -> bool
     ensures { result ≡ is_term w }
 {
-    w < CONSTANTS || (VARIABLE_BASE <= w && w < VARIABLE_BASE + VARIABLES)
+    w < CONSTANTS || (VARIABLE_BASE..VARIABLE_BASE + VARIABLES).contains(&w)
 }
 
 // Whether variable v is bound.
@@ -36,27 +37,21 @@ fn is_bound(mask: u32, w: u32) -> bool
     requires { is_term w ≡ true }
     ensures { result ≡ is_bound mask w }
 {
-    if w < CONSTANTS {
-        return true;
-    }
-    has(mask, w - VARIABLE_BASE)
+    w < CONSTANTS || has(mask, w - VARIABLE_BASE)
 }
 
 // Checks the terms in `count` words of a node, from word `from`.
-pub fn check_terms(query: &[u32], mask: u32, node: usize, from: usize, count: usize) -> u32
-    requires { (node * node_words + node_words ≤ length query.now) × (from + count ≤ node_words) }
-    ensures { (s : Scopes) → Answers (check_terms query.now mask node from count s) result s }
+pub fn check_terms(node: &Node, mask: u32, from: usize, count: usize) -> Result<(), Refusal>
+    requires { from + count ≤ node_words }
+    ensures { (s : Scopes) → Answers (check_terms node.now.query.now mask node.now.number from count s) result s }
 {
-    let mut k = 0;
-    while k < count {
-        let w = query[node * NODE_WORDS + (from + k)];
-        if !is_term(w) {
-            return BAD_NODE;
+    for w in node.words(from, count) {
+        if !is_term(*w) {
+            return Err(Refusal::BadNode);
         }
-        if !is_bound(mask, w) {
-            return UNBOUND_VARIABLE;
+        if !is_bound(mask, *w) {
+            return Err(Refusal::UnboundVariable);
         }
-        k += 1;
     }
-    0
+    Ok(())
 }

@@ -1,8 +1,7 @@
 -- `query::inked::count_named` meets its contract: the inked terms of the nodes before `node` are counted. Assumes nothing.
-use Prim.Native.Nat.{ℕ, ◌+◌, ◌-◌, ◌<◌}
+use Prim.Native.Nat.{ℕ, ◌+◌, ◌-◌}
 use mathlib.Core.Path.{◌≡◌, refl, ap, ◌∙◌}
 use mathlib.Core.List.{List}
-use native.Mathlib.Nat.{sub-zero}
 use native.Mathlib.Omega.{arith}
 use lib.ListN.{length, length-append}
 use Rattle.query.specs.Words.{node_count}
@@ -10,13 +9,7 @@ use Rattle.query.specs.Named.{named_from, named_in, terms_of, constants_among}
 use Rattle.query.proofs.KindTerms.{named_rest}
 use Rattle.query.proofs.Named.{named-few}
 use Rattle.query.proofs.inked.count_named.Goals as goal
-use Rattle.query.proofs.inked.count_named.Goals.{After-count_constants-count, Start}
-
-pub loop-node-init : goal.loop-node-init
-loop-node-init c = (omega arith, rw sub-zero (omega arith))
-
-pub terms_of-requires : goal.terms_of-requires
-terms_of-requires c = (c.requires, omega arith)
+use Rattle.query.proofs.inked.count_named.Goals.{After-count_constants-count}
 
 -- the inked terms of the node, and those of the nodes after it
 module _ (c : After-count_constants-count) where
@@ -32,26 +25,17 @@ module _ (c : After-count_constants-count) where
   abbrev rest : List ℕ
   rest = named_from ars qs (node + 1) (node_count qs - (node + 1))
 
-  below : node < node_count qs
-  below = omega arith
-
   counted : c.loop-node.count + c.count_constants-count.result + length rest ≡ length (named_in ars qs)
   counted =
       let here = constants_among (terms_of ars qs node) in
       let now : c.count_constants-count.result ≡ length here = c.count_constants-count.ensures ∙ ap (λ (l : List ℕ). length (constants_among l)) c.terms_of.ensures in
-      omega (arith, now, c.loop-node.invariant.1, ap length (named_rest ars qs c.requires node below), length-append here rest)
+      omega (arith, now, c.loop-node.invariant, ap length (named_rest ars qs c.requires node c.loop-node-test.true), length-append here rest)
 
 pub overflow_add-count : goal.overflow_add-count
 overflow_add-count c = omega (arith, counted c, named-few (ars c) (qs c) c.requires.narrow, c.requires.whole)
 
-pub overflow_add-node : goal.overflow_add-node
-overflow_add-node c = omega (arith, below c)
-
-pub loop-node-smaller : goal.loop-node-smaller
-loop-node-smaller c = omega (arith, below c)
-
 pub loop-node-preserved : goal.loop-node-preserved
-loop-node-preserved c = (omega (arith, below c), counted c)
+loop-node-preserved c = counted c
 
 pub returns : goal.returns
 unfolding named_from
@@ -60,4 +44,4 @@ returns c =
     let qs = c.args.query.now in
     let e : node_count qs - c.loop-node.node ≡ 0 = omega arith in
     let n : length (named_from ars qs c.loop-node.node (node_count qs - c.loop-node.node)) ≡ 0 = rw e refl in
-    omega (arith, n, c.loop-node.invariant.1)
+    omega (arith, n, c.loop-node.invariant)

@@ -1,4 +1,4 @@
-use Prim.Native.Nat.{◌+◌, ◌-◌, ◌≤◌}
+use Prim.Native.Nat.{◌+◌, ◌-◌}
 use mathlib.Core.Path.{◌≡◌}
 use lib.ListN.{length}
 use Rattle.query.specs.Words.{node_count}
@@ -7,7 +7,4 @@ use Rattle.query.proofs.inked.count_named.Given as goal
 
 abbrev pub invariant-loop-node : goal.invariant-loop-node
 invariant-loop-node l =
-    (l.node ≤ node_count l.query) × (l.count + length (named_from l.arities l.query l.node (node_count l.query - l.node)) ≡ length (named_in l.arities l.query))
-
-abbrev pub decreases-loop-node : goal.decreases-loop-node
-decreases-loop-node l = node_count l.query - l.node
+    l.count + length (named_from l.arities l.query l.node (node_count l.query - l.node)) ≡ length (named_in l.arities l.query)
