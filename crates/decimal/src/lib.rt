@@ -13,10 +13,10 @@ pub fn decimal(out: &mut [u8], n: u32) -> usize
     ensures bytes { out.new ≡ overwrite (digits n) out.old }
 {
     if n < 10 {
-        out[0] = (48 + n) as u8;
+        out[0] = b'0' + n as u8;
         return 1;
     }
     let at = decimal(out, n / 10);
-    out[at] = (48 + n % 10) as u8;
+    out[at] = b'0' + (n % 10) as u8;
     at + 1
 }

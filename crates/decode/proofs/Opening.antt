@@ -14,12 +14,12 @@ use Rattle.calculus.specs.Reading.{read, refused, and_then}
 use Rattle.calculus.specs.declared.refusal.Refusal.TheVariants.{CutShort, BadRelationCount, BadArity}
 use Rattle.calculus.proofs.Bools.{and_parts, zero_not_one}
 use Rattle.calculus.proofs.Padded.{padded_more}
-use Rattle.instance.specs.Header.{is_arity, arities_well_formed, max_relations}
+use Rattle.instance.specs.Header.{is_count, is_arity, arities_well_formed, max_relations}
 use Rattle.parse.specs.Parse.{Parsed, read_each}
 use Rattle.parse.specs.Number.{read_number}
 use Rattle.parse.proofs.Bytes.{byte_at, byte_cut}
 use Rattle.parse.proofs.Numbers.{takes_number, took}
-use Rattle.card.specs.Format.{Head, is_count, read_arities, read_head}
+use Rattle.card.specs.Format.{Head, read_arities, read_head}
 use Rattle.card.proofs.Parts.{arities-read, head_read}
 use Rattle.decode.specs.declared.head.Arities as declared-arities
 use Rattle.decode.specs.declared.head.Head as declared-head

@@ -1,7 +1,7 @@
 -- The answer of encode: the size of a card, and the card as its head and its records. Assumes nothing.
 use Prim.Native.Nat.{ℕ, ◌+◌, ◌-◌, ◌*◌, ◌/◌, ◌%◌, ◌≤◌, ◌<◌}
-use mathlib.Core.Path.{◌≡◌, sym, ◌∙◌, ap}
-use mathlib.Core.Bool.{true, false}
+use mathlib.Core.Path.{◌≡◌, refl, sym, ◌∙◌, ap}
+use mathlib.Core.Bool.{true}
 use mathlib.Core.List.{List, [], ◌∷◌, ◌++◌, append_assoc}
 use native.Mathlib.Omega.{arith}
 use lib.ListN.{length, take, drop, length-append, length-take}
@@ -12,16 +12,17 @@ use borrow.Author.Tests.{le-leb, lt-leb}
 use Rattle.std.specs.Prelude.{Ok, Err}
 use Rattle.calculus.specs.Answer.{Answer}
 use Rattle.calculus.specs.Answer.{Tells}
+use Rattle.calculus.specs.Demand.{demand}
+use Rattle.calculus.specs.declared.refusal.Refusal.{Refusal}
 use Rattle.calculus.specs.declared.refusal.Refusal.TheVariants.{Unsound, OutputTooShort}
-use Rattle.calculus.specs.Refusal.{unsound, output_too_short}
 use Rattle.calculus.proofs.Answers.{two_demands, tells}
 use Rattle.instance.specs.declared.header.Header.{Header}
 use Rattle.instance.specs.Header.{max_relations}
-use Rattle.instance.specs.Sound.{sound, rows}
+use Rattle.instance.specs.Sound.{sound, scanned, rows}
 use Rattle.card.specs.Encode.{head_bytes, records_bytes, card_bytes, encoded, encoded_bytes}
 use Rattle.instance.proofs.Parts.{part_to_end, put_to_end}
 use Rattle.encode.proofs.RecordSteps.{records-size}
-use Rattle.instance.proofs.Sound.{sound_gives}
+use Rattle.instance.proofs.Sound.{sound_gives, scan_refused}
 use Rattle.calculus.specs.Overwrite.{overwrite}
 
 -- a head and then, in the part after it, records are written to the front of a list
@@ -67,12 +68,14 @@ module _ (h : Header) (ws : List ℕ) (s : sound h ws ≡ true) (eight : length 
 
 -- the answer, once it is known whether the instance is sound and whether the card fits
 module _ (h : Header) (ws out : List ℕ) where
-  pub refused-unsound : sound h ws ≡ false → (Err unsound ≡ encoded h ws out) × (out ≡ encoded_bytes h ws out)
+  pub refused-scan : {r : Refusal} → scanned h ws ≡ Err r → (Err r ≡ encoded h ws out) × (out ≡ encoded_bytes h ws out)
   unfolding encoded encoded_bytes
-  refused-unsound e = (simp e, simp e)
+  refused-scan {r} e =
+      let size = length (card_bytes h (rows h ws)) in
+      rw (scan_refused h ws (demand (leb size (length out)) (Err OutputTooShort) (Ok size)) r e) (refl, refl)
 
   pub refused-short : sound h ws ≡ true → length out < length (card_bytes h (rows h ws))
-      → (Err output_too_short ≡ encoded h ws out) × (out ≡ encoded_bytes h ws out)
+      → (Err OutputTooShort ≡ encoded h ws out) × (out ≡ encoded_bytes h ws out)
   unfolding encoded encoded_bytes
   refused-short e l = let t = lt-leb (length (card_bytes h (rows h ws))) (length out) l in (simp (e, t), simp (e, t))
 

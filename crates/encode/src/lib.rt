@@ -11,27 +11,26 @@ ghost use Rattle.card.specs.Encode.{card_bytes, encoded, encoded_bytes, records_
 ghost use Rattle.calculus.specs.Overwrite.{overwrite};
 
 use calculus::answer::Answer;
-use calculus::refusal::{OUTPUT_TOO_SHORT, UNSOUND};
+use calculus::refusal::Refusal;
 use instance::header::Header;
-use instance::scan::{Scanned, scan};
+use instance::scan::scan;
 
 // the map of a record with every column written, indexed by the number of columns
 const FULL_MAPS: [u8; 7] = [0, 1, 3, 7, 15, 31, 63];
 
 // Writes the bytes before the records.
-fn write_head(out: &mut [u8], relations: u32, arities: &[u32; 8], count: u32)
-    requires { (header_well_formed relations arities.now ≡ true) × (length arities.now ≡ max_relations) × (relations + 3 ≤ length out.old) }
-    ensures { out.new ≡ relations ∷ take relations arities.now ++ count / 256 % 256 ∷ count % 256 ∷ drop (relations + 3) out.old }
+fn write_head(out: &mut [u8], header: &Header, count: u32)
+    requires formed { header_well_formed header.now.relations header.now.arities ≡ true }
+    requires room { header.now.relations + 3 ≤ length out.old }
+    ensures { out.new ≡ header.now.relations ∷ take header.now.relations header.now.arities
+        ++ count / 256 % 256 ∷ count % 256 ∷ drop (header.now.relations + 3) out.old }
 {
-    out[0] = relations as u8;
-    let n = relations as usize;
-    let mut i = 0;
-    while i < n {
-        out[i + 1] = arities[i] as u8;
-        i += 1;
+    let n = header.relations as usize;
+    out[0] = header.relations as u8;
+    for (i, arity) in header.arities[..n].iter().enumerate() {
+        out[i + 1] = *arity as u8;
     }
-    out[n + 1] = (count / 256 % 256) as u8;
-    out[n + 2] = (count % 256) as u8;
+    out[n + 1..n + 3].copy_from_slice(&count.to_be_bytes()[2..]);
 }
 
 // Writes the record of one row.
@@ -41,15 +40,9 @@ fn write_record(out: &mut [u8], relation: u32, cells: &[u32])
 {
     out[0] = relation as u8;
     out[1] = FULL_MAPS[cells.len()];
-    let mut at = 2;
-    let mut i = 0;
-    while i < cells.len() {
-        let c = cells[i];
-        out[at] = (c / 65536 % 256) as u8;
-        out[at + 1] = (c / 256 % 256) as u8;
-        out[at + 2] = (c % 256) as u8;
-        at += 3;
-        i += 1;
+    for (i, cell) in cells.iter().enumerate() {
+        let at = 2 + 3 * i;
+        out[at..at + 3].copy_from_slice(&cell.to_be_bytes()[1..]);
     }
 }
 
@@ -62,6 +55,7 @@ fn write_records(out: &mut [u8], arities: &[u32; 8], words: &[u32])
 {
     let mut at = 0;
     let mut i = 0;
+    // A `while`: the step is the row's length, which no range has.
     while i < words.len() {
         let relation = words[i];
         let first = i + 1;
@@ -78,18 +72,14 @@ pub fn encode(header: Header, instance: &[u32], out: &mut [u8]) -> Answer
     ensures bytes { out.new ≡ encoded_bytes header instance.now out.old }
     ensures told { Tells result (encoded header instance.now out.old) (length (card_bytes header (rows header instance.now))) }
 {
-    let Scanned::Rows(count) = scan(header, instance) else {
-        return Answer::Refused(UNSOUND);
-    };
-    let relations = header.relations;
-    let arities = header.arities;
+    let count = scan(header, instance)?;
     let used = header.used as usize;
-    let start = relations as usize + 3;
+    let start = header.relations as usize + 3;
     let size = start + (3 * used - count as usize);
     if out.len() < size {
-        return Answer::Refused(OUTPUT_TOO_SHORT);
+        return Err(Refusal::OutputTooShort);
     }
-    write_head(out, relations, &arities, count);
-    write_records(&mut out[start..], &arities, &instance[..used]);
-    Answer::Done(size as u32)
+    write_head(out, &header, count);
+    write_records(&mut out[start..], &header.arities, &instance[..used]);
+    Ok(size as u32)
 }

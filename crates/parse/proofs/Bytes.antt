@@ -6,12 +6,13 @@ use mathlib.Core.List.{List, [], ◌∷◌}
 use lib.ListN.{length, get_or, drop, drop_of_length-le}
 use Rattle.calculus.specs.Demand.{demand}
 use Rattle.calculus.specs.Reading.{read, refused}
+use Rattle.calculus.specs.declared.refusal.Refusal.{Refusal}
 use Rattle.calculus.specs.declared.refusal.Refusal.TheVariants.{CutShort}
 use Rattle.calculus.proofs.Lists.{drop_step}
 use Rattle.calculus.proofs.Reading.{refused-read, demand-read}
 use Rattle.parse.specs.Parse.{read_byte}
 
-module _ (rule : ℕ → Bool) (why : ℕ) where
+module _ (rule : ℕ → Bool) (why : Refusal) where
   pub byte_read : (bs : List ℕ) {x : ℕ} {drop_step : List ℕ} → read_byte rule why bs ≡ read x drop_step → (bs ≡ x ∷ drop_step) × (rule x ≡ true)
   unfolding read_byte
   byte_read [] e = refused-read e

@@ -2,10 +2,10 @@
 use Prim.Native.Nat.{ℕ, suc, ◌+◌, ◌-◌, ◌≤◌, ◌<◌}
 use mathlib.Core.Path.{◌≡◌, refl}
 use mathlib.Core.Bool.{true}
-use mathlib.Core.List.{List}
+use mathlib.Core.List.{List, ◌++◌, append-nil}
 use native.Mathlib.Nat.{sub-zero}
 use native.Mathlib.Omega.{arith}
-use lib.ListN.{length, drop, set, length-drop}
+use lib.ListN.{length, take, drop, set, length-take, length-drop, drop_of_length-le}
 use Rattle.calculus.specs.Overwrite.{overwrite}
 use Rattle.calculus.specs.Reading.{read}
 use Rattle.calculus.proofs.Stores.{Written, written_begin, written_store, written_finish}
@@ -52,8 +52,15 @@ module _ {width count at : ℕ} {bytes out₀ out : List ℕ} {next i : ℕ} (f 
         written = written_store (i + 1) refl (rw (left l, m.1) at f.written);
       }
 
-  pub fill_end : count ≤ i → out ≡ overwrite (numbers_of width count (drop at bytes)) out₀
+  fill_end : count ≤ i → out ≡ overwrite (numbers_of width count (drop at bytes)) out₀
   unfolding read_each
   fill_end l =
       let none : count - i ≡ 0 = omega arith in
       written_finish (rw none at f.written)
+
+-- all numbers are in the part that was lent, the first `count` elements of a list
+pub fill_part : {width count at : ℕ} {bytes part : List ℕ} {next i : ℕ} (list : List ℕ) → Filling width count at bytes (take count list) part next i → count ≤ i
+    → is_read (read_numbers width count (drop at bytes)) ≡ true → part ++ drop count list ≡ overwrite (numbers_of width count (drop at bytes)) list
+fill_part {width} {count} {at} {bytes} list f l reads =
+    let long : length (numbers_of width count (drop at bytes)) ≡ count = each_length (read_number width) count (drop at bytes) reads in
+    rw (fill_end f l, long, drop_of_length-le (take count list) {i = count} (omega (arith, length-take count list)), append-nil)

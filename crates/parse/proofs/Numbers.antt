@@ -11,7 +11,6 @@ use lib.Dec.{leb}
 use lib.Seq.{drop-drop, take_at}
 use Rattle.calculus.specs.Reading.{read, refused, and_then}
 use Rattle.calculus.specs.declared.refusal.Refusal.TheVariants.{CutShort}
-use Rattle.calculus.specs.Refusal.{cut_short}
 use Rattle.calculus.proofs.Lists.{drop_step}
 use Rattle.calculus.proofs.Reading.{refused-read}
 use Rattle.parse.specs.Parse.{Parsed, read_each, is_read, got}
@@ -40,7 +39,7 @@ took {n = n} {p = p} t bs {a} {drop_step} e = go (leb n (length bs)) refl
   where
     go : (b : Bool) → leb n (length bs) ≡ b → (n ≤ length bs) × (drop_step ≡ drop n bs)
     go true l = let enough = leb-true n (length bs) l in (enough, cc ((t.whole bs enough).1, e))
-    go false l = let short : refused cut_short ≡ read a drop_step = cc (t.cut bs (leb-false n (length bs) l), e) in refused-read short
+    go false l = let short : refused CutShort ≡ read a drop_step = cc (t.cut bs (leb-false n (length bs) l), e) in refused-read short
 
 module _ {A B : Type 0} {m n : ℕ} {p : List ℕ → Parsed A} {f : A → List ℕ → Parsed B} (t : Takes m p) where
   pub cuts_then : ((a : A) → Cuts n (f a)) → Cuts (m + n) (λ bs. and_then (p bs) f)

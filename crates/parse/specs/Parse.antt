@@ -2,14 +2,15 @@
 use Rattle.std.specs.Prelude.{ℕ, zero, suc, Bool, true, false, List, [], ◌∷◌}
 use Rattle.calculus.specs.Demand.{demand}
 use Rattle.calculus.specs.Reading.{Reading, read, refused, and_then}
+use Rattle.calculus.specs.declared.refusal.Refusal.{Refusal}
 use Rattle.calculus.specs.declared.refusal.Refusal.TheVariants.{CutShort}
 
--- what was read and the bytes after it, or the number of the refusal
+-- what was read and the bytes after it, or the refusal
 abbrev pub Parsed : Type 0 → Type 0
 Parsed A = Reading (List ℕ) A
 
 -- one byte under its rule
-unfoldable pub read_byte : (ℕ → Bool) → ℕ → List ℕ → Parsed ℕ
+unfoldable pub read_byte : (ℕ → Bool) → Refusal → List ℕ → Parsed ℕ
 read_byte rule why [] = refused CutShort
 read_byte rule why (b ∷ bs) = demand (rule b) (refused why) (read b bs)
 

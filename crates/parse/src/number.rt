@@ -9,7 +9,7 @@ pub fn byte(bytes: &[u8], at: usize) -> u32
     requires { at < length bytes.now }
     ensures { (result ≡ get_or bytes.now at 0) × (result < 256) }
 {
-    bytes[at] as u32
+    u32::from(bytes[at])
 }
 
 // The number in `width` bytes from index `at`.
@@ -20,10 +20,8 @@ pub fn number(bytes: &[u8], at: usize, width: usize) -> u32
     ensures small { result < 256 ^ width }
 {
     let mut number: u32 = 0;
-    let mut left = width;
-    while 0 < left {
-        number = number * 256 + byte(bytes, at + (width - left));
-        left -= 1;
+    for byte in &bytes[at..at + width] {
+        number = number * 256 + u32::from(*byte);
     }
     number
 }
@@ -36,11 +34,7 @@ pub fn numbers(out: &mut [u32], bytes: &[u8], at: usize, width: usize, count: us
     requires room { count ≤ length out.old }
     ensures { out.new ≡ overwrite (numbers_of width count (drop at bytes.now)) out.old }
 {
-    let mut next = at;
-    let mut i = 0;
-    while i < count {
-        out[i] = number(bytes, next, width);
-        next += width;
-        i += 1;
+    for (i, place) in out[..count].iter_mut().enumerate() {
+        *place = number(bytes, at + i * width, width);
     }
 }

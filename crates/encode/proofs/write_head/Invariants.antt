@@ -1,7 +1,5 @@
-use Prim.Native.Nat.{◌+◌, ◌-◌, ◌/◌, ◌%◌, ◌≤◌}
-use mathlib.Core.List.{◌∷◌, ◌++◌}
-use Prim.Native.Nat.{ℕ}
-use mathlib.Core.List.{List, []}
+use Prim.Native.Nat.{ℕ, ◌+◌, ◌/◌, ◌%◌}
+use mathlib.Core.List.{List, [], ◌∷◌, ◌++◌}
 use lib.ListN.{take, drop}
 use Rattle.calculus.proofs.Stores.{Written}
 use Rattle.encode.proofs.write_head.Given as goal
@@ -15,7 +13,4 @@ whole n ars count = n ∷ take n ars ++ counted count
 
 abbrev pub invariant-loop-i : goal.invariant-loop-i
 invariant-loop-i l =
-    (l.i ≤ l.relations) × Written (whole l.relations l.arities l.count) (drop l.i (take l.relations l.arities) ++ counted l.count) l.initial.out l.out (l.i + 1)
-
-abbrev pub decreases-loop-i : goal.decreases-loop-i
-decreases-loop-i l = l.n - l.i
+    Written (whole l.header.relations l.header.arities l.count) (drop l.i (take l.header.relations l.header.arities) ++ counted l.count) l.initial.out l.out (l.i + 1)

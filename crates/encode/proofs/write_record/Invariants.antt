@@ -1,8 +1,5 @@
-use Prim.Native.Nat.{◌+◌, ◌-◌, ◌*◌, ◌≤◌}
-use mathlib.Core.Path.{◌≡◌}
-use mathlib.Core.List.{◌∷◌}
-use Prim.Native.Nat.{ℕ}
-use mathlib.Core.List.{List}
+use Prim.Native.Nat.{ℕ, ◌+◌, ◌*◌}
+use mathlib.Core.List.{List, ◌∷◌}
 use lib.ListN.{length, drop}
 use Rattle.calculus.proofs.Stores.{Written}
 use Rattle.card.specs.Encode.{fields_bytes, full_map}
@@ -12,7 +9,4 @@ abbrev pub whole : ℕ → List ℕ → List ℕ
 whole relation cells = relation ∷ full_map (length cells) ∷ fields_bytes cells
 
 abbrev pub invariant-loop-i : goal.invariant-loop-i
-invariant-loop-i l = (l.i ≤ length l.cells) × (l.at ≡ 2 + 3 * l.i) × Written (whole l.relation l.cells) (fields_bytes (drop l.i l.cells)) l.initial.out l.out l.at
-
-abbrev pub decreases-loop-i : goal.decreases-loop-i
-decreases-loop-i l = length l.cells - l.i
+invariant-loop-i l = Written (whole l.relation l.cells) (fields_bytes (drop l.i l.cells)) l.initial.out l.out (2 + 3 * l.i)
