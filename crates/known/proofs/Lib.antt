@@ -1,3 +1,3 @@
-pub mod Parts
 pub mod Walking
 pub mod Runs
+pub mod Setting

@@ -1,38 +1,85 @@
-// What evaluation knows of an instance besides its words, in one array.
+// What evaluation knows of an instance besides its words.
 
 #![tactic(auto)]
 
-ghost use Rattle.std.specs.Prelude.{◌≡◌, ◌∷◌, ◌++◌, length, replicate};
-ghost use Rattle.instance.specs.Header.{max_relations};
-ghost use Rattle.known.specs.Known.{known_words, flag_words, places_in};
+ghost use Rattle.std.specs.Prelude.{◌≡◌, ◌<◌, true, replicate};
+ghost use Rattle.instance.specs.Header.{arity_of, max_relations};
+ghost use Rattle.known.specs.Known.{max_places, flag_words, count_in, arities_in, places_in, flag_at, gap_at, Gap, Flagged};
 
-use arities::ARITIES;
-use instance::eight::put_eight;
-
-pub mod arities;
-pub mod flags;
-
-// The counts come first, the number of places after the arities.
-const COUNTS: usize = 0;
-
-const PLACES: usize = 16;
-
-// How many places a quantifier walks.
-pub fn places_in(known: &[u32; 170]) -> u32
-    requires { length known.now ≡ known_words }
-    ensures { result ≡ places_in known.now }
-{
-    known[PLACES]
+// The flags stand 32 to a word, the first in its lowest bit. A walk passes over the places whose flag stands.
+#[derive(Drop)]
+pub struct Known {
+    // a relation's number of rows
+    counts: [u32; 8],
+    // a relation's number of columns
+    arities: [u32; 8],
+    // how many places a quantifier walks
+    places: usize,
+    flags: [u32; 153],
 }
 
-// The row counts and the arities of a header, the number of places, and no flag, in an array of zeros.
-pub fn describe(counts: &[u32; 8], arities: &[u32; 8], places: u32, known: &mut [u32])
-    requires { (length counts.now ≡ max_relations) × (length arities.now ≡ max_relations)
-        × (known.old ≡ replicate known_words 0) }
-    ensures { known.new ≡ counts.now ++ arities.now
-        ++ places ∷ replicate flag_words 0 }
-{
-    put_eight(known, COUNTS, counts);
-    put_eight(known, ARITIES, arities);
-    known[PLACES] = places;
+impl Known {
+    // The row counts and the arities of a header, the number of places, and no flag.
+    pub fn new(counts: &[u32; 8], arities: &[u32; 8], places: usize) -> Known
+        ensures { result ≡ record {
+          counts = counts.now;
+          arities = arities.now;
+          places = places;
+          flags = replicate flag_words 0;
+        } }
+    {
+        Known {
+            counts: *counts,
+            arities: *arities,
+            places,
+            flags: [0; 153],
+        }
+    }
+
+    // The number of rows of a relation.
+    pub fn count(&self, relation: usize) -> u32
+        requires { relation < max_relations }
+        ensures { result ≡ count_in self.now relation }
+    {
+        self.counts[relation]
+    }
+
+    pub fn arity(&self, relation: usize) -> u32
+        requires { relation < max_relations }
+        ensures { result ≡ arity_of (arities_in self.now) relation }
+    {
+        self.arities[relation]
+    }
+
+    // How many places a quantifier walks.
+    pub fn places(&self) -> usize
+        ensures { result ≡ places_in self.now }
+    {
+        self.places
+    }
+
+    // Whether a walk passes over a place.
+    pub fn passed(&self, place: usize) -> bool
+        requires { place < max_places }
+        ensures { result ≡ flag_at self.now place }
+    {
+        (self.flags[place / 32] >> (place % 32)) % 2 == 1
+    }
+
+    // How many places from one on are passed over, as far as its flag word tells: 0 if it is not passed over itself.
+    pub fn gap(&self, place: usize) -> usize
+        requires { place < max_places }
+        ensures length { result ≡ gap_at self.now place }
+        ensures gap { Gap self.now place result }
+    {
+        (self.flags[place / 32] >> (place % 32)).trailing_ones() as usize
+    }
+
+    // Passes over a place.
+    pub fn pass(&mut self, place: usize)
+        requires { place < max_places }
+        ensures { Flagged self.old place true self.new }
+    {
+        self.flags[place / 32] |= 1 << (place % 32);
+    }
 }

@@ -1,6 +1,6 @@
 -- The columns before the first that differs. Assumes nothing.
-use Prim.Native.Nat.{ℕ, suc, ◌<◌}
-use mathlib.Core.Path.{◌≡◌, refl, ap, ◌∙◌}
+use Prim.Native.Nat.{ℕ, suc, ◌+◌, ◌<◌}
+use mathlib.Core.Path.{◌≡◌, refl, sym, ap, ap₂, subst, ◌∙◌}
 use mathlib.Core.Bool.{Bool, true, false, ◌&&◌, cond}
 use mathlib.Core.Logic.{◌⊎◌, inl, inr, ⊎_elim}
 use mathlib.Core.List.{List, [], ◌∷◌}
@@ -9,8 +9,12 @@ use borrow.Author.Tests.{eq-eqb, ne_eqb, eqb-true, eqb-false}
 use lib.Dec.{eqb}
 use lib.ListN.{length, get_or, drop}
 use Rattle.calculus.specs.Closed.{identical}
-use Rattle.lookup.specs.Matching.{alike, matching}
-use Rattle.lookup.proofs.Matching.{matching-alike}
+use Rattle.calculus.proofs.Lists.{drop_step}
+use Rattle.std.specs.Prelude.{Option}
+use Rattle.lookup.specs.declared.row.Binding.{Binding}
+use Rattle.lookup.specs.Binding.{binding_of}
+use Rattle.lookup.specs.Matching.{alike, unified, matching}
+use Rattle.lookup.proofs.Matching.{matching-alike, matching_bound, with_binding}
 
 pub alike_end : (xs ys : List ℕ) → xs ≡ [] → alike xs ys ≡ 0
 unfolding alike
@@ -65,3 +69,18 @@ module _ (xs ys : List ℕ) (l : length xs ≡ length ys) where
 
   pub alike-other : (alike xs ys ≡ length xs → ⊥) → (alike xs ys < length xs) × (identical xs ys ≡ false) × (get_or xs (alike xs ys) 0 ≡ get_or ys (alike xs ys) 0 → ⊥)
   alike-other ne = ⊎_elim (λ p. absurd (ne p.0)) (λ p. p) (alike-told xs ys l)
+
+  -- the first column that differs, and those after it, decide
+  module _ {i : ℕ} (is : i ≡ alike xs ys) (other : i ≡ length xs → ⊥) where
+    pub other-low : i < length xs
+    other-low = omega (arith, is, (alike-other (λ e. other (is ∙ e))).0)
+
+    differs : get_or xs i 0 ≡ get_or ys i 0 → ⊥
+    differs e = (alike-other (λ f. other (is ∙ f))).2 (subst (λ (k : ℕ). get_or xs k 0 ≡ get_or ys k 0) is e)
+
+    pub other_decides : {o : Option Binding} → o ≡ binding_of (get_or xs i 0) (get_or ys i 0) → matching xs ys ≡ unified (with_binding (λ c. c) (drop (i + 1) xs) (drop (i + 1) ys) o)
+    other_decides e =
+        matching_past xs ys ∙ ap (λ (k : ℕ). matching (drop k xs) (drop k ys)) (sym is) ∙
+        ap₂ matching (drop_step xs i other-low) (drop_step ys i (omega (arith, l, other-low))) ∙
+        matching_bound (get_or xs i 0) (get_or ys i 0) (drop (i + 1) xs) (drop (i + 1) ys) differs ∙
+        ap (λ (o : Option Binding). unified (with_binding (λ c. c) (drop (i + 1) xs) (drop (i + 1) ys) o)) (sym e)

@@ -1,10 +1,10 @@
 -- The cells of a row, one by one: of a row that is lent as a slice, and of the row at a place of an instance's words. Assumes nothing.
-use Prim.Native.Nat.{ℕ, ◌+◌, ◌≤◌, ◌<◌}
+use Prim.Native.Nat.{ℕ, ◌+◌, ◌-◌, ◌≤◌, ◌<◌}
 use mathlib.Core.Path.{◌≡◌, sym, ap, ◌∙◌}
 use mathlib.Core.List.{List, [], ◌∷◌}
 use native.Mathlib.Omega.{arith}
-use lib.ListN.{length, get_or, drop, length-take, length-drop, drop_of_length-le}
-use lib.Seq.{get_or-take, get_or-drop, length-take-le}
+use lib.ListN.{length, get_or, take, drop, length-take, length-drop, drop_of_length-le}
+use lib.Seq.{take_all, get_or-take, get_or-drop, length-take-le}
 use Rattle.calculus.proofs.Lists.{drop_step}
 use Rattle.lookup.specs.Place.{cells_at}
 
@@ -24,10 +24,10 @@ module _ (ws : List ℕ) (place n i : ℕ) where
       drop_step (cells_at ws place n) i (omega (arith, l, cells-size ws place n m)) ∙
       ap (λ (x : ℕ). x ∷ drop (i + 1) (cells_at ws place n)) (cells_at_lem l)
 
-  -- from index n, none
-  pub cells-end : n ≤ i → drop i (cells_at ws place n) ≡ []
-  cells-end l = drop_of_length-le (cells_at ws place n) {i = i} (omega (arith, length-take n (drop (place + 1) ws)))
-
 -- from a slice's length, none
 pub row-end : (xs : List ℕ) (i : ℕ) → length xs ≤ i → drop i xs ≡ []
 row-end xs i l = drop_of_length-le xs {i = i} l
+
+-- the part of a slice from index i on
+pub rest_of : (xs : List ℕ) (i : ℕ) → take (length xs - i) (drop i xs) ≡ drop i xs
+rest_of xs i = take_all (length xs - i) (drop i xs) (omega (arith, length-drop i xs))

@@ -1,75 +1,77 @@
 -- How two rows compare, column by column, and what one more binding does. Assumes nothing.
-use Prim.Native.Nat.{ℕ, zero, suc, ◌+◌, ◌≤◌, ◌<◌}
-use mathlib.Core.Path.{◌≡◌, refl, sym, ap, ◌∙◌}
+use Prim.Native.Nat.{ℕ, ◌+◌, ◌≤◌, ◌<◌}
+use mathlib.Core.Path.{◌≡◌, refl, sym, ap, ap₂, ◌∙◌}
 use mathlib.Core.Bool.{Bool, true, false, ◌||◌, cond}
 use mathlib.Core.List.{List, [], ◌∷◌}
-use native.Mathlib.Numerals.{add-one}
 use native.Mathlib.Omega.{arith}
-use borrow.Author.Tests.{lt-ltb, le-ltb, eq-eqb, ne_eqb}
-use lib.ListN.{length, get_or, set}
-use lib.Seq.{get_or-set_same, get_or-set_other}
+use borrow.Author.Tests.{eq-eqb, ne_eqb}
+use lib.Dec.{ltb}
+use lib.ListN.{length, get_or, set, take, drop, drop_of_length-le}
+use Rattle.std.specs.Prelude.{Option, Some, None}
+use Rattle.std.proofs.lemmas.List.{take_more_set}
+use Rattle.std.proofs.lemmas.List.Sums.{fold_push}
+use Rattle.calculus.proofs.Lists.{drop_step}
 use Rattle.calculus.specs.Cell.{constants}
 use Rattle.calculus.specs.declared.truth.Truth.TheVariants.{False, Unknown, True}
 use Rattle.calculus.specs.Closed.{identical, some, stands}
 use Rattle.calculus.specs.Unify.{bind, unifies_with, unifies}
-use Rattle.lookup.specs.declared.row.Match.TheVariants.{Identical, Apart}
-use Rattle.lookup.specs.Matching.{unified, matching, row_verdict, through}
+use Rattle.lookup.specs.declared.row.Binding.{Binding}
+use Rattle.lookup.specs.declared.row.Match.TheVariants.{Identical}
+use Rattle.lookup.specs.Binding.{through, binding_of}
+use Rattle.lookup.specs.Matching.{unified, matching, row_verdict}
 
 -- ---- the next column: the bindings so far map its cells to a and b
+
+-- whether the columns after it unify, if its cells are different and this makes them equal
+abbrev pub with_binding : (ℕ → ℕ) → List ℕ → List ℕ → Option Binding → Bool
+with_binding s xs ys None = false
+with_binding s xs ys (Some b) = unifies_with (λ c. bind b.null b.cell (s c)) xs ys
 
 module _ (s : ℕ → ℕ) (x y a b : ℕ) (sent : s x ≡ a) (sent_too : s y ≡ b) (xs ys : List ℕ) where
   pub unify-alike : a ≡ b → unifies_with s (x ∷ xs) (y ∷ ys) ≡ unifies_with s xs ys
   unfolding unifies_with
   unify-alike e = simp (sent, sent_too, eq-eqb a b e)
 
-  pub unify-apart : (a ≡ b → ⊥) → a < constants → b < constants → unifies_with s (x ∷ xs) (y ∷ ys) ≡ false
+  pub unify_bound : (a ≡ b → ⊥) → unifies_with s (x ∷ xs) (y ∷ ys) ≡ with_binding s xs ys (binding_of a b)
   unfolding unifies_with
-  unify-apart ne p q = simp (sent, sent_too, ne_eqb a b ne, lt-ltb a constants p, lt-ltb b constants q)
+  unify_bound ne = simp (sent, sent_too, ne_eqb a b ne) (go (ltb a constants) (ltb b constants))
+    where
+      go :
+          (c d : Bool) →
+          cond c (cond d false (unifies_with (λ z. bind b a (s z)) xs ys)) (unifies_with (λ z. bind a b (s z)) xs ys) ≡
+          with_binding s xs ys (cond c (cond d None (Some (record { null = b; cell = a }))) (Some (record { null = a; cell = b })))
+      go true true = refl
+      go true false = refl
+      go false d = refl
 
-  pub unify-left : (a ≡ b → ⊥) → constants ≤ a → unifies_with s (x ∷ xs) (y ∷ ys) ≡ unifies_with (λ c. bind a b (s c)) xs ys
-  unfolding unifies_with
-  unify-left ne p = simp (sent, sent_too, ne_eqb a b ne, le-ltb a constants p)
-
-  pub unify-right : (a ≡ b → ⊥) → a < constants → constants ≤ b → unifies_with s (x ∷ xs) (y ∷ ys) ≡ unifies_with (λ c. bind b a (s c)) xs ys
-  unfolding unifies_with
-  unify-right ne p q = simp (sent, sent_too, ne_eqb a b ne, lt-ltb a constants p, le-ltb b constants q)
+-- one more binding, after the first n
+pub through-more : (bs : List Binding) (n : ℕ) (b : Binding) (c : ℕ) → n < length bs → through (take (n + 1) (set bs n b)) c ≡ bind b.null b.cell (through (take n bs) c)
+through-more bs n b c l = ap (λ (l : List Binding). through l c) (take_more_set bs n b l) ∙ fold_push _ c (take n bs) b
 
 -- bindings matter only by what they do to each cell
-unify-same : (s t : ℕ → ℕ) → ((c : ℕ) → s c ≡ t c) → (xs ys : List ℕ) → unifies_with s xs ys ≡ unifies_with t xs ys
-unify-same s t e xs ys = ap (λ (f : ℕ → ℕ). unifies_with f xs ys) (λ i c. e c i)
-
--- ---- the bindings
-
-pub through_step : (from to : List ℕ) (n c : ℕ) → through from to (n + 1) c ≡ bind (get_or from n 0) (get_or to n 0) (through from to n c)
-unfolding through
-through_step from to n c = rw add-one refl
-
--- a store after the first n bindings does not change them
-through-set : (from to : List ℕ) (a b n k c : ℕ) → n ≤ k → through (set from k a) (set to k b) n c ≡ through from to n c
-unfolding through
-through-set from to a b zero k c l = refl
-through-set from to a b (suc n) k c l =
-    let ne : n ≡ k → ⊥ = λ e. omega arith in
-    rw (get_or-set_other from k n a 0 ne, get_or-set_other to k n b 0 ne, through-set from to a b n k c (omega arith)) refl
-
--- one more binding, after the others
-pub through-more :
-    (from to : List ℕ) (a b n c : ℕ) → n < length from → n < length to →
-    through (set from n a) (set to n b) (n + 1) c ≡ bind a b (through from to n c)
-through-more from to a b n c l m =
-    rw (through_step, get_or-set_same from n a 0 l, get_or-set_same to n b 0 m, through-set from to a b n n c (omega arith)) refl
-
--- the same for cells that the binding s comes to first
 pub unify-more :
-    (s : ℕ → ℕ) (from to : List ℕ) (a b n : ℕ) → n < length from → n < length to → (xs ys : List ℕ) →
-    unifies_with (λ c. bind a b (through from to n (s c))) xs ys ≡ unifies_with (λ c. through (set from n a) (set to n b) (n + 1) (s c)) xs ys
-unify-more s from to a b n l m xs ys =
-    unify-same
-    (λ c. bind a b (through from to n (s c)))
-    (λ c. through (set from n a) (set to n b) (n + 1) (s c))
-    (λ c. sym (through-more from to a b n (s c) l m))
-    xs
-    ys
+    (bs : List Binding) (n : ℕ) (b : Binding) → n < length bs → (xs ys : List ℕ) →
+    unifies_with (λ c. bind b.null b.cell (through (take n bs) c)) xs ys ≡ unifies_with (λ c. through (take (n + 1) (set bs n b)) c) xs ys
+unify-more bs n b l xs ys = ap (λ (f : ℕ → ℕ). unifies_with f xs ys) (λ i c. sym (through-more bs n b c l) i)
+
+-- two rows from column i on, whose cells there the bindings so far map to a and b
+module _ (s : ℕ → ℕ) (xs ys : List ℕ) (i : ℕ) where
+  abbrev from_here : Bool
+  from_here = unifies_with s (drop i xs) (drop i ys)
+
+  module _ {a b : ℕ} (l : i < length xs) (m : i < length ys) (sent : a ≡ s (get_or xs i 0)) (sent_too : b ≡ s (get_or ys i 0)) where
+    here : from_here ≡ unifies_with s (get_or xs i 0 ∷ drop (i + 1) xs) (get_or ys i 0 ∷ drop (i + 1) ys)
+    here = ap₂ (unifies_with s) (drop_step xs i l) (drop_step ys i m)
+
+    pub column-alike : a ≡ b → from_here ≡ unifies_with s (drop (i + 1) xs) (drop (i + 1) ys)
+    column-alike e = here ∙ unify-alike s _ _ a b (sym sent) (sym sent_too) _ _ e
+
+    pub column_bound : (a ≡ b → ⊥) → {o : Option Binding} → o ≡ binding_of a b → from_here ≡ with_binding s (drop (i + 1) xs) (drop (i + 1) ys) o
+    column_bound ne e = here ∙ unify_bound s _ _ a b (sym sent) (sym sent_too) _ _ ne ∙ ap (with_binding s (drop (i + 1) xs) (drop (i + 1) ys)) (sym e)
+
+  pub columns-end : length ys ≡ length xs → length xs ≤ i → from_here ≡ true
+  unfolding unifies_with
+  columns-end e l = ap₂ (unifies_with s) (drop_of_length-le xs {i = i} l) (drop_of_length-le ys {i = i} (omega (arith, e, l)))
 
 -- ---- identical columns first
 
@@ -78,18 +80,9 @@ module _ (x y : ℕ) (xs ys : List ℕ) where
   unfolding matching identical
   matching-alike e = rw (unify-alike (λ c. c) x y x y refl refl xs ys e) (simp (eq-eqb x y e))
 
-  matching_differs : (x ≡ y → ⊥) → matching (x ∷ xs) (y ∷ ys) ≡ unified (unifies (x ∷ xs) (y ∷ ys))
+  pub matching_bound : (x ≡ y → ⊥) → matching (x ∷ xs) (y ∷ ys) ≡ unified (with_binding (λ c. c) xs ys (binding_of x y))
   unfolding matching identical
-  matching_differs ne = simp (ne_eqb x y ne)
-
-  pub matching-apart : (x ≡ y → ⊥) → x < constants → y < constants → matching (x ∷ xs) (y ∷ ys) ≡ Apart
-  matching-apart ne p q = matching_differs ne ∙ ap unified (unify-apart (λ c. c) x y x y refl refl xs ys ne p q)
-
-  pub matching-left : (x ≡ y → ⊥) → constants ≤ x → matching (x ∷ xs) (y ∷ ys) ≡ unified (unifies_with (bind x y) xs ys)
-  matching-left ne p = matching_differs ne ∙ ap unified (unify-left (λ c. c) x y x y refl refl xs ys ne p)
-
-  pub matching-right : (x ≡ y → ⊥) → x < constants → constants ≤ y → matching (x ∷ xs) (y ∷ ys) ≡ unified (unifies_with (bind y x) xs ys)
-  matching-right ne p q = matching_differs ne ∙ ap unified (unify-right (λ c. c) x y x y refl refl xs ys ne p q)
+  matching_bound ne = (simp (ne_eqb x y ne)) ∙ ap unified (unify_bound (λ c. c) x y x y refl refl xs ys ne)
 
 -- ---- one row's verdict
 

@@ -3,3 +3,4 @@ pub mod Place
 pub mod Examined
 pub mod Passing
 pub mod Probe
+pub mod Binding

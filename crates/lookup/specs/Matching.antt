@@ -1,7 +1,7 @@
--- How two lists of cells compare, and the bindings of nulls made on the way.
-use Rattle.std.specs.Prelude.{ℕ, zero, suc, Bool, cond, List, [], ◌∷◌, get_or, eqb}
+-- How two lists of cells compare.
+use Rattle.std.specs.Prelude.{ℕ, suc, Bool, cond, List, [], ◌∷◌, eqb}
 use Rattle.calculus.specs.Closed.{identical}
-use Rattle.calculus.specs.Unify.{bind, unifies}
+use Rattle.calculus.specs.Unify.{unifies}
 use Rattle.calculus.specs.declared.truth.Truth.{Truth}
 use Rattle.calculus.specs.declared.truth.Truth.TheVariants.{False, Unknown, True}
 use Rattle.lookup.specs.declared.row.Match.{Match}
@@ -29,8 +29,3 @@ unfoldable pub alike : List ℕ → List ℕ → ℕ
 alike [] ys = 0
 alike (x ∷ xs) [] = 0
 alike (x ∷ xs) (y ∷ ys) = cond (eqb x y) (suc (alike xs ys)) 0
-
--- a cell after the first n bindings, in order: binding k replaces element k of `from` by element k of `to`
-unfoldable pub through : List ℕ → List ℕ → ℕ → ℕ → ℕ
-through from to zero c = c
-through from to (suc n) c = bind (get_or from n 0) (get_or to n 0) (through from to n c)

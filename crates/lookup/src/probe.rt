@@ -6,7 +6,7 @@ ghost use Rattle.lookup.specs.Passing.{limit_of};
 use calculus::cell::CONSTANTS;
 
 // Above every cell.
-const ANY_CELL: u32 = 4_294_967_295;
+const ANY_CELL: u32 = u32::MAX;
 
 // How many rows a column may fail to tell apart.
 const FAILS: u32 = 4;
@@ -39,8 +39,8 @@ pub fn probe_at(row: &[u32], column: usize, possible: bool) -> Probe
 {
     let low = limit(possible, row[column]);
     Probe {
-        column: column,
-        low: low,
+        column,
+        low,
         failed: 0,
     }
 }
@@ -58,28 +58,17 @@ pub fn next_probe(
     requires { (place + (1 + length row.now) ≤ length words.now) × Probes earlier row.now probe }
     ensures { Probes possible row.now result }
 {
-    let column = probe.column;
     if possible != earlier {
-        return probe_at(row, column, possible);
+        return probe_at(row, probe.column, possible);
     }
-    let low = probe.low;
-    let failed = probe.failed;
-    if words[place + 1 + column] != row[column] {
-        return Probe {
-            column: column,
-            low: low,
-            failed: failed,
-        };
+    if words[place + 1 + probe.column] != row[probe.column] {
+        return probe;
     }
-    if failed < FAILS {
-        let again = failed + 1;
-        return Probe {
-            column: column,
-            low: low,
-            failed: again,
-        };
+    if probe.failed < FAILS {
+        let failed = probe.failed + 1;
+        return Probe { failed, ..probe };
     }
-    let next = column + 1;
+    let next = probe.column + 1;
     if next == row.len() {
         return probe_at(row, 0, possible);
     }

@@ -6,7 +6,7 @@ ghost use Rattle.instance.specs.Header.{arity_of, max_columns};
 ghost use Rattle.instance.specs.Rows.{rows_from};
 ghost use Rattle.lookup.specs.Examined.{examined_of};
 ghost use Rattle.lookup.specs.Matching.{match_after};
-ghost use Rattle.known.specs.Known.{known_words, arities_in};
+ghost use Rattle.known.specs.Known.{arities_in};
 ghost use Rattle.lookup.specs.Passing.{RowsLeft};
 ghost use Rattle.lookup.specs.Place.{cells_at};
 
@@ -14,7 +14,7 @@ use super::probe::{next_probe, probe_at};
 use super::row::{Match, alike, compare};
 use super::rows::next_near;
 use calculus::truth::Truth;
-use known::arities::arity_in;
+use known::Known;
 
 // What rows of a relation say of a row, and how many of them were examined.
 #[derive(Clone, Copy)]
@@ -39,31 +39,31 @@ fn compare_after(words: &[u32], place: usize, row: &[u32], possible: bool) -> Ma
 
 // What the first `most` rows of the relation say. An identical row ends the pass, and so does the last of those rows. A row that only unifies does not:
 // a later one may be identical. A row is not compared if a probe of one column tells enough.
-pub fn stands(
-    words: &[u32],
-    known: &[u32; 170],
-    relation: u32,
-    most: u32,
-    row: &[u32; 6],
-) -> Examined
-    requires { RowsLeft (arities_in known.now) words.now relation 0 most × (length known.now ≡ known_words) × (length row.now ≡ max_columns) }
+pub fn stands(words: &[u32], known: &Known, relation: u32, most: u32, row: &[u32; 6]) -> Examined
+    requires { RowsLeft (arities_in known.now) words.now relation 0 most }
     ensures answer { result ≡ examined_of (take most (tuples relation (rows_from (arities_in known.now) 0 words.now))) (take (arity_of (arities_in known.now) relation) row.now) }
     ensures verdict { MeansStands (take most (tuples relation (rows_from (arities_in known.now) 0 words.now))) (take (arity_of (arities_in known.now) relation) row.now) result.truth }
     ensures charge { MeansExamined (take most (tuples relation (rows_from (arities_in known.now) 0 words.now))) (take (arity_of (arities_in known.now) relation) row.now) result.rows }
 {
-    let arity = arity_in(known, relation as usize) as usize;
-    // A part of an array behind a reference is taken from its whole slice.
-    let cells = &row[..];
-    let asked = &cells[..arity];
+    let arity = known.arity(relation as usize) as usize;
+    let asked = &row[..arity];
     let mut probe = probe_at(asked, 0, false);
     let mut possible = false;
     let mut more = most;
     let mut i = 0;
+    // A `while`: a search passes over as many rows as it finds, which no range has.
     while 0 < more {
-        let column = probe.column;
-        let cell = asked[column];
-        let low = probe.low;
-        let near = next_near(words, known, relation, column, cell, low, i, more);
+        let cell = asked[probe.column];
+        let near = next_near(
+            words,
+            known,
+            relation,
+            probe.column,
+            cell,
+            probe.low,
+            i,
+            more,
+        );
         more = near.more;
         if 0 < more {
             let earlier = possible;
@@ -75,9 +75,7 @@ pub fn stands(
                         rows: examined,
                     };
                 }
-                Match::Unifies => {
-                    possible = true;
-                }
+                Match::Unifies => possible = true,
                 Match::Apart => {}
             }
             probe = next_probe(words, near.place, asked, probe, earlier, possible);
@@ -85,14 +83,12 @@ pub fn stands(
             i = near.place + 1 + arity;
         }
     }
-    if possible {
-        return Examined {
-            truth: Truth::Unknown,
-            rows: most,
-        };
-    }
     Examined {
-        truth: Truth::False,
+        truth: if possible {
+            Truth::Unknown
+        } else {
+            Truth::False
+        },
         rows: most,
     }
 }

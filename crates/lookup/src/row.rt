@@ -1,9 +1,10 @@
 // Compares an asked row with the row at a place of an instance's words, which is read where it stands.
-ghost use Rattle.std.specs.Prelude.{◌≡◌, ◌+◌, ◌≤◌, length, drop, [], ◌∷◌};
+ghost use Rattle.std.specs.Prelude.{◌≡◌, ◌≢◌, ◌+◌, ◌≤◌, length, [], ◌∷◌};
 ghost use Rattle.calculus.specs.Unify.{bind, unifies_with};
 ghost use Rattle.instance.specs.Header.{max_columns};
 ghost use Rattle.calculus.specs.Closed.{stands};
-ghost use Rattle.lookup.specs.Matching.{alike as alikeOf, unified, row_verdict, through};
+ghost use Rattle.lookup.specs.Matching.{alike as alikeOf, unified, row_verdict};
+ghost use Rattle.lookup.specs.Binding.{through, binding_of};
 ghost use Rattle.lookup.specs.Place.{cells_at, compared_at, MeansMatch};
 
 use calculus::cell::CONSTANTS;
@@ -15,81 +16,78 @@ pub enum Match {
     Apart,
 }
 
-// Applies the first `count` bindings to a cell, in order: to[k] replaces from[k].
-fn put_through(from: &[u32; 6], to: &[u32; 6], count: usize, cell: u32) -> u32
-    requires { count ≤ max_columns }
-    ensures { result ≡ through from.now to.now count cell }
-{
-    let mut c = cell;
-    let mut k = 0;
-    while k < count {
-        if c == from[k] {
-            c = to[k];
+// A null, and the cell that replaces it.
+#[derive(Clone, Copy)]
+struct Binding {
+    null: u32,
+    cell: u32,
+}
+
+impl Binding {
+    // What makes two different cells equal, unless both are constants.
+    fn between(x: u32, y: u32) -> Option<Binding>
+        ensures { result ≡ binding_of x y }
+    {
+        if CONSTANTS <= x {
+            Some(Binding { null: x, cell: y })
+        } else if CONSTANTS <= y {
+            Some(Binding { null: y, cell: x })
+        } else {
+            None
         }
-        k += 1;
     }
-    c
+
+    // What a cell becomes.
+    fn apply(self, c: u32) -> u32
+        ensures { result ≡ bind self.null self.cell c }
+    {
+        if c == self.null { self.cell } else { c }
+    }
 }
 
-// Replaces a null by a cell.
-fn bound(null: u32, cell: u32, c: u32) -> u32
-    ensures { result ≡ bind null cell c }
+// Applies bindings to a cell, in order.
+fn put_through(bindings: &[Binding], cell: u32) -> u32
+    ensures { result ≡ through bindings.now cell }
 {
-    if c == null {
-        return cell;
-    }
-    c
+    bindings.iter().fold(cell, |c, binding| binding.apply(c))
 }
 
-// Whether the columns from `first` on unify once `null` is replaced by `cell`. What replaces further nulls is kept as bindings, at most one for each
-// column.
-fn unify_more(words: &[u32], place: usize, row: &[u32], first: usize, null: u32, cell: u32) -> Match
-    requires { (place + (1 + length row.now) ≤ length words.now) × (length row.now ≤ max_columns) }
-    ensures { result ≡ unified (unifies_with (bind null cell) (drop first row.now) (drop first (cells_at words.now place (length row.now)))) }
+// Whether two rows unify after two bindings. Further ones are kept after them, at most one for each column.
+fn unify_more(row: &[u32], found: &[u32], first: Binding, second: Binding) -> Match
+    requires { (length found.now ≡ length row.now) × (length row.now + 2 ≤ max_columns) }
+    ensures { result ≡ unified (unifies_with (through (first ∷ second ∷ [])) row.now found.now) }
 {
-    let mut from = [0u32; 6];
-    let mut to = [0u32; 6];
-    let mut count = 0;
-    let mut i = first;
-    while i < row.len() {
-        let x = put_through(&from, &to, count, bound(null, cell, row[i]));
-        let y = put_through(&from, &to, count, bound(null, cell, words[place + 1 + i]));
+    let mut bindings = [first; 6];
+    bindings[1] = second;
+    let mut count = 2;
+    for i in 0..row.len() {
+        let x = put_through(&bindings[..count], row[i]);
+        let y = put_through(&bindings[..count], found[i]);
         if x != y {
-            if x < CONSTANTS {
-                if y < CONSTANTS {
-                    return Match::Apart;
-                }
-                from[count] = y;
-                to[count] = x;
-            } else {
-                from[count] = x;
-                to[count] = y;
-            }
+            let Some(next) = Binding::between(x, y) else {
+                return Match::Apart;
+            };
+            bindings[count] = next;
             count += 1;
         }
-        i += 1;
     }
     Match::Unifies
 }
 
-// The same, with no place for further bindings until a second null has to be bound.
-fn unify(words: &[u32], place: usize, row: &[u32], first: usize, null: u32, cell: u32) -> Match
-    requires { (place + (1 + length row.now) ≤ length words.now) × (length row.now ≤ max_columns) }
-    ensures { result ≡ unified (unifies_with (bind null cell) (drop first row.now) (drop first (cells_at words.now place (length row.now)))) }
+// Whether two rows unify after a binding. There is no place for further bindings until a second null has to be bound.
+fn unify(row: &[u32], found: &[u32], first: Binding) -> Match
+    requires { (length found.now ≡ length row.now) × (length row.now + 1 ≤ max_columns) }
+    ensures { result ≡ unified (unifies_with (through (first ∷ [])) row.now found.now) }
 {
-    let mut i = first;
-    while i < row.len() {
-        let x = bound(null, cell, row[i]);
-        let y = bound(null, cell, words[place + 1 + i]);
+    for i in 0..row.len() {
+        let x = first.apply(row[i]);
+        let y = first.apply(found[i]);
         if x != y {
-            if x < CONSTANTS {
-                if y < CONSTANTS {
-                    return Match::Apart;
-                }
-            }
-            return unify_more(words, place, row, i, null, cell);
+            let Some(second) = Binding::between(x, y) else {
+                return Match::Apart;
+            };
+            return unify_more(&row[i + 1..], &found[i + 1..], first, second);
         }
-        i += 1;
     }
     Match::Unifies
 }
@@ -99,14 +97,12 @@ pub fn alike(words: &[u32], place: usize, row: &[u32]) -> usize
     requires { place + (1 + length row.now) ≤ length words.now }
     ensures { result ≡ alikeOf row.now (cells_at words.now place (length row.now)) }
 {
-    let mut i = 0;
-    while i < row.len() {
+    for i in 0..row.len() {
         if row[i] != words[place + 1 + i] {
             return i;
         }
-        i += 1;
     }
-    i
+    row.len()
 }
 
 // How an asked row compares with the row at a place. Nulls are bound only from the first column that differs, so rows of constants need no bindings.
@@ -120,16 +116,9 @@ pub fn compare(words: &[u32], place: usize, row: &[u32]) -> Match
     if i == row.len() {
         return Match::Identical;
     }
-    let asked = row[i];
-    let found = words[place + 1 + i];
-    let mut null = asked;
-    let mut cell = found;
-    if asked < CONSTANTS {
-        if found < CONSTANTS {
-            return Match::Apart;
-        }
-        null = found;
-        cell = asked;
-    }
-    unify(words, place, row, i + 1, null, cell)
+    let found = &words[place + 1..place + 1 + row.len()];
+    let Some(first) = Binding::between(row[i], found[i]) else {
+        return Match::Apart;
+    };
+    unify(&row[i + 1..], &found[i + 1..], first)
 }

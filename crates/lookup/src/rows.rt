@@ -3,12 +3,13 @@ ghost use Rattle.std.specs.Prelude.{◌≡◌, ℕ, suc, ◌+◌, ◌<◌, Bool,
 ghost use Rattle.calculus.specs.Closed.{tuples};
 ghost use Rattle.instance.specs.Rows.{rows_from};
 ghost use Rattle.instance.specs.Header.{arity_of};
-ghost use Rattle.known.specs.Known.{known_words, arities_in};
+ghost use Rattle.known.specs.Known.{arities_in};
 ghost use Rattle.lookup.specs.Passing.{RowsLeft, told_apart, passing, words_passed};
 
-use known::arities::arity_in;
+use known::Known;
 
-// The place of a row, and how many rows of its relation are left from there on.
+// The place of a row, and how many rows of its relation are left from there on. With no row left it is the place after the last that was passed over, so this
+// is no Option.
 #[derive(Clone, Copy)]
 pub struct Near {
     pub place: usize,
@@ -17,8 +18,8 @@ pub struct Near {
 
 // The place of the relation's next row. While rows of another relation follow one another, their length is not looked up again: that look-up would have
 // to end before the next word can be read. Such rows are passed over two at a time.
-fn next_row(words: &[u32], known: &[u32; 170], relation: u32, place: usize) -> usize
-    requires { RowsLeft (arities_in known.now) words.now relation place 1 × (length known.now ≡ known_words) }
+fn next_row(words: &[u32], known: &Known, relation: u32, place: usize) -> usize
+    requires { RowsLeft (arities_in known.now) words.now relation place 1 }
     ensures here { get_or words.now result 0 ≡ relation }
     ensures rows { tuples relation (rows_from (arities_in known.now) 0 (drop result words.now)) ≡ tuples relation (rows_from (arities_in known.now) 0 (drop place words.now)) }
     ensures left { RowsLeft (arities_in known.now) words.now relation result 1 }
@@ -28,10 +29,11 @@ fn next_row(words: &[u32], known: &[u32; 170], relation: u32, place: usize) -> u
     let mut step = 0;
     let mut i = place;
     let mut w = words[i];
+    // A `while`: the step is the length of the row there, which no range has.
     while w != relation {
         if w != other {
             other = w;
-            step = 1 + arity_in(known, w as usize) as usize;
+            step = 1 + known.arity(w as usize) as usize;
         }
         i += step;
         w = words[i];
@@ -47,7 +49,7 @@ fn next_row(words: &[u32], known: &[u32; 170], relation: u32, place: usize) -> u
 // loop that does nothing else. If all are, none is left.
 pub fn next_near(
     words: &[u32],
-    known: &[u32; 170],
+    known: &Known,
     relation: u32,
     column: usize,
     asked: u32,
@@ -55,31 +57,21 @@ pub fn next_near(
     place: usize,
     most: u32,
 ) -> Near
-    requires { RowsLeft (arities_in known.now) words.now relation place most × (length known.now ≡ known_words) × (column < arity_of (arities_in known.now) relation) }
+    requires { RowsLeft (arities_in known.now) words.now relation place most × (column < arity_of (arities_in known.now) relation) }
     ensures rows { take result.more (tuples relation (rows_from (arities_in known.now) 0 (drop result.place words.now))) ≡ passing (told_apart column asked limit) (take most (tuples relation (rows_from (arities_in known.now) 0 (drop place words.now)))) }
     ensures left { RowsLeft (arities_in known.now) words.now relation result.place result.more }
     ensures here { 0 < result.more → get_or words.now result.place 0 ≡ relation }
     ensures place { result.place ≡ place + words_passed (told_apart column asked limit) relation most (rows_from (arities_in known.now) 0 (drop place words.now)) }
 {
-    let step = 1 + arity_in(known, relation as usize) as usize;
-    let mut more = most;
+    let step = 1 + known.arity(relation as usize) as usize;
     let mut i = place;
-    while 0 < more {
+    for passed in 0..most {
         i = next_row(words, known, relation, i);
         let cell = words[i + 1 + column];
-        if cell == asked {
-            return Near {
-                place: i,
-                more: more,
-            };
+        if cell == asked || limit <= cell {
+            let more = most - passed;
+            return Near { place: i, more };
         }
-        if limit <= cell {
-            return Near {
-                place: i,
-                more: more,
-            };
-        }
-        more -= 1;
         i += step;
     }
     Near { place: i, more: 0 }

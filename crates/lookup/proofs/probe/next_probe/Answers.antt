@@ -46,22 +46,16 @@ offset_bounds-words-place c = omega (arith, low_column (goal.at.offset_bounds-wo
 pub bounds-words-place : goal.bounds-words-place
 bounds-words-place c = omega (arith, low_column (goal.at.bounds-words-place c).Start)
 
-pub offset_bounds-row-column : goal.offset_bounds-row-column
-offset_bounds-row-column c = omega (arith, low_column (goal.at.offset_bounds-row-column c).Start)
-
-pub bounds-row-column : goal.bounds-row-column
-bounds-row-column c = low_column (goal.at.bounds-row-column c).Start
-
 pub returns-then-words-place : goal.returns-then-words-place
 returns-then-words-place c =
     let e = (goal.at.returns-then-words-place c).Else-possible-earlier in let s = (goal.at.returns-then-words-place c).Start in record { column = low_column s; low = same_low s (unchanged _ _ c.if-possible-earlier.false) }
 
-pub overflow_add-again : goal.overflow_add-again
-overflow_add-again c = omega (arith, c.if-failed-lt-FAILS.true)
+pub overflow_add-failed : goal.overflow_add-failed
+overflow_add-failed c = omega (arith, c.if-probe-lt-FAILS.true)
 
-pub returns-then-failed-lt-FAILS : goal.returns-then-failed-lt-FAILS
-returns-then-failed-lt-FAILS c =
-    let e = (goal.at.returns-then-failed-lt-FAILS c).Else-possible-earlier in let s = (goal.at.returns-then-failed-lt-FAILS c).Start in record { column = low_column s; low = same_low s (unchanged _ _ c.if-possible-earlier.false) }
+pub returns-then-probe-lt-FAILS : goal.returns-then-probe-lt-FAILS
+returns-then-probe-lt-FAILS c =
+    let e = (goal.at.returns-then-probe-lt-FAILS c).Else-possible-earlier in let s = (goal.at.returns-then-probe-lt-FAILS c).Start in record { column = low_column s; low = same_low s (unchanged _ _ c.if-possible-earlier.false) }
 
 pub overflow_add-next : goal.overflow_add-next
 overflow_add-next c = omega (arith, low_column (goal.at.overflow_add-next c).Start)

@@ -30,8 +30,8 @@ use Rattle.lookup.proofs.Probes.{probe_stands}
 use Rattle.lookup.proofs.Left.{fewer_left, same_step, same-within, same_left}
 use Rattle.lookup.proofs.Passing.{passing_shorter, passed}
 use Rattle.lookup.proofs.relation.stands.Goals as goal
-use Rattle.lookup.proofs.relation.stands.Lts.View.{up-After-arity_in-arity, up-After-next_near-near, up-At-loop-more, up-Joined-compare_after}
-use Rattle.lookup.proofs.relation.stands.Goals.{in-Unifies, in-Apart, After-arity_in-arity, After-loop-more, After-next_near-near, After-struct_known-1, At-loop-more, Joined-compare_after, Start}
+use Rattle.lookup.proofs.relation.stands.Lts.View.{up-After-arity-arity, up-After-next_near-near, up-At-loop-more}
+use Rattle.lookup.proofs.relation.stands.Goals.{in-Unifies, in-Apart, After-arity-arity, After-loop-more, After-next_near-near, At-loop-more, Joined-compare_after, Start}
 
 by_answer_verdict_charge : {A B C : Type 0} → A × (B × C) → record { answer : A; verdict : B; charge : C }
 by_answer_verdict_charge p = record { answer = p.0; verdict = p.1.0; charge = p.1.1 }
@@ -51,13 +51,13 @@ none_left : (k : ℕ) → k ≡ 0 → (ts us : List (List ℕ)) → take k ts �
 none_left k e ts us = ap (λ (k : ℕ). take k ts) e ∙ sym (ap (λ (k : ℕ). take k us) e)
 
 relation-low : (c : Start) → c.args.relation < max_relations
-relation-low c = relation-few _ (arities_in c.args.known.now) c.args.words.now _ c.requires.0.given.well_formed c.requires.0.known
+relation-low c = relation-few _ (arities_in c.args.known.now) c.args.words.now _ c.requires.given.well_formed c.requires.known
 
-pub arity_in-arity-requires : goal.arity_in-arity-requires
-arity_in-arity-requires c = (c.requires.1, relation-low (goal.at.arity_in-arity-requires c).Start)
+pub arity-arity-requires : goal.arity-arity-requires
+arity-arity-requires c = relation-low (goal.at.arity-arity-requires c).Start
 
 -- the arity is known
-module _ (c : After-arity_in-arity) where
+module _ (c : After-arity-arity) where
   abbrev called : Start
   called = c.before.before.before
 
@@ -66,58 +66,58 @@ module _ (c : After-arity_in-arity) where
   all = take called.args.most (tuples called.args.relation (rows_from (arities_in called.args.known.now) 0 called.args.words.now))
 
   abbrev arity : ℕ
-  arity = c.arity_in-arity.result
+  arity = c.arity-arity.result
 
   is_arity_lem : arity ≡ arity_of (arities_in called.args.known.now) called.args.relation
-  is_arity_lem = c.arity_in-arity.ensures
+  is_arity_lem = c.arity-arity.ensures
 
   abbrev asked : List ℕ
   asked = take arity called.args.row.now
 
   columns : (1 ≤ arity) × (arity ≤ max_columns)
-  columns = rw is_arity_lem ((headed _ _ called.requires.0.given.well_formed.header).columns _ called.requires.0.known)
+  columns = rw is_arity_lem ((headed _ _ called.requires.given.well_formed.header).columns _ called.requires.known)
 
   size : length asked ≡ arity
-  size = length-take-le arity called.args.row.now (omega (arith, columns.1, called.requires.2))
+  size = length-take-le arity called.args.row.now (omega (arith, columns.1))
 
 pub overflow_cast-arity : goal.overflow_cast-arity
 overflow_cast-arity c = omega (arith, (columns c).1)
 
-pub slice_bounds-asked-end : goal.slice_bounds-asked-end
-slice_bounds-asked-end c = sym (size (goal.at.slice_bounds-asked-end c).After-arity_in-arity)
+pub shared_ref_as_front-asked : goal.shared_ref_as_front-asked
+shared_ref_as_front-asked c = (columns (goal.at.shared_ref_as_front-asked c).After-arity-arity).1
 
 pub probe_at-probe-requires : goal.probe_at-probe-requires
-probe_at-probe-requires c = let b = (goal.at.probe_at-probe-requires c).After-arity_in-arity in omega (arith, size b, (columns b).0)
+probe_at-probe-requires c = let b = (goal.at.probe_at-probe-requires c).After-arity-arity in omega (arith, size b, (columns b).0)
 
 pub loop-more-init : goal.loop-more-init
 loop-more-init c =
-    let b = (goal.at.loop-more-init c).After-arity_in-arity in (
-      b.requires.0,
+    let b = (goal.at.loop-more-init c).After-arity-arity in (
+      b.requires,
       probe_stands _ _ _ c.probe_at-probe.ensures (omega (arith, size b, (columns b).0)),
       truth-starts _ _,
       omega arith,
       omega arith,
     )
 
-pub offset_bounds-asked-column : goal.offset_bounds-asked-column
-offset_bounds-asked-column c = let b = (goal.at.offset_bounds-asked-column c).After-arity_in-arity in omega (arith, c.loop-more.invariant.1.column, size b, (columns b).1)
+pub offset_bounds-asked-probe : goal.offset_bounds-asked-probe
+offset_bounds-asked-probe c = let b = (goal.at.offset_bounds-asked-probe c).After-arity-arity in omega (arith, c.loop-more.invariant.1.column, size b, (columns b).1)
 
-pub bounds-asked-column : goal.bounds-asked-column
-bounds-asked-column c = c.loop-more.invariant.1.column
+pub bounds-asked-probe : goal.bounds-asked-probe
+bounds-asked-probe c = c.loop-more.invariant.1.column
 
 pub next_near-near-requires : goal.next_near-near-requires
 next_near-near-requires c =
     let l = (goal.at.next_near-near-requires c).At-loop-more in
-    let b = (goal.at.next_near-near-requires c).After-arity_in-arity in
-    (c.loop-more.invariant.0, b.requires.1, omega (arith, c.loop-more.invariant.1.column, size b, is_arity_lem b))
+    let b = (goal.at.next_near-near-requires c).After-arity-arity in
+    (c.loop-more.invariant.0, omega (arith, c.loop-more.invariant.1.column, size b, is_arity_lem b))
 
 -- the next row that is not passed over, if there is one
 module _ (c : After-next_near-near) where
   abbrev at : At-loop-more
   at = (up-At-loop-more _ _ _ _ _ _ c.before.before.before.before)
 
-  abbrev asks : After-arity_in-arity
-  asks = (up-After-arity_in-arity _ _ _ _ _ _ at.before.before.before.before)
+  abbrev asks : After-arity-arity
+  asks = (up-After-arity-arity _ _ _ _ _ _ at.before.before.before.before)
 
   abbrev start : Start
   start = called asks
@@ -259,38 +259,36 @@ pub overflow_sub-more : goal.overflow_sub-more
 overflow_sub-more c = omega (arith, c.if-more-gt0.true)
 
 -- after the row at that place
-module _ (c : After-struct_known-1) where
-  abbrev came : Joined-compare_after
-  came = (up-Joined-compare_after _ _ _ _ _ _ c.before.before.before)
-
+module _ (c : Joined-compare_after) where
   abbrev b : After-next_near-near
-  b = (up-After-next_near-near _ _ _ _ _ _ came.before.before.before.before)
+  b = (up-After-next_near-near _ _ _ _ _ _ c.before.before.before.before)
 
   abbrev some : 0 < more b
-  some = came.if-more-gt0.true
+  some = c.if-more-gt0.true
 
 pub overflow_add-i : goal.overflow_add-i
-overflow_add-i c = omega (arith, within (b c) (some c), (start (b c)).requires.0.given.well_formed.few)
+overflow_add-i c = let j = (goal.at.overflow_add-i c).Joined-compare_after in omega (arith, within (b j) (some j), (start (b j)).requires.given.well_formed.few)
 
 pub overflow_add-i-then-more-gt0 : goal.overflow_add-i-then-more-gt0
-overflow_add-i-then-more-gt0 c = omega (arith, within (b c) (some c), (start (b c)).requires.0.given.well_formed.few)
+overflow_add-i-then-more-gt0 c = let j = (goal.at.overflow_add-i-then-more-gt0 c).Joined-compare_after in omega (arith, within (b j) (some j), (start (b j)).requires.given.well_formed.few)
 
 pub loop-more-smaller-then-more-gt0 : goal.loop-more-smaller-then-more-gt0
-loop-more-smaller-then-more-gt0 c = omega (arith, fewer (b c), some c)
+loop-more-smaller-then-more-gt0 c = let j = (goal.at.loop-more-smaller-then-more-gt0 c).Joined-compare_after in omega (arith, fewer (b j), some j)
 
 pub loop-more-preserved-then-more-gt0 : goal.loop-more-preserved-then-more-gt0
 loop-more-preserved-then-more-gt0 c =
-    let told = sym (came c).before.compare_after.ensures in (
-      after (b c) (some c),
+    let j = (goal.at.loop-more-preserved-then-more-gt0 c).Joined-compare_after in
+    let told = sym j.before.compare_after.ensures in (
+      after (b j) (some j),
       c.next_probe-probe.ensures,
-      elim (came c).match-compare_after.branch [
-        | in-Unifies m ↦ rw m.possible-is (same (b c) (some c) Unifies (told ∙ m.in-Unifies.is))
-        | in-Apart m ↦ rw m.possible-is (same (b c) (some c) Apart (told ∙ m.in-Apart.is))
+      elim j.match-compare_after.branch [
+        | in-Unifies m ↦ rw m.possible-is (same (b j) (some j) Unifies (told ∙ m.in-Unifies.is))
+        | in-Apart m ↦ rw m.possible-is (same (b j) (some j) Apart (told ∙ m.in-Apart.is))
       ],
-      omega (arith, fewer (b c), (at (b c)).loop-more.invariant.3),
-      elim (came c).match-compare_after.branch [
-        | in-Unifies m ↦ omega (arith, some c, counted_same (b c) (some c) Unifies (told ∙ m.in-Unifies.is))
-        | in-Apart m ↦ omega (arith, some c, counted_same (b c) (some c) Apart (told ∙ m.in-Apart.is))
+      omega (arith, fewer (b j), (at (b j)).loop-more.invariant.3),
+      elim j.match-compare_after.branch [
+        | in-Unifies m ↦ omega (arith, some j, counted_same (b j) (some j) Unifies (told ∙ m.in-Unifies.is))
+        | in-Apart m ↦ omega (arith, some j, counted_same (b j) (some j) Apart (told ∙ m.in-Apart.is))
       ],
     )
 
@@ -311,8 +309,8 @@ loop-more-preserved c =
 
 -- after the last row to examine
 module _ (c : After-loop-more) where
-  abbrev given : After-arity_in-arity
-  given = (up-After-arity_in-arity _ _ _ _ _ _ c.before.before.before.before.before)
+  abbrev given : After-arity-arity
+  given = (up-After-arity-arity _ _ _ _ _ _ c.before.before.before.before.before)
 
   abbrev beyond : List (List ℕ)
   beyond =
@@ -334,6 +332,6 @@ pub returns-then-possible : goal.returns-then-possible
 returns-then-possible c =
     let b = (goal.at.returns-then-possible c).After-loop-more in by_answer_verdict_charge (means _ _ (is_arity_lem (given b)) (sym (at_end b true c.if-possible.true)) (all-examined b))
 
-pub returns : goal.returns
-returns c =
-    let b = (goal.at.returns c).After-loop-more in by_answer_verdict_charge (means _ _ (is_arity_lem (given b)) (sym (at_end b false c.if-possible.false)) (all-examined b))
+pub returns-else-possible : goal.returns-else-possible
+returns-else-possible c =
+    let b = (goal.at.returns-else-possible c).After-loop-more in by_answer_verdict_charge (means _ _ (is_arity_lem (given b)) (sym (at_end b false c.if-possible.false)) (all-examined b))

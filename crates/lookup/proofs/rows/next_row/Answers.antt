@@ -14,7 +14,7 @@ use Rattle.lookup.specs.Passing.{RowsLeft, words_passed}
 use Rattle.lookup.proofs.Left.{words_left, row-left, other-same, other-left, other-words}
 use Rattle.lookup.proofs.rows.next_row.Goals as goal
 use Rattle.lookup.proofs.rows.next_row.Lts.View.{up-In-loop-w}
-use Rattle.lookup.proofs.rows.next_row.Goals.{After-arity_in, In-loop-w, Joined-w-other, Start, else-w-other, then-w-other}
+use Rattle.lookup.proofs.rows.next_row.Goals.{After-arity, In-loop-w, Joined-w-other, Start, else-w-other, then-w-other}
 
 -- what stays true from index k to index j: the rows left, and where passing over leads
 abbrev Onward : List ℕ → List ℕ → ℕ → ℕ → ℕ → Type 0
@@ -32,13 +32,13 @@ passed_over ars ws relation k step left ne e =
     rw e (other-left _ _ _ _ left (omega arith) ne, other-same _ _ _ _ left (omega arith) ne, other-words _ _ _ _ left (omega arith) ne)
 
 pub offset_bounds-words-i : goal.offset_bounds-words-i
-offset_bounds-words-i c = omega (arith, words_left _ _ _ _ c.requires.0 (omega arith))
+offset_bounds-words-i c = omega (arith, words_left _ _ _ _ c.requires (omega arith))
 
 pub bounds-words-i : goal.bounds-words-i
-bounds-words-i c = words_left _ _ _ _ c.requires.0 (omega arith)
+bounds-words-i c = words_left _ _ _ _ c.requires (omega arith)
 
 pub loop-w-init : goal.loop-w-init
-loop-w-init c = (c.requires.0, refl, refl, λ ne. absurd (ne refl), λ test n. refl)
+loop-w-init c = (c.requires, refl, refl, λ ne. absurd (ne refl), λ test n. refl)
 
 -- the row at index i, which is of another relation
 module _ (c : In-loop-w) where
@@ -85,16 +85,16 @@ module _ (c : In-loop-w) where
 pub overflow_cast-w : goal.overflow_cast-w
 overflow_cast-w c = omega (arith, few (goal.at.overflow_cast-w c).In-loop-w)
 
-pub arity_in-requires : goal.arity_in-requires
-arity_in-requires c = ((start (goal.at.arity_in-requires c).In-loop-w).requires.1, few (goal.at.arity_in-requires c).In-loop-w)
+pub arity-requires : goal.arity-requires
+arity-requires c = few (goal.at.arity-requires c).In-loop-w
 
 -- the row's length was read
-module _ (c : After-arity_in) where
+module _ (c : After-arity) where
   abbrev at_row : In-loop-w
   at_row = (up-In-loop-w _ _ _ _ _ _ c.before.before.before)
 
-  row_ends : i at_row + (1 + c.arity_in.result) ≤ length (ws at_row)
-  row_ends = omega (arith, (here at_row).next.within, c.arity_in.ensures, ap (arity_of (ars at_row)) (is at_row))
+  row_ends : i at_row + (1 + c.arity.result) ≤ length (ws at_row)
+  row_ends = omega (arith, (here at_row).next.within, c.arity.ensures, ap (arity_of (ars at_row)) (is at_row))
 
 pub overflow_cast-step : goal.overflow_cast-step
 overflow_cast-step c = omega (arith, row_ends c)
@@ -116,7 +116,7 @@ module _ (c : Joined-w-other) where
   known : (other ≡ w at) × (step ≡ 1 + arity_of (ars at) (w at))
   known =
       (elim c.if-w-other.branch [
-        | then-w-other a ↦ (a.other-is, a.step-is ∙ ap (λ (k : ℕ). 1 + k) a.arity_in.ensures)
+        | then-w-other a ↦ (a.other-is, a.step-is ∙ ap (λ (k : ℕ). 1 + k) a.arity.ensures)
         | else-w-other a ↦ let same : w at ≡ at.loop-w.other = a.if-w-other.false in
             (a.other-is ∙ sym same, a.step-is ∙ at.loop-w.invariant.3 (λ f. at.loop-w-test.true (same ∙ f)) ∙ ap (λ (r : ℕ). 1 + arity_of (ars at) r) (sym same))
       ])
