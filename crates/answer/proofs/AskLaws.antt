@@ -33,8 +33,7 @@ use Rattle.known.proofs.Walking.{no_flags, unpassed-all}
 use Rattle.known.proofs.Parts.{counts_front, arities_middle, front_size, layout_size, arities-kept, counts-kept, places_behind}
 use Rattle.range.specs.Walked.{walked_range}
 use Rattle.range.proofs.Walked.{walked_range_lem}
-use Rattle.answer.specs.declared.asked.Asked.{Asked}
-use Rattle.answer.specs.declared.asked.Asked.TheVariants.{Refused}
+use Rattle.answer.specs.Asked.{Asked}
 use Rattle.evaluate.specs.Within.{within}
 use Rattle.evaluate.specs.Ready.{Ready, Ranged, world}
 use Rattle.answer.specs.Ask.{evaluated_as, answered_by, admitted, Lent, list, none, needed, outcome_by, askable, ask, asked_buffer}
@@ -55,7 +54,7 @@ admitted-refused h ws qs cs lent r d = rw d refl
 
 -- the answer to a question that is refused, and to one that is not
 module _ (h : Header) (ws qs cs : List ℕ) (lent : Lent) (budget : ℕ) where
-  pub refused-asked : (r : ℕ) → askable h ws qs cs lent ≡ Err r → Refused r ≡ ask h ws qs cs lent budget
+  pub refused-asked : (r : ℕ) → askable h ws qs cs lent ≡ Err r → Err r ≡ ask h ws qs cs lent budget
   unfolding ask
   refused-asked r e = sym (ap (λ (x : Answer). answered_by x (within budget (outcome_by lent (model_of h ws cs) (query_of h.arities qs)))) e)
 

@@ -19,7 +19,7 @@ use Rattle.instance.specs.Run.{model_of}
 use Rattle.query.specs.Named.{named_in, query_of}
 use Rattle.query.specs.Tree.{formula_of}
 use Rattle.query.specs.Check.{check_query, passed}
-use Rattle.answer.specs.declared.asked.Asked.TheVariants.{Verdict}
+use Rattle.answer.specs.Asked.{verdict}
 use Rattle.answer.specs.Ask.{Lent, has_place, needed, ask, evaluated_as}
 use Rattle.answer.specs.Repeats.{SameVerdict, SameOrSpent, same, spent, Repeat, RepeatMeansOne}
 use Rattle.evaluate.proofs.Budget.{was_verdict}
@@ -51,7 +51,7 @@ module _ (h h' : Header) (ws ws' qs candidate : List ℕ) (lent : Lent) (budget 
       )
 
   -- the second instance gives the first one's verdict
-  second-asks : (t : Truth) (n : ℕ) → ask h ws qs candidate lent budget ≡ Verdict t n → SameVerdict (ask h' ws' qs candidate lent budget) t n
+  second-asks : (t : Truth) (n : ℕ) → ask h ws qs candidate lent budget ≡ verdict t n → SameVerdict (ask h' ws' qs candidate lent budget) t n
   second-asks t n e =
       let a = verdict-asked h ws qs candidate lent budget t n e in
       let was = was_verdict budget twice t n a.1 in
@@ -62,12 +62,12 @@ module _ (h h' : Header) (ws ws' qs candidate : List ℕ) (lent : Lent) (budget 
         no_more = omega (arith, kept.cost, was.cost);
         is =
             asked-verdict h' ws' qs candidate lent budget asks (omega (arith, kept.cost, was.cost, was.fits)) ∙
-            ap (λ (x : Truth). Verdict x once.cost) (sym kept.same ∙ was.truth);
+            ap (λ (x : Truth). verdict x once.cost) (sym kept.same ∙ was.truth);
       }
 
   -- the first instance gives the second one's verdict, if the buffer is long enough and the budget suffices
   to-first :
-      (t : Truth) (n : ℕ) → ask h' ws' qs candidate lent budget ≡ Verdict t n → has_place lent (length (needed h ws qs)) ≡ true →
+      (t : Truth) (n : ℕ) → ask h' ws' qs candidate lent budget ≡ verdict t n → has_place lent (length (needed h ws qs)) ≡ true →
       SameOrSpent (ask h ws qs candidate lent budget) t n
   to-first t n e room =
       let a = verdict-asked h' ws' qs candidate lent budget t n e in
@@ -82,7 +82,7 @@ module _ (h h' : Header) (ws ws' qs candidate : List ℕ) (lent : Lent) (budget 
           SameOrSpent (ask h ws qs candidate lent budget) t n
       go true fits asks truth cost =
           same twice.cost (omega (arith, kept.cost, cost))
-          (asked-verdict h ws qs candidate lent budget asks (leb-true twice.cost budget fits) ∙ ap (λ (x : Truth). Verdict x twice.cost) (kept.same ∙ truth))
+          (asked-verdict h ws qs candidate lent budget asks (leb-true twice.cost budget fits) ∙ ap (λ (x : Truth). verdict x twice.cost) (kept.same ∙ truth))
       go false dear asks truth cost =
           spent (sym (evaluated-asked h ws qs candidate lent budget asks) ∙ ap evaluated_as (budgets.spent budget twice (leb-false twice.cost budget dear)))
 

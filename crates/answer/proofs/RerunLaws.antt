@@ -31,7 +31,7 @@ use Rattle.calculus.specs.Formula.{inked_query}
 use Rattle.query.specs.Scope.{Scopes}
 use Rattle.query.specs.Check.{passed, check_query}
 use Rattle.query.proofs.Passed.{passed-constants, are_cells_lem, same-candidate}
-use Rattle.answer.specs.declared.asked.Asked.TheVariants.{Verdict, Refused}
+use Rattle.answer.specs.Asked.{verdict}
 use Rattle.evaluate.specs.declared.evaluated.Evaluated.{Evaluated}
 use Rattle.evaluate.specs.declared.evaluated.Evaluated.TheVariants as evaluated
 use Rattle.evaluate.specs.Within.{within}
@@ -83,7 +83,7 @@ askable_done h ws qs candidate lent a =
 
 -- a verdict: nothing is refused, and the outcome is within the budget
 pub verdict-asked :
-    (h : Header) (ws qs candidate : List ℕ) (lent : Lent) (budget : ℕ) (t : Truth) (n : ℕ) → ask h ws qs candidate lent budget ≡ Verdict t n →
+    (h : Header) (ws qs candidate : List ℕ) (lent : Lent) (budget : ℕ) (t : Truth) (n : ℕ) → ask h ws qs candidate lent budget ≡ verdict t n →
     Asks h ws qs candidate lent × (within budget (outcome_of (model_of h ws candidate) (query_of h.arities qs)) ≡ evaluated.Verdict t n)
 unfolding ask
 verdict-asked h ws qs candidate lent budget t n =
@@ -93,7 +93,7 @@ verdict-asked h ws qs candidate lent budget t n =
     go :
         (a : Answer) → askable h ws qs candidate lent ≡ a →
         (e : Evaluated) → within budget (outcome_of (model_of h ws candidate) (query_of h.arities qs)) ≡ e →
-        answered_by a e ≡ Verdict t n →
+        answered_by a e ≡ verdict t n →
         Asks h ws qs candidate lent × (within budget (outcome_of (model_of h ws candidate) (query_of h.arities qs)) ≡ evaluated.Verdict t n)
     go (Ok k) p (evaluated.Verdict u m) q r =
         let truths : u ≡ t = cc in
@@ -107,7 +107,7 @@ pub asked-verdict :
     (h : Header) (ws qs candidate : List ℕ) (lent : Lent) (budget : ℕ) → Asks h ws qs candidate lent →
     (outcome_of (model_of h ws candidate) (query_of h.arities qs)).cost ≤ budget →
     ask h ws qs candidate lent budget ≡
-    Verdict (outcome_of (model_of h ws candidate) (query_of h.arities qs)).truth (outcome_of (model_of h ws candidate) (query_of h.arities qs)).cost
+    verdict (outcome_of (model_of h ws candidate) (query_of h.arities qs)).truth (outcome_of (model_of h ws candidate) (query_of h.arities qs)).cost
 unfolding ask
 asked-verdict h ws qs candidate lent budget a fits =
     let o = outcome_of (model_of h ws candidate) (query_of h.arities qs) in
@@ -115,7 +115,7 @@ asked-verdict h ws qs candidate lent budget a fits =
     ap (λ (o : Outcome). evaluated_as (within budget o)) (outcome_by_lem lent (model_of h ws candidate) (query_of h.arities qs)) ∙ ap evaluated_as (verdict budget o fits)
 
 -- a refusal is not a verdict
-pub not_refused : {t : Truth} {n r : ℕ} → Refused r ≡ Verdict t n → ⊥
+pub not_refused : {t : Truth} {n r : ℕ} → Err r ≡ verdict t n → ⊥
 not_refused e = let z : ◌≡◌ {A = ℕ} 0 1 = cc in omega arith
 
 -- every constant of the question is an inked value
@@ -157,7 +157,7 @@ demand_three h ws qs candidate lent budget fs lent' budget' longer larger t n e 
       cost = o.cost;
       answers =
           asked-verdict h ws' qs after.candidate lent' budget' (record { is_sound = r.is_sound; right = a.0.right; scopes = a.0.scopes; passes = passes; room = room }) fits ∙
-          ap (λ (x : Outcome). Verdict x.truth x.cost) same_outcome;
+          ap (λ (x : Outcome). verdict x.truth x.cost) same_outcome;
       kept = subst (λ (x : Truth). x ⊑ o.truth) was.truth shared.kept.truth;
       no_more = omega (arith, shared.kept.cost, was.cost);
       two_valued = shared.two_valued;

@@ -10,8 +10,9 @@ use Rattle.calculus.specs.Model.{outcome_of}
 use Rattle.instance.specs.declared.header.Header.{Header}
 use Rattle.instance.specs.Run.{model_of}
 use Rattle.query.specs.Named.{query_of}
-use Rattle.answer.specs.declared.asked.Asked.{Asked}
-use Rattle.answer.specs.declared.asked.Asked.TheVariants.{Verdict, Refused}
+use Rattle.answer.specs.Asked.{Asked}
+use Rattle.answer.specs.Asked.{verdict}
+use Rattle.std.specs.Prelude.{Ok, Err}
 use Rattle.answer.specs.Ask.{Lent, ask}
 use Rattle.answer.specs.Numbers.{asked_as, asked_number, verdict_of, cost_of, TellsVerdict}
 use Rattle.evaluate.proofs.Budget.{was_verdict}
@@ -19,7 +20,7 @@ use Rattle.answer.proofs.RerunLaws.{verdict-asked}
 
 -- if the answer is a verdict, it is the outcome's
 abbrev pub Of : Outcome → Asked → Type 0
-Of o a = (t : Truth) (n : ℕ) → a ≡ Verdict t n → (o.truth ≡ t) × (o.cost ≡ n)
+Of o a = (t : Truth) (n : ℕ) → a ≡ verdict t n → (o.truth ≡ t) × (o.cost ≡ n)
 
 pub tells_verdict : {r a : Asked} (o : Outcome) → r ≡ a → Of o a → TellsVerdict r a o
 tells_verdict {r} {a} o e of = record {
@@ -29,12 +30,12 @@ tells_verdict {r} {a} o e of = record {
 }
   where
     verdict : (x : Asked) → Of o x → (old : ℕ) → verdict_of x old ≡ after (asked_as x) (rank o.truth) old
-    verdict (Verdict t n) of old = ap rank (sym (of t n refl).0)
-    verdict (Refused r) of old = refl
+    verdict (Ok v) of old = ap rank (sym (of v.truth v.cost refl).0)
+    verdict (Err r) of old = refl
 
     cost : (x : Asked) → Of o x → (old : ℕ) → cost_of x old ≡ after (asked_as x) o.cost old
-    cost (Verdict t n) of old = sym (of t n refl).1
-    cost (Refused r) of old = refl
+    cost (Ok v) of old = sym (of v.truth v.cost refl).1
+    cost (Err r) of old = refl
 
 module _ (h : Header) (ws qs cs : List ℕ) (lent : Lent) (budget : ℕ) where
   pub ask_outcome : Of (outcome_of (model_of h ws cs) (query_of h.arities qs)) (ask h ws qs cs lent budget)

@@ -28,7 +28,6 @@ use Rattle.query.proofs.Passed.{query-numbered}
 use Rattle.evaluate.specs.declared.evaluated.Evaluated.{Evaluated}
 use Rattle.evaluate.specs.declared.evaluated.Evaluated.TheVariants as evaluated
 use Rattle.evaluate.specs.Within.{within}
-use Rattle.answer.specs.declared.asked.Asked.TheVariants.{Refused}
 use Rattle.answer.specs.Ask.{if_passed, evaluated_as, answered_by, admitted, Lent, list, none, has_place, needed, most_needed, outcome_by, if_done, askable, ask}
 use Rattle.answer.specs.Numbers.{asked_number}
 use Rattle.answer.specs.Ways.{WaysAgree, NeverShort}
@@ -49,7 +48,7 @@ ways_agree h ws qs cs buffer budget not_IsShort =
   where
     go :
         (a : Answer) (b : Bool) {e e' : Evaluated} → e ≡ e' →
-        (answered_by (if_done a (demand b (Err BufferTooShort) (Ok 0))) e' ≡ Refused BufferTooShort → ⊥) →
+        (answered_by (if_done a (demand b (Err BufferTooShort) (Ok 0))) e' ≡ Err BufferTooShort → ⊥) →
         answered_by (if_done a (Ok 0)) e ≡ answered_by (if_done a (demand b (Err BufferTooShort) (Ok 0))) e'
     go (Ok n) true same no-45 = ap evaluated_as same
     go (Ok n) false same no-45 = absurd (no-45 refl)
@@ -57,7 +56,7 @@ ways_agree h ws qs cs buffer budget not_IsShort =
 
 -- 45 is none of the numbers that are left
 unlisted-never :
-    (h : Header) (ws qs cs : List ℕ) (budget : ℕ) → ask h ws qs cs none budget ≡ Refused BufferTooShort → ⊥
+    (h : Header) (ws qs cs : List ℕ) (budget : ℕ) → ask h ws qs cs none budget ≡ Err BufferTooShort → ⊥
 unfolding ask askable admitted listed
 unlisted-never h ws qs cs budget short =
     go (sound h ws) (right_length qs) (check_query h.relations h.arities qs cs) (query-numbered h.relations h.arities qs cs)

@@ -18,8 +18,8 @@ use Rattle.range.specs.Walked.{walked_range}
 use Rattle.query.specs.Named.{named_in, query_of}
 use Rattle.query.specs.Check.{Checked, check_query}
 use Rattle.calculus.specs.Reading.{refused, read}
-use Rattle.answer.specs.declared.asked.Asked.{Asked}
-use Rattle.answer.specs.declared.asked.Asked.TheVariants as ask-answer
+use Rattle.answer.specs.Asked.{Asked}
+use Rattle.answer.specs.Asked.{verdict}
 use Rattle.evaluate.specs.declared.evaluated.Evaluated.{Evaluated}
 use Rattle.evaluate.specs.declared.evaluated.Evaluated.TheVariants as evaluated
 use Rattle.evaluate.specs.Within.{within}
@@ -34,13 +34,13 @@ if_passed (refused r) a = Err r
 
 -- an evaluation's answer; "46: the question's looks exceed the allowance"
 abbrev pub evaluated_as : Evaluated → Asked
-evaluated_as (evaluated.Verdict t n) = ask-answer.Verdict t n
-evaluated_as evaluated.Spent = ask-answer.Refused BudgetSpent
+evaluated_as (evaluated.Verdict t n) = verdict t n
+evaluated_as evaluated.Spent = Err BudgetSpent
 
 -- the answer of the evaluation, if nothing is refused before it
 abbrev pub answered_by : Answer → Evaluated → Asked
 answered_by (Ok n) e = evaluated_as e
-answered_by (Err r) e = ask-answer.Refused r
+answered_by (Err r) e = Err r
 
 -- the refusals that do not depend on what is lent, in their order; the number of rows if there is none
 unfoldable pub admitted : Header → (ws qs candidate : List ℕ) → Answer

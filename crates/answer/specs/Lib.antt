@@ -1,3 +1,4 @@
+pub mod Asked
 pub mod Ask
 pub mod Ways
 pub mod Ranging

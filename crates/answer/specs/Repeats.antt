@@ -5,20 +5,21 @@ use Rattle.calculus.specs.declared.refusal.Refusal.TheVariants.{BudgetSpent}
 use Rattle.calculus.specs.Row.{Row}
 use Rattle.instance.specs.declared.header.Header.{Header}
 use Rattle.instance.specs.Sound.{sound, rows}
-use Rattle.answer.specs.declared.asked.Asked.{Asked}
-use Rattle.answer.specs.declared.asked.Asked.TheVariants.{Verdict, Refused}
+use Rattle.answer.specs.Asked.{Asked}
+use Rattle.answer.specs.Asked.{verdict}
+use Rattle.std.specs.Prelude.{Err}
 use Rattle.answer.specs.Ask.{Lent, has_place, needed, ask}
 
 -- the verdict t, with a cost of at most n
 pub record SameVerdict (a : Asked) (t : Truth) (n : ℕ) : Type 0 where
   pub cost : ℕ
   pub no_more : cost ≤ n
-  pub is : a ≡ Verdict t cost
+  pub is : a ≡ verdict t cost
 
 -- the verdict t, with a cost of at least n; or the budget is spent
 pub data SameOrSpent (a : Asked) (t : Truth) (n : ℕ) : Type 0 where
-  same : (cost : ℕ) → n ≤ cost → a ≡ Verdict t cost → SameOrSpent a t n
-  spent : a ≡ Refused BudgetSpent → SameOrSpent a t n
+  same : (cost : ℕ) → n ≤ cost → a ≡ verdict t cost → SameOrSpent a t n
+  spent : a ≡ Err BudgetSpent → SameOrSpent a t n
 
 -- Two sound instances with the same relations: the second has the rows of the first without one that equals an earlier row of its relation.
 pub record Repeat (h h' : Header) (ws ws' : List ℕ) : Type 0 where
@@ -36,9 +37,9 @@ pub record Repeat (h h' : Header) (ws ws' : List ℕ) : Type 0 where
 -- A verdict of the first instance is also the second's, with the same question, candidate and budget, by the same way of asking. A verdict of the second is
 -- also the first's, if the list, where one is lent, is long enough for the first and the budget suffices.
 pub record MeansOne (h h' : Header) (ws ws' qs candidate : List ℕ) (lent : Lent) (budget : ℕ) (t : Truth) (n : ℕ) : Type 0 where
-  pub to_second : ask h ws qs candidate lent budget ≡ Verdict t n → SameVerdict (ask h' ws' qs candidate lent budget) t n
+  pub to_second : ask h ws qs candidate lent budget ≡ verdict t n → SameVerdict (ask h' ws' qs candidate lent budget) t n
   pub to-first :
-      ask h' ws' qs candidate lent budget ≡ Verdict t n → has_place lent (length (needed h ws qs)) ≡ true →
+      ask h' ws' qs candidate lent budget ≡ verdict t n → has_place lent (length (needed h ws qs)) ≡ true →
       SameOrSpent (ask h ws qs candidate lent budget) t n
 
 abbrev pub RepeatMeansOne : Type 0

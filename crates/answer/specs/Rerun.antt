@@ -6,8 +6,8 @@ use Rattle.calculus.specs.Model.{Fill, run, complete, says_yes}
 use Rattle.instance.specs.declared.header.Header.{Header}
 use Rattle.instance.specs.Run.{filled_words, model_of, Ran}
 use Rattle.query.specs.Named.{query_of}
-use Rattle.answer.specs.declared.asked.Asked.{Asked}
-use Rattle.answer.specs.declared.asked.Asked.TheVariants.{Verdict}
+use Rattle.answer.specs.Asked.{Asked}
+use Rattle.answer.specs.Asked.{verdict}
 use Rattle.answer.specs.Ask.{Lent, ask}
 use Rattle.answer.specs.Ways.{NoShorter}
 
@@ -17,7 +17,7 @@ pub record Rerun (h : Header) (ws qs candidate : List ℕ) (fs : List Fill) (t :
   pub ran : Ran h fs ws candidate
   pub truth : Truth
   pub cost : ℕ
-  pub answers : b ≡ Verdict truth cost
+  pub answers : b ≡ verdict truth cost
   pub kept : t ⊑ truth
   pub no_more : cost ≤ n
   pub two_valued :
@@ -29,5 +29,5 @@ abbrev pub DemandThree : Type 0
 DemandThree =
     (h : Header) (ws qs candidate : List ℕ) (lent : Lent) (budget : ℕ) (fs : List Fill) (lent' : Lent) (budget' : ℕ) →
     NoShorter lent lent' → budget ≤ budget' →
-    (t : Truth) (n : ℕ) → ask h ws qs candidate lent budget ≡ Verdict t n →
+    (t : Truth) (n : ℕ) → ask h ws qs candidate lent budget ≡ verdict t n →
     Rerun h ws qs candidate fs t n (ask h (filled_words h fs ws) qs (run fs (model_of h ws candidate)).candidate lent' budget')

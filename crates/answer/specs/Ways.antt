@@ -3,7 +3,7 @@
 use Rattle.std.specs.Prelude.{ℕ, ◌≤◌, ◌≡◌, List, length}
 use Rattle.calculus.specs.declared.refusal.Refusal.TheVariants.{BufferTooShort}
 use Rattle.instance.specs.declared.header.Header.{Header}
-use Rattle.answer.specs.declared.asked.Asked.TheVariants.{Refused}
+use Rattle.std.specs.Prelude.{Err}
 use Rattle.answer.specs.declared.way.Way.{Way}
 use Rattle.answer.specs.declared.way.Way.TheVariants.{Listed, Unlisted}
 use Rattle.answer.specs.Ask.{Lent, list, none, most_needed, ask, asked_buffer}
@@ -11,7 +11,7 @@ use Rattle.answer.specs.Ask.{Lent, list, none, most_needed, ask, asked_buffer}
 abbrev pub WaysAgree : Type 0
 WaysAgree =
     (h : Header) (ws qs candidate buffer : List ℕ) (budget : ℕ) →
-    (ask h ws qs candidate (list buffer) budget ≡ Refused BufferTooShort → ⊥) →
+    (ask h ws qs candidate (list buffer) budget ≡ Err BufferTooShort → ⊥) →
     ask h ws qs candidate none budget ≡ ask h ws qs candidate (list buffer) budget
 
 -- what is always long enough: no list, and a list that no question exceeds
@@ -22,7 +22,7 @@ Ample none = Unit
 abbrev pub NeverShort : Type 0
 NeverShort =
     (h : Header) (ws qs candidate : List ℕ) (lent : Lent) → Ample lent → (budget : ℕ) →
-    ask h ws qs candidate lent budget ≡ Refused BufferTooShort → ⊥
+    ask h ws qs candidate lent budget ≡ Err BufferTooShort → ⊥
 
 -- the same way again, with no shorter list
 abbrev pub NoShorter : Lent → Lent → Type 0

@@ -3,9 +3,9 @@ ghost use Rattle.std.specs.Prelude.{◌≡◌};
 ghost use Rattle.answer.specs.Ask.{admitted};
 
 use calculus::answer::Answer;
-use calculus::refusal::{BAD_QUERY_LENGTH, UNSOUND};
+use calculus::refusal::Refusal;
 use instance::header::Header;
-use instance::scan::{Scanned, scan};
+use instance::scan::scan;
 use query::check::check;
 use query::words::right_length;
 
@@ -13,17 +13,10 @@ use query::words::right_length;
 pub fn admit(header: Header, instance: &[u32], query: &[u32], candidate: &[u32]) -> Answer
     ensures { result ≡ admitted header instance.now query.now candidate.now }
 {
-    let Scanned::Rows(count) = scan(header, instance) else {
-        return Answer::Refused(UNSOUND);
-    };
+    let rows = scan(header, instance)?;
     if !right_length(query) {
-        return Answer::Refused(BAD_QUERY_LENGTH);
+        return Err(Refusal::BadQueryLength);
     }
-    let relations = header.relations;
-    let arities = header.arities;
-    let refusal = check(relations, &arities, query, candidate);
-    if refusal != 0 {
-        return Answer::Refused(refusal);
-    }
-    Answer::Done(count)
+    check(&header, query, candidate)?;
+    Ok(rows)
 }

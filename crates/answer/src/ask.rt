@@ -13,11 +13,10 @@ ghost use Rattle.answer.specs.Numbers.{TellsVerdict};
 use super::admit::admit;
 use super::asked::Asked;
 use super::top::answer_top;
-use calculus::answer::Answer;
-use calculus::refusal::BUFFER_TOO_SHORT;
+use calculus::refusal::Refusal;
 use domain::list_range;
 use instance::header::Header;
-use known::describe;
+use known::Known;
 use query::inked::count_named;
 
 // Answers by the list of the range. The array is a local of this function, so that it can take the place on the
@@ -37,10 +36,7 @@ fn answer_listed(
         (query_of header.arities query.now))) }
 {
     let used = header.used as usize;
-    let arities = header.arities;
-    let counts = header.counts;
-    let mut known = [0u32; 170];
-    describe(&counts, &arities, values.len() as u32, &mut known);
+    let known = Known::new(&header.counts, &header.arities, values.len());
     answer_top(&instance[..used], query, &known, values, candidate, budget)
 }
 
@@ -59,17 +55,12 @@ pub fn ask(
         (outcome_of (model_of header instance.now candidate.now)
         (query_of header.arities query.now)) }
 {
-    match admit(header, instance, query, candidate) {
-        Answer::Refused(why) => Asked::Refused(why),
-        Answer::Done(count) => {
-            let used = header.used as usize;
-            let arities = header.arities;
-            let cells = used - count as usize;
-            if buffer.len() < cells + count_named(query, &arities) {
-                return Asked::Refused(BUFFER_TOO_SHORT);
-            }
-            let n = list_range(&instance[..used], query, &arities, buffer);
-            answer_listed(header, instance, query, &buffer[..n], candidate, budget)
-        }
+    let rows = admit(header, instance, query, candidate)?;
+    let used = header.used as usize;
+    let cells = used - rows as usize;
+    if buffer.len() < cells + count_named(query, &header.arities) {
+        return Err(Refusal::BufferTooShort);
     }
+    let n = list_range(&instance[..used], query, &header.arities, buffer);
+    answer_listed(header, instance, query, &buffer[..n], candidate, budget)
 }

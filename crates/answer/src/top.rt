@@ -9,10 +9,11 @@ ghost use Rattle.evaluate.specs.Within.{within};
 ghost use Rattle.evaluate.specs.Ready.{Ready, Ranged, world};
 ghost use Rattle.answer.specs.Ask.{evaluated_as};
 
-use super::asked::Asked;
-use calculus::refusal::BUDGET_SPENT;
+use super::asked::{Asked, Verdict};
+use calculus::refusal::Refusal;
 use evaluate::evaluated::Evaluated;
 use evaluate::nodes::evaluate;
+use known::Known;
 
 // The values of the variables: the candidate's cells for the first ones, 0 for the others.
 fn assigned(candidate: &[u32]) -> [u32; 16]
@@ -20,11 +21,7 @@ fn assigned(candidate: &[u32]) -> [u32; 16]
     ensures { result ≡ assignment candidate.now }
 {
     let mut env = [0u32; 16];
-    let mut i = 0;
-    while i < candidate.len() {
-        env[i] = candidate[i];
-        i += 1;
-    }
+    env[..candidate.len()].copy_from_slice(candidate);
     env
 }
 
@@ -32,7 +29,7 @@ fn assigned(candidate: &[u32]) -> [u32; 16]
 pub fn answer_top(
     words: &[u32],
     query: &[u32],
-    known: &[u32; 170],
+    known: &Known,
     values: &[u32],
     candidate: &[u32],
     budget: u32,
@@ -45,7 +42,7 @@ pub fn answer_top(
 {
     let mut env = assigned(candidate);
     match evaluate(query, 0, &mut env, budget, values, words, known) {
-        Evaluated::Verdict(truth, cost) => Asked::Verdict(truth, cost),
-        Evaluated::Spent => Asked::Refused(BUDGET_SPENT),
+        Evaluated::Verdict(truth, cost) => Ok(Verdict { truth, cost }),
+        Evaluated::Spent => Err(Refusal::BudgetSpent),
     }
 }

@@ -16,9 +16,8 @@ ghost use Rattle.answer.specs.Ranging.{ranges_among};
 use super::admit::admit;
 use super::asked::Asked;
 use super::top::answer_top;
-use calculus::answer::Answer;
 use instance::header::Header;
-use known::describe;
+use known::Known;
 use query::words::NODE_WORDS;
 use range::terms::pass_over;
 
@@ -32,21 +31,13 @@ fn ranging(query: &[u32]) -> bool
     requires { node_count query.now * node_words ≡ length query.now }
     ensures { result ≡ ranges_among query.now (node_count query.now) }
 {
-    let mut i = 0;
-    while i < query.len() / NODE_WORDS {
-        let kind = query[i * NODE_WORDS];
-        if SOME <= kind {
-            if kind <= EVERY {
-                return true;
-            }
-        }
-        i += 1;
-    }
-    false
+    query
+        .chunks_exact(NODE_WORDS)
+        .any(|node| (SOME..=EVERY).contains(&node[0]))
 }
 
 // Sets the flag of each place that a walk over the range passes over, if a node ranges over values.
-fn pass_for(words: &[u32], query: &[u32], arities: &[u32; 8], known: &mut [u32; 170])
+fn pass_for(words: &[u32], query: &[u32], arities: &[u32; 8], known: &mut Known)
     requires instance_of { InstanceOf (arities_in known.old) words.now × HasTerms arities.now query.now
         × (arities_in known.old ≡ arities.now) × (length query.now ≤ max_query_words) }
     requires known_len { (length known.old ≡ known_words) × ((p : ℕ) → flag_at known.old p ≡ false) }
@@ -74,23 +65,10 @@ pub fn ask_unlisted(
         (outcome_of (model_of header instance.now candidate.now)
         (query_of header.arities query.now)) }
 {
-    match admit(header, instance, query, candidate) {
-        Answer::Refused(why) => Asked::Refused(why),
-        Answer::Done(_) => {
-            let used = header.used as usize;
-            let arities = header.arities;
-            let counts = header.counts;
-            let mut known = [0u32; 170];
-            describe(&counts, &arities, (used + query.len()) as u32, &mut known);
-            pass_for(&instance[..used], query, &arities, &mut known);
-            answer_top(
-                &instance[..used],
-                query,
-                &known,
-                &instance[..used],
-                candidate,
-                budget,
-            )
-        }
-    }
+    admit(header, instance, query, candidate)?;
+    let used = header.used as usize;
+    let words = &instance[..used];
+    let mut known = Known::new(&header.counts, &header.arities, used + query.len());
+    pass_for(words, query, &header.arities, &mut known);
+    answer_top(words, query, &known, words, candidate, budget)
 }

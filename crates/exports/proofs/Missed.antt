@@ -7,8 +7,8 @@ use Rattle.calculus.specs.declared.truth.Truth.TheVariants.{True}
 use Rattle.calculus.specs.Kleene.{rank}
 use Rattle.calculus.specs.Order.{of_bool}
 use Rattle.calculus.proofs.Truths.{rank_is}
-use Rattle.answer.specs.declared.asked.Asked.{Asked}
-use Rattle.answer.specs.declared.asked.Asked.TheVariants.{Verdict}
+use Rattle.answer.specs.Asked.{Asked}
+use Rattle.answer.specs.Asked.{verdict}
 use Rattle.answer.specs.Ask.{Lent}
 use Rattle.answer.specs.Numbers.{verdict_of}
 use Rattle.plain.proofs.Missed.{nothing_missed, false_somehow, verdicts_right}
@@ -48,4 +48,4 @@ exported_verdicts_right hs ws qs candidate lent budget truth t zero is =
     let s = stored hs ws qs candidate lent budget zero in
     let same = stored_is hs ws qs candidate lent budget truth s (of_bool t) is in
     verdicts_right (header_of hs) ws qs candidate lent budget s.cost t
-    (s.asks ∙ ap (λ (x : Truth). Verdict x s.cost) same)
+    (s.asks ∙ ap (λ (x : Truth). verdict x s.cost) same)

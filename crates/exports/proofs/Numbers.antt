@@ -22,7 +22,7 @@ use Rattle.query.specs.Named.{query_of}
 use Rattle.evaluate.specs.declared.evaluated.Evaluated.{Evaluated}
 use Rattle.evaluate.specs.declared.evaluated.Evaluated.TheVariants as evaluated
 use Rattle.evaluate.specs.Within.{within}
-use Rattle.answer.specs.declared.asked.Asked.TheVariants as asked
+use Rattle.answer.specs.Asked.{verdict}
 use Rattle.answer.specs.Ask.{answered_by, Lent, list, none, askable, ask, asked_buffer}
 use Rattle.answer.specs.Numbers.{asked_as}
 use Rattle.calls.specs.Calls.{Call, answer_to, leaves}
@@ -64,7 +64,7 @@ asked-known : (hs ws qs candidate : List ℕ) (lent : Lent) (budget : ℕ) → a
 unfolding ask_answer
 asked-known hs ws qs candidate lent budget = go (eqb (length hs) header_length)
   where
-    go : (b : Bool) → asked_as (cond b (ask (header_of hs) ws qs candidate lent budget) (asked.Refused Unsound)) ≡ demand b (Err Unsound) (asked_as (ask (header_of hs) ws qs candidate lent budget))
+    go : (b : Bool) → asked_as (cond b (ask (header_of hs) ws qs candidate lent budget) (Err Unsound)) ≡ demand b (Err Unsound) (asked_as (ask (header_of hs) ws qs candidate lent budget))
     go true = refl
     go false = refl
 
@@ -123,8 +123,8 @@ buffer-kept hs ws qs candidate buffer budget =
     go (eqb (length hs) header_length) (askable (header_of hs) ws qs candidate (list buffer)) (within budget (outcome_of (model_of (header_of hs) ws candidate) (query_of (header_of hs).arities qs))) _
   where
     go :
-        (b : Bool) (a : Answer) (e : Evaluated) (new : List ℕ) → (number_of (asked_as (cond b (answered_by a e) (asked.Refused Unsound))) ≡ 0 → ⊥) →
-        (number_of (asked_as (cond b (answered_by a e) (asked.Refused Unsound))) ≡ budget_spent → ⊥) → cond b (after a new buffer) buffer ≡ buffer
+        (b : Bool) (a : Answer) (e : Evaluated) (new : List ℕ) → (number_of (asked_as (cond b (answered_by a e) (Err Unsound))) ≡ 0 → ⊥) →
+        (number_of (asked_as (cond b (answered_by a e) (Err Unsound))) ≡ budget_spent → ⊥) → cond b (after a new buffer) buffer ≡ buffer
     go false a e new some other = refl
     go true (Err r) e new some other = refl
     go true (Ok n) (evaluated.Verdict t k) new some other = absurd (some refl)

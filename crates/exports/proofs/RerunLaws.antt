@@ -5,6 +5,7 @@ use mathlib.Core.Path.{◌≡◌, refl, sym, ap, ◌∙◌}
 use mathlib.Core.List.{List, [], ◌∷◌}
 use native.Mathlib.Omega.{arith}
 use lib.ListN.{length}
+use Rattle.answer.specs.Asked.{verdict}
 use Rattle.calculus.specs.declared.truth.Truth.{Truth}
 use Rattle.calculus.specs.declared.truth.Truth.TheVariants.{Unknown}
 use Rattle.calculus.specs.Kleene.{rank}
@@ -12,7 +13,7 @@ use Rattle.calculus.specs.Order.{◌⊑◌, unknown, alike}
 use Rattle.calculus.specs.Model.{Model, next, after_fills}
 use Rattle.instance.specs.Run.{fill_answer, fill_words, filled_words}
 use Rattle.instance.proofs.Run.{Follows, follows-answer, follows_next}
-use Rattle.answer.specs.declared.asked.Asked.{Asked}
+use Rattle.answer.specs.Asked.{Asked}
 use Rattle.answer.specs.Numbers.{asked_number, verdict_of, cost_of}
 use Rattle.answer.proofs.RerunLaws.{verdict-asked, demand_three}
 use Rattle.exports.specs.Words.{header_length, header_of}

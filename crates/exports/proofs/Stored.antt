@@ -9,8 +9,9 @@ use lib.Dec.{eqb}
 use borrow.Author.Tests.{eqb-true}
 use Rattle.calculus.specs.declared.truth.Truth.{Truth}
 use Rattle.calculus.specs.declared.refusal.Refusal.TheVariants.{Unsound}
-use Rattle.answer.specs.declared.asked.Asked.{Asked}
-use Rattle.answer.specs.declared.asked.Asked.TheVariants as asked
+use Rattle.answer.specs.Asked.{Asked}
+use Rattle.answer.specs.Asked.{verdict}
+use Rattle.std.specs.Prelude.{Ok, Err}
 use Rattle.answer.specs.Ask.{Lent, ask}
 use Rattle.answer.specs.Numbers.{asked_as, asked_number}
 use Rattle.answer.proofs.RerunLaws.{not_refused}
@@ -25,11 +26,11 @@ module _ (hs ws qs candidate : List ℕ) (lent : Lent) (budget : ℕ) where
       length hs ≡ header_length →
       ask_answer hs ws qs candidate lent budget ≡ ask (header_of hs) ws qs candidate lent budget
   unfolding ask_answer
-  ask-is long = kept_yes hs long (ask (header_of hs) ws qs candidate lent budget) (asked.Refused Unsound)
+  ask-is long = kept_yes hs long (ask (header_of hs) ws qs candidate lent budget) (Err Unsound)
 
   -- a question that gets a verdict has a header slice of the right length
   has-length :
-      (t : Truth) (n : ℕ) → ask_answer hs ws qs candidate lent budget ≡ asked.Verdict t n → length hs ≡ header_length
+      (t : Truth) (n : ℕ) → ask_answer hs ws qs candidate lent budget ≡ verdict t n → length hs ≡ header_length
   unfolding ask_answer
   has-length t n e = go (eqb (length hs) header_length) refl
     where
@@ -38,7 +39,7 @@ module _ (hs ws qs candidate : List ℕ) (lent : Lent) (budget : ℕ) where
       go false is = absurd (not_refused (rw is at e))
 
   -- a question is not refused with 0
-  not_zero : ask_answer hs ws qs candidate lent budget ≡ asked.Refused 0 → ⊥
+  not_zero : ask_answer hs ws qs candidate lent budget ≡ Err 0 → ⊥
   unfolding ask_answer
   not_zero e = go (eqb (length hs) header_length) refl
     where
@@ -51,16 +52,16 @@ module _ (hs ws qs candidate : List ℕ) (lent : Lent) (budget : ℕ) where
     pub long : length hs ≡ header_length
     pub verdict : Truth
     pub cost : ℕ
-    pub answers : ask_answer hs ws qs candidate lent budget ≡ asked.Verdict verdict cost
-    pub asks : ask (header_of hs) ws qs candidate lent budget ≡ asked.Verdict verdict cost
+    pub answers : ask_answer hs ws qs candidate lent budget ≡ verdict verdict cost
+    pub asks : ask (header_of hs) ws qs candidate lent budget ≡ verdict verdict cost
 
   pub stored : asked_number (ask_answer hs ws qs candidate lent budget) ≡ 0 → Stored
   stored zero = go (ask_answer hs ws qs candidate lent budget) refl
     where
       go : (a : Asked) → ask_answer hs ws qs candidate lent budget ≡ a → Stored
-      go (asked.Verdict t n) e =
-          let long = has-length t n e in
-          record { long = long; verdict = t; cost = n; answers = e; asks = sym (ask-is long) ∙ e }
-      go (asked.Refused r) e =
+      go (Ok v) e =
+          let long = has-length v.truth v.cost e in
+          record { long = long; verdict = v.truth; cost = v.cost; answers = e; asks = sym (ask-is long) ∙ e }
+      go (Err r) e =
           let none : r ≡ 0 = sym (ap asked_number e) ∙ zero in
-          absurd (not_zero (e ∙ ap asked.Refused none))
+          absurd (not_zero (e ∙ ap Err none))

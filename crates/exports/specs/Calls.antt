@@ -10,8 +10,8 @@ use Rattle.instance.specs.NullCounts.{counted, counted_words}
 use Rattle.card.specs.Decode.{decoded}
 use Rattle.card.specs.Encode.{encoded, encoded_bytes}
 use Rattle.calculus.specs.declared.refusal.Refusal.TheVariants.{Unsound}
-use Rattle.answer.specs.declared.asked.Asked.{Asked}
-use Rattle.answer.specs.declared.asked.Asked.TheVariants as asked
+use Rattle.answer.specs.Asked.{Asked}
+use Rattle.std.specs.Prelude.{Err}
 use Rattle.answer.specs.Ask.{Lent, ask, asked_buffer}
 use Rattle.exports.specs.Words.{headed, if_headed, header_of, header_words}
 
@@ -89,7 +89,7 @@ module _ (hs ws out : List ℕ) where
 -- by `plotask_ask` if a list is lent, by `plotask_ask_unlisted` if none is
 module _ (hs ws qs candidate : List ℕ) where
   unfoldable pub ask_answer : Lent → ℕ → Asked
-  ask_answer lent budget = if_headed hs (ask (header_of hs) ws qs candidate lent budget) (asked.Refused Unsound)
+  ask_answer lent budget = if_headed hs (ask (header_of hs) ws qs candidate lent budget) (Err Unsound)
 
   unfoldable pub ask_buffer : List ℕ → List ℕ
   ask_buffer buffer = if_headed hs (asked_buffer (header_of hs) ws qs candidate buffer) buffer

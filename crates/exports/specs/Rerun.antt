@@ -1,5 +1,6 @@
 -- Demand 3 for the exported calls, as C sees it: run A by `plotask_ask` or `plotask_ask_unlisted`, a list of steps with fills by `plotask_substitute` and
 -- `plotask_substitute_logged` among them, run B by the same call as run A.
+use Rattle.answer.specs.Asked.{verdict}
 use Rattle.std.specs.Prelude.{ℕ, ◌≤◌, ◌≡◌, true, List, ◌++◌, drop}
 use Rattle.calculus.specs.declared.truth.Truth.TheVariants.{Unknown}
 use Rattle.calculus.specs.Kleene.{rank}
@@ -8,7 +9,7 @@ use Rattle.calculus.specs.Model.{Model, run, complete, says_yes}
 use Rattle.instance.specs.Rows.{words_of}
 use Rattle.instance.specs.Run.{model_of}
 use Rattle.query.specs.Named.{query_of}
-use Rattle.answer.specs.declared.asked.Asked.{Asked}
+use Rattle.answer.specs.Asked.{Asked}
 use Rattle.answer.specs.Ask.{Lent}
 use Rattle.answer.specs.Ways.{NoShorter}
 use Rattle.answer.specs.Numbers.{asked_number, verdict_of, cost_of}

@@ -15,10 +15,8 @@ ghost use Rattle.exports.specs.Calls.{ask_answer, ask_buffer};
 mod words;
 
 use answer::unlisted::ask_unlisted;
-use calculus::refusal::UNSOUND;
-use words::{
-    HEADER, asked_number, cost_of, fresh_after, number, put_header, read_header, value, verdict,
-};
+use calculus::refusal::Refusal;
+use words::{HEADER, number, read_header, tell, tell_verdict, write_header};
 
 // Reads a card, and starts the log fresh: used gets the words in use of a fresh log.
 #[unsafe(no_mangle)]
@@ -34,14 +32,16 @@ pub extern "C" fn plotask_decode(
     ensures used { used.new ≡ decode_used card.now header.old instance.old used.old }
 {
     if header.len() != HEADER {
-        return UNSOUND;
+        return u32::from(Refusal::Unsound);
     }
-    let stored = decode::decode(card, instance);
-    let answer = stored.answer;
-    let read = stored.header;
-    put_header(header, answer, read);
-    *used = fresh_after(answer, stored.log, *used);
-    number(answer)
+    match decode::decode(card, instance) {
+        Ok(restarted) => {
+            write_header(header, &restarted.header);
+            *used = restarted.log;
+            0
+        }
+        Err(why) => u32::from(why),
+    }
 }
 
 // Enters a row.
@@ -57,12 +57,13 @@ pub extern "C" fn plotask_insert(
     ensures words { instance.new ≡ insert_words header.old instance.old relation cells.now }
 {
     if header.len() != HEADER {
-        return UNSOUND;
+        return u32::from(Refusal::Unsound);
     }
-    let stored = insert::insert(read_header(header), instance, relation, cells);
-    let answer = stored.answer;
-    let grown = stored.header;
-    put_header(header, answer, grown);
+    let mut grown = read_header(header);
+    let answer = insert::insert(&mut grown, instance, relation, cells);
+    if answer.is_ok() {
+        write_header(header, &grown);
+    }
     number(answer)
 }
 
@@ -80,11 +81,10 @@ pub extern "C" fn plotask_substitute(
     ensures count { count.new ≡ value_of (substitute_answer header.now instance.old mark cell) count.old }
 {
     if header.len() != HEADER {
-        return UNSOUND;
+        return u32::from(Refusal::Unsound);
     }
     let answer = substitute::substitute(read_header(header), instance, mark, cell);
-    *count = value(answer, *count);
-    number(answer)
+    tell(answer, count)
 }
 
 // Makes a fill that is logged: used is the log's words in use, before and after; count gets the number of cells that held the mark.
@@ -105,20 +105,11 @@ pub extern "C" fn plotask_substitute_logged(
     ensures count { count.new ≡ value_of (log_answer header.now instance.old log.old used.old mark cell) count.old }
 {
     if header.len() != HEADER {
-        return UNSOUND;
+        return u32::from(Refusal::Unsound);
     }
-    let logged = substitute_logged::substitute_logged(
-        read_header(header),
-        instance,
-        log,
-        *used,
-        mark,
-        cell,
-    );
-    let answer = logged.answer;
-    *used = logged.log;
-    *count = value(answer, *count);
-    number(answer)
+    let head = read_header(header);
+    let answer = substitute_logged::substitute_logged(head, instance, log, used, mark, cell);
+    tell(answer, count)
 }
 
 // Takes the latest logged fill back: used is the log's words in use, before and after; count gets the number of cells that the mark returns to.
@@ -136,13 +127,10 @@ pub extern "C" fn plotask_undo(
     ensures count { count.new ≡ value_of (undo_answer header.now instance.old log.now used.old) count.old }
 {
     if header.len() != HEADER {
-        return UNSOUND;
+        return u32::from(Refusal::Unsound);
     }
-    let undone = undo::undo(read_header(header), instance, log, *used);
-    let answer = undone.answer;
-    *used = undone.log;
-    *count = value(answer, *count);
-    number(answer)
+    let answer = undo::undo(read_header(header), instance, log, used);
+    tell(answer, count)
 }
 
 // Takes a census; count gets 200.
@@ -158,11 +146,10 @@ pub extern "C" fn plotask_null_counts(
     ensures count { count.new ≡ value_of (counts_answer header.now instance.now counts.old) count.old }
 {
     if header.len() != HEADER {
-        return UNSOUND;
+        return u32::from(Refusal::Unsound);
     }
-    let counted = null_counts::null_counts(read_header(header), instance, counts);
-    *count = value(counted, *count);
-    number(counted)
+    let answer = null_counts::null_counts(read_header(header), instance, counts);
+    tell(answer, count)
 }
 
 // Writes a card; count gets the number of its bytes.
@@ -178,11 +165,10 @@ pub extern "C" fn plotask_encode(
     ensures count { count.new ≡ value_of (encode_answer header.now instance.now card.old) count.old }
 {
     if header.len() != HEADER {
-        return UNSOUND;
+        return u32::from(Refusal::Unsound);
     }
-    let written = encode::encode(read_header(header), instance, card);
-    *count = value(written, *count);
-    number(written)
+    let answer = encode::encode(read_header(header), instance, card);
+    tell(answer, count)
 }
 
 // Asks a question; truth gets 0 for false, 1 for unknown or 2 for true, and cost gets the looks.
@@ -203,7 +189,7 @@ pub extern "C" fn plotask_ask(
     ensures cost { cost.new ≡ cost_of (ask_answer header.now instance.now query.now candidate.now (list buffer.old) budget) cost.old }
 {
     if header.len() != HEADER {
-        return UNSOUND;
+        return u32::from(Refusal::Unsound);
     }
     let asked = answer::ask::ask(
         read_header(header),
@@ -213,9 +199,7 @@ pub extern "C" fn plotask_ask(
         buffer,
         budget,
     );
-    *truth = verdict(asked, *truth);
-    *cost = cost_of(asked, *cost);
-    asked_number(asked)
+    tell_verdict(asked, truth, cost)
 }
 
 // The same with no working list.
@@ -234,10 +218,8 @@ pub extern "C" fn plotask_ask_unlisted(
     ensures cost { cost.new ≡ cost_of (ask_answer header.now instance.now query.now candidate.now none budget) cost.old }
 {
     if header.len() != HEADER {
-        return UNSOUND;
+        return u32::from(Refusal::Unsound);
     }
     let asked = ask_unlisted(read_header(header), instance, query, candidate, budget);
-    *truth = verdict(asked, *truth);
-    *cost = cost_of(asked, *cost);
-    asked_number(asked)
+    tell_verdict(asked, truth, cost)
 }

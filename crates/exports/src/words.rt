@@ -1,13 +1,12 @@
 // A header as words, and an answer as numbers.
 ghost use Rattle.std.specs.Prelude.{◌≡◌, length};
-ghost use Rattle.calculus.specs.Answer.{after, number_of, value_of};
-ghost use Rattle.calculus.specs.Kleene.{rank};
+ghost use Rattle.calculus.specs.Answer.{number_of, value_of};
 ghost use Rattle.answer.specs.Numbers.{asked_number, verdict_of, cost_of};
 ghost use Rattle.exports.specs.Words.{header_of, header_words, header_length};
 
 use answer::asked::Asked;
 use calculus::answer::Answer;
-use calculus::truth::Truth;
+use calculus::refusal::Refusal;
 use instance::eight::{eight, put_eight};
 use instance::header::{Header, RELATIONS, header_with};
 
@@ -31,89 +30,44 @@ pub fn read_header(words: &[u32]) -> Header
     header_with(words[RELATIONS_AT], arities, words[USED_AT], counts)
 }
 
-fn write_header(words: &mut [u32], header: Header)
+pub fn write_header(words: &mut [u32], header: &Header)
     requires { length words.old ≡ header_length }
-    ensures { words.new ≡ header_words header }
+    ensures { words.new ≡ header_words header.now }
 {
-    let arities = header.arities;
-    let counts = header.counts;
     words[RELATIONS_AT] = header.relations;
-    put_eight(words, ARITIES_AT, &arities);
+    put_eight(words, ARITIES_AT, &header.arities);
     words[USED_AT] = header.used;
-    put_eight(words, ROW_COUNTS_AT, &counts);
+    put_eight(words, ROW_COUNTS_AT, &header.counts);
 }
 
-// Writes the header that an accepted call leaves; a refused call leaves the words as they are.
-pub fn put_header(words: &mut [u32], answer: Answer, header: Header)
-    requires { length words.old ≡ header_length }
-    ensures { words.new ≡ after answer (header_words header) words.old }
-{
-    if let Answer::Done(_) = answer {
-        write_header(words, header);
-    }
-}
-
-pub fn number(answer: Answer) -> u32
+// The number of an answer: 0 if the call is accepted.
+pub fn number<T: Copy>(answer: Result<T, Refusal>) -> u32
     ensures { result ≡ number_of answer }
 {
     match answer {
-        Answer::Done(_) => 0,
-        Answer::Refused(why) => why,
+        Ok(_) => 0,
+        Err(why) => u32::from(why),
     }
 }
 
-pub fn value(answer: Answer, old: u32) -> u32
-    ensures { result ≡ value_of answer old }
+// Tells an answer as numbers: the value of an accepted call is stored, and a refused one leaves the old value.
+pub fn tell(answer: Answer, value: &mut u32) -> u32
+    ensures number { result ≡ number_of answer }
+    ensures value { value.new ≡ value_of answer value.old }
 {
-    match answer {
-        Answer::Done(n) => n,
-        Answer::Refused(_) => old,
-    }
+    *value = answer.unwrap_or(*value);
+    number(answer)
 }
 
-// The log's words in use after a call that starts the log fresh; a refused call leaves the log as it is.
-pub fn fresh_after(answer: Answer, fresh: usize, used: usize) -> usize
-    ensures { result ≡ after answer fresh used }
+// The same of a question's answer: its verdict (0 false, 1 unknown, 2 true) and its cost.
+pub fn tell_verdict(asked: Asked, truth: &mut u32, cost: &mut u32) -> u32
+    ensures number { result ≡ asked_number asked }
+    ensures truth { truth.new ≡ verdict_of asked truth.old }
+    ensures cost { cost.new ≡ cost_of asked cost.old }
 {
-    match answer {
-        Answer::Done(_) => fresh,
-        Answer::Refused(_) => used,
+    if let Ok(verdict) = asked {
+        *truth = verdict.truth.rank() as u32;
+        *cost = verdict.cost;
     }
-}
-
-fn truth_number(truth: Truth) -> u32
-    ensures { result ≡ rank truth }
-{
-    match truth {
-        Truth::False => 0,
-        Truth::Unknown => 1,
-        Truth::True => 2,
-    }
-}
-
-pub fn asked_number(asked: Asked) -> u32
-    ensures { result ≡ asked_number asked }
-{
-    match asked {
-        Asked::Verdict(_, _) => 0,
-        Asked::Refused(why) => why,
-    }
-}
-
-pub fn verdict(asked: Asked, old: u32) -> u32
-    ensures { result ≡ verdict_of asked old }
-{
-    match asked {
-        Asked::Verdict(truth, _) => truth_number(truth),
-        Asked::Refused(_) => old,
-    }
-}
-
-pub fn cost_of(asked: Asked, old: u32) -> u32
-    ensures { result ≡ cost_of asked old }
-{
-    match asked {
-        Asked::Verdict(_, n) => n,
-        Asked::Refused(_) => old,
-    }
+    number(asked)
 }

@@ -9,14 +9,13 @@ use Rattle.calculus.specs.Answer.{Answer}
 use Rattle.std.specs.Prelude.{Ok, Err}
 use Rattle.instance.specs.declared.header.Header.{Header}
 use Rattle.card.specs.Decode.{Decoded}
-use Rattle.answer.specs.declared.asked.Asked.{Asked}
-use Rattle.answer.specs.declared.asked.Asked.TheVariants.{Refused}
+use Rattle.answer.specs.Asked.{Asked}
 use Rattle.line.specs.Fields.{Fields}
 use Rattle.line.specs.Text.{max_line}
 use Rattle.line.specs.Line.{asked_instance, asked_decoded, answered, line_for, line_of, line_length, line_out}
 
 module _ (f : Fields) (d : Decoded) {a : Answer} (told : a ≡ d.answer) where
-  pub card-refused : {r : ℕ} → a ≡ Err r → Refused r ≡ asked_decoded f d
+  pub card-refused : {r : ℕ} → a ≡ Err r → Err r ≡ asked_decoded f d
   card-refused is = rw (← told, is)
 
   pub card-read : {used : ℕ} {h : Header} {ws : List ℕ} → a ≡ Ok used → h ≡ d.header → ws ≡ d.words → asked_instance f h ws ≡ asked_decoded f d

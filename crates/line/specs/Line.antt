@@ -10,8 +10,7 @@ use Rattle.instance.specs.declared.header.Header.{Header}
 use Rattle.instance.specs.Header.{max_words}
 use Rattle.parse.specs.Parse.{Parsed}
 use Rattle.card.specs.Decode.{Decoded, decoded}
-use Rattle.answer.specs.declared.asked.Asked.{Asked}
-use Rattle.answer.specs.declared.asked.Asked.TheVariants.{Verdict, Refused}
+use Rattle.answer.specs.Asked.{Asked}
 use Rattle.answer.specs.Ask.{list, ask}
 use Rattle.query.specs.Words.{node_words, max_nodes}
 use Rattle.line.specs.Fields.{Fields, read_input}
@@ -32,7 +31,7 @@ asked_instance f h ws = ask h ws f.words f.candidate (list blank) f.budget
 -- goes on only if the card is accepted
 abbrev pub if_read : Answer → Asked → Asked
 if_read (Ok used) a = a
-if_read (Err r) a = Refused r
+if_read (Err r) a = Err r
 
 -- "then the card, then the question"
 abbrev pub asked_decoded : Fields → Decoded → Asked
@@ -43,14 +42,14 @@ asked_card f = asked_decoded f (decoded f.card blank)
 
 abbrev pub asked_fields : Parsed Fields → Asked
 asked_fields (read f bs) = asked_card f
-asked_fields (refused r) = Refused r
+asked_fields (refused r) = Err r
 
 unfoldable pub answered : List ℕ → Asked
 answered input = asked_fields (read_input input)
 
 abbrev pub line_for : Asked → List ℕ
-line_for (Verdict truth cost) = verdict_line truth cost
-line_for (Refused r) = refused_line r
+line_for (Ok v) = verdict_line v.truth v.cost
+line_for (Err r) = refused_line r
 
 unfoldable pub line_of : List ℕ → List ℕ
 line_of input = line_for (answered input)

@@ -11,7 +11,7 @@ use Rattle.calculus.specs.Model.{says_yes, valued}
 use Rattle.instance.specs.declared.header.Header.{Header}
 use Rattle.instance.specs.Run.{model_of}
 use Rattle.query.specs.Named.{query_of}
-use Rattle.answer.specs.declared.asked.Asked.TheVariants.{Verdict}
+use Rattle.answer.specs.Asked.{verdict}
 use Rattle.answer.specs.Ask.{Lent, ask}
 use Rattle.plain.specs.Plain.{plain_words}
 
@@ -24,18 +24,18 @@ satisfied h ws qs candidate v = says_yes (valued v (model_of h ws candidate)) (q
 abbrev pub NothingMissed : Type 0
 NothingMissed =
     (h : Header) (ws qs candidate : List ℕ) (lent : Lent) (budget : ℕ) (t : Truth) (n : ℕ) →
-    plain_words qs ≡ true → ask h ws qs candidate lent budget ≡ Verdict t n →
+    plain_words qs ≡ true → ask h ws qs candidate lent budget ≡ verdict t n →
     t ≡ True ↔ ((v : Valuation) → satisfied h ws qs candidate v ≡ true)
 
 -- If a plain question's verdict is not true, there is a giving of inked values that makes the question false.
 abbrev pub FalseSomehow : Type 0
 FalseSomehow =
     (h : Header) (ws qs candidate : List ℕ) (lent : Lent) (budget : ℕ) (t : Truth) (n : ℕ) →
-    plain_words qs ≡ true → ask h ws qs candidate lent budget ≡ Verdict t n → (t ≡ True → ⊥) →
+    plain_words qs ≡ true → ask h ws qs candidate lent budget ≡ verdict t n → (t ≡ True → ⊥) →
     (v : Valuation) × (satisfied h ws qs candidate v ≡ false)
 
 -- A true verdict of any question is right, and so is a false one.
 abbrev pub VerdictsRight : Type 0
 VerdictsRight =
     (h : Header) (ws qs candidate : List ℕ) (lent : Lent) (budget n : ℕ) (t : Bool) →
-    ask h ws qs candidate lent budget ≡ Verdict (of_bool t) n → (v : Valuation) → satisfied h ws qs candidate v ≡ t
+    ask h ws qs candidate lent budget ≡ verdict (of_bool t) n → (v : Valuation) → satisfied h ws qs candidate v ≡ t

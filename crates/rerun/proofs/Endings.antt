@@ -15,8 +15,9 @@ use Rattle.instance.specs.Sound.{sound}
 use Rattle.instance.specs.Run.{filled_words, model_of}
 use Rattle.instance.proofs.Run.{fills_follow_model}
 use Rattle.query.proofs.Passed as passed
-use Rattle.answer.specs.declared.asked.Asked.{Asked}
-use Rattle.answer.specs.declared.asked.Asked.TheVariants as asked
+use Rattle.answer.specs.Asked.{Asked}
+use Rattle.answer.specs.Asked.{verdict}
+use Rattle.std.specs.Prelude.{Ok, Err}
 use Rattle.answer.specs.Ask.{ask}
 use Rattle.answer.specs.Ways.{lent_by, left_by}
 use Rattle.answer.proofs.Told.{Of, tells_verdict, ask_outcome}
@@ -28,25 +29,25 @@ use Rattle.rerun.specs.Rerun.{both_runs, first_of, second_of, Given, wanted, sta
 use Rattle.rerun.specs.Rerun.{reran_words, reran_candidate, reran_answers, reran_log, reran_used, reran_buffer, reran_buffer2, Claim, TellsRuns, Reruns}
 use Rattle.rerun.proofs.ModelLaws.{Kept, fed-run, model-kept, words-kept}
 
-pub first_both : (t : Truth) (n : ℕ) (b : Asked) → first_of (both_runs (asked.Verdict t n) b) ≡ asked.Verdict t n
-first_both t n (asked.Verdict u k) = refl
-first_both t n (asked.Refused r) = refl
+pub first_both : (t : Truth) (n : ℕ) (b : Asked) → first_of (both_runs (verdict t n) b) ≡ verdict t n
+first_both t n (Ok v) = refl
+first_both t n (Err r) = refl
 
-second_both : (t : Truth) (n : ℕ) (b : Asked) → second_of (both_runs (asked.Verdict t n) b) ≡ b
-second_both t n (asked.Verdict u k) = refl
-second_both t n (asked.Refused r) = refl
+second_both : (t : Truth) (n : ℕ) (b : Asked) → second_of (both_runs (verdict t n) b) ≡ b
+second_both t n (Ok v) = refl
+second_both t n (Err r) = refl
 
 -- a verdict in a rerun's answer is that of the run's outcome
 first_of_lem : {o : Outcome} (b : Bool) (p q : Asked) → Of o p → Of o (first_of (cond b (both_runs p q) (Refused OutputTooShort)))
-first_of_lem true (asked.Verdict u k) (asked.Verdict v l) of t n e = of t n e
-first_of_lem true (asked.Verdict u k) (asked.Refused r) of t n e = of t n e
-first_of_lem true (asked.Refused r) q of t n e = absurd (not_refused e)
+first_of_lem true (Ok v) (Ok w) of t n e = of t n e
+first_of_lem true (Ok v) (Err r) of t n e = of t n e
+first_of_lem true (Err r) q of t n e = absurd (not_refused e)
 first_of_lem false p q of t n e = absurd (not_refused e)
 
 second_of_lem : {o : Outcome} (b : Bool) (p q : Asked) → Of o q → Of o (second_of (cond b (both_runs p q) (Refused OutputTooShort)))
-second_of_lem true (asked.Verdict u k) (asked.Verdict v l) of t n e = of t n e
-second_of_lem true (asked.Verdict u k) (asked.Refused r) of t n e = absurd (not_refused e)
-second_of_lem true (asked.Refused r) q of t n e = absurd (not_refused e)
+second_of_lem true (Ok v) (Ok w) of t n e = of t n e
+second_of_lem true (Ok v) (Err r) of t n e = absurd (not_refused e)
+second_of_lem true (Err r) q of t n e = absurd (not_refused e)
 second_of_lem false p q of t n e = absurd (not_refused e)
 
 module _ (g : Given) (ws : List ℕ) where
@@ -77,7 +78,7 @@ module _ (g : Given) (ws : List ℕ) where
       }
 
   pub refused :
-      length g.fills ≤ length g.answers → (r : ℕ) → asked.Refused r ≡ run_a g ws →
+      length g.fills ≤ length g.answers → (r : ℕ) → Err r ≡ run_a g ws →
       (buffer : List ℕ) → buffer ≡ left_by g.way g.header ws g.query g.candidate g.buffer →
       Reruns g ws (Refused r) ws g.candidate buffer g.answers g.log g.used g.buffer2
   unfolding begun reran reran_words reran_candidate reran_answers reran_log reran_used reran_buffer reran_buffer2
@@ -98,14 +99,14 @@ module _ (g : Given) (ws : List ℕ) where
       }
 
   -- a question that got a verdict passed its check
-  pub few-cells : (t : Truth) (n : ℕ) → asked.Verdict t n ≡ run_a g ws → length g.candidate ≤ max_columns
+  pub few-cells : (t : Truth) (n : ℕ) → verdict t n ≡ run_a g ws → length g.candidate ≤ max_columns
   few-cells t n e =
       let a = (verdict-asked g.header ws g.query g.candidate (lent_by g.way g.buffer) g.budget t n (sym e)).0 in
       passed.few-cells g.header.relations g.header.arities g.query g.candidate a.right a.scopes a.passes
 
   -- both runs, run B on what the fills left
   module _
-      (l : length g.fills ≤ length g.answers) (t : Truth) (n : ℕ) (e : asked.Verdict t n ≡ run_a g ws)
+      (l : length g.fills ≤ length g.answers) (t : Truth) (n : ℕ) (e : verdict t n ≡ run_a g ws)
       (buffer ws' candidate' out' log' : List ℕ) (used' : ℕ) (buffer2 : List ℕ) (b : Asked)
       (is-buffer : buffer ≡ left_by g.way g.header ws g.query g.candidate g.buffer)
       (is-left : filled_with ws' candidate' log' used' ≡ after_fills (fill_leaves g.header) (wanted g ws) (filled_with ws g.candidate g.log g.used))
@@ -141,7 +142,7 @@ module _ (g : Given) (ws : List ℕ) where
       words-fed : ws' ≡ filled_words g.header fs ws
       words-fed = model_words_lem ∙ rw model-fed (sym (fills_follow_model g.header fs ws g.candidate is_sound).words)
 
-      claimed : Claim g ws (both_runs (asked.Verdict t n) b)
+      claimed : Claim g ws (both_runs (verdict t n) b)
       claimed l' longer larger u k v =
           let d = demand_three g.header ws g.query g.candidate (lent_by g.way g.buffer) g.budget fs (lent_by g.way g.buffer2) g.budget2 longer larger u k v in
           let is-second : b ≡ ask g.header (filled_words g.header fs ws) g.query (run fs (model_of g.header ws g.candidate)).candidate (lent_by g.way g.buffer2) g.budget2 =
@@ -149,12 +150,12 @@ module _ (g : Given) (ws : List ℕ) where
           in
           (first_both t n b ∙ e ∙ v, rw (second_both t n b, is-second) d)
 
-      pub both_asked : Reruns g ws (both_runs (asked.Verdict t n) b) ws' candidate' buffer out' log' used' buffer2
+      pub both_asked : Reruns g ws (both_runs (verdict t n) b) ws' candidate' buffer out' log' used' buffer2
       unfolding begun reran reran_words reran_candidate reran_answers reran_log reran_used reran_buffer reran_buffer2
       both_asked =
           let p = le-leb (length g.fills) (length g.answers) l in
           let q = sym e in
-          let is : both_runs (asked.Verdict t n) b ≡ both_runs (asked.Verdict t n) (run_b g ws) = ap (both_runs (asked.Verdict t n)) is_b in
+          let is : both_runs (verdict t n) b ≡ both_runs (verdict t n) (run_b g ws) = ap (both_runs (verdict t n)) is_b in
           record {
             answer = rw (p, q) is;
             words = rw (p, q) model_words_lem;

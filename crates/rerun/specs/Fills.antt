@@ -11,13 +11,9 @@ use Rattle.instance.specs.declared.header.Header.{Header}
 use Rattle.instance.specs.Run.{fill_words, fill_answer}
 use Rattle.instance.specs.Sound.{rows}
 use Rattle.undo_log.specs.Log.{noted}
+use Rattle.rerun.specs.declared.fills.Wanted.{Wanted}
 
--- a fill that is wanted: a null's number, a cell, and whether it is logged
-pub record Wanted : Type 0 where
-  pub mark : ℕ
-  pub cell : ℕ
-  pub logs : Bool
-
+-- a fill that is wanted, from its three words
 abbrev pub wanted : ℕ → ℕ → ℕ → Wanted
 wanted m c l = record { mark = m; cell = c; logs = ltb 0 l }
 

@@ -2,7 +2,8 @@
 -- "Demand 3's list may hold both kinds".
 use Rattle.std.specs.Prelude.{ℕ, ◌≤◌, ◌≡◌, Bool, cond, List, ◌++◌, length, drop, leb}
 use Rattle.calculus.specs.Answer.{Answer}
-use Rattle.std.specs.Prelude.{Ok, Err}
+use Rattle.std.specs.Prelude.{Result, Ok, Err}
+use Rattle.calculus.specs.declared.refusal.Refusal.{Refusal}
 use Rattle.calculus.specs.declared.truth.Truth.{Truth}
 use Rattle.calculus.specs.Answer.{after}
 use Rattle.calculus.specs.declared.refusal.Refusal.TheVariants.{OutputTooShort}
@@ -10,8 +11,8 @@ use Rattle.calculus.specs.Model.{after_fills, outcome_of as outcome}
 use Rattle.instance.specs.declared.header.Header.{Header}
 use Rattle.instance.specs.Rows.{words_of}
 use Rattle.instance.specs.Run.{model_of}
-use Rattle.answer.specs.declared.asked.Asked.{Asked}
-use Rattle.answer.specs.declared.asked.Asked.TheVariants as asked
+use Rattle.answer.specs.Asked.{Asked}
+use Rattle.answer.specs.Asked.{verdict}
 use Rattle.answer.specs.Ask.{ask}
 use Rattle.answer.specs.Ways.{NoShorter, lent_by, left_by}
 use Rattle.answer.specs.declared.way.Way.{Way}
@@ -19,31 +20,31 @@ use Rattle.query.specs.Named.{query_of}
 use Rattle.answer.specs.Numbers.{TellsVerdict}
 use Rattle.answer.specs.Rerun.{Rerun}
 use Rattle.rerun.specs.declared.reran.Reran.{Reran}
-use Rattle.rerun.specs.declared.reran.Reran.TheVariants.{Verdicts, SecondRefused, Refused}
 use Rattle.rerun.specs.Fills.{Wanted, wanted_of, Account, account_next, accounts_told, fed_all, stored}
 use Rattle.calculus.specs.Demand.{demand}
 
+-- run A's verdict and run B's answer, or a refusal before the fills
+abbrev pub Answers : Type 0
+Answers = Result Reran Refusal
+
 -- the answers of both runs; run B is not asked if run A is refused
-abbrev pub both_runs : Asked → Asked → Reran
-both_runs (asked.Verdict a n) (asked.Verdict b k) = Verdicts a n b k
-both_runs (asked.Verdict a n) (asked.Refused r) = SecondRefused a n r
-both_runs (asked.Refused r) b = Refused r
+abbrev pub both_runs : Asked → Asked → Answers
+both_runs (Ok v) b = Ok (record { first = v; second = b })
+both_runs (Err r) b = Err r
 
 -- What a rerun's answer says of run A and of run B; `answer/specs/Numbers.antt` gives each as the paper's numbers.
-abbrev pub first_of : Reran → Asked
-first_of (Verdicts a n b k) = asked.Verdict a n
-first_of (SecondRefused a n r) = asked.Verdict a n
-first_of (Refused r) = asked.Refused r
+abbrev pub first_of : Answers → Asked
+first_of (Ok r) = Ok r.first
+first_of (Err r) = Err r
 
-abbrev pub second_of : Reran → Asked
-second_of (Verdicts a n b k) = asked.Verdict b k
-second_of (SecondRefused a n r) = asked.Refused r
-second_of (Refused r) = asked.Refused r
+abbrev pub second_of : Answers → Asked
+second_of (Ok r) = r.second
+second_of (Err r) = Err r
 
 -- the fills are made only if run A got a verdict
 abbrev pub goes_on : Asked → Answer
-goes_on (asked.Verdict t n) = Ok 0
-goes_on (asked.Refused r) = Err r
+goes_on (Ok v) = Ok 0
+goes_on (Err r) = Err r
 
 -- what a rerun is given besides the instance's words: both runs ask by the same way; run A's buffer and budget are `buffer` and `budget`, run B's are
 -- `buffer2` and `budget2`
@@ -107,8 +108,8 @@ module _ (g : Given) (ws : List ℕ) where
   unfoldable pub begun : Answer
   begun = demand has_answers (Err OutputTooShort) (goes_on run_a)
 
-  unfoldable pub reran : Reran
-  reran = cond has_answers (both_runs run_a run_b) (Refused OutputTooShort)
+  unfoldable pub reran : Answers
+  reran = cond has_answers (both_runs run_a run_b) (Err OutputTooShort)
 
   -- what is left of the instance's words, the candidate, the slice for the answers, the log with its words in use, and the buffers
   unfoldable pub reran_words : List ℕ
@@ -134,21 +135,21 @@ module _ (g : Given) (ws : List ℕ) where
 
   -- demand 3 for the answer, if there is room for the fills' answers, run B's buffer and budget are no smaller than run A's, and run A gets a verdict:
   -- r has it, and B is not refused, keeps it if it is true or false, costs no more, and is the verdict of two-valued logic if no null is left
-  abbrev pub Claim : Reran → Type 0
+  abbrev pub Claim : Answers → Type 0
   Claim r =
       length g.fills ≤ length g.answers → NoShorter (lent_by g.way g.buffer) (lent_by g.way g.buffer2) → g.budget ≤ g.budget2 →
-      (t : Truth) (n : ℕ) → run_a ≡ asked.Verdict t n →
-      (first_of r ≡ asked.Verdict t n) × Rerun g.header ws g.query g.candidate (fed_all wanted start) t n (second_of r)
+      (t : Truth) (n : ℕ) → run_a ≡ verdict t n →
+      (first_of r ≡ verdict t n) × Rerun g.header ws g.query g.candidate (fed_all wanted start) t n (second_of r)
 
   -- the answer in the paper's numbers: that of run A, and that of run B on what the fills left
-  pub record TellsRuns (r : Reran) : Type 0 where
+  pub record TellsRuns (r : Answers) : Type 0 where
     pub first : TellsVerdict (first_of r) (first_of reran)
         (outcome start.model (query_of g.header.arities g.query))
     pub second : TellsVerdict (second_of r) (second_of reran)
         (outcome (model_of g.header model_words end.model.candidate) (query_of g.header.arities g.query))
 
   -- what a rerun returns, and what it leaves of everything that it was lent
-  pub record Reruns (r : Reran) (ws' candidate' buffer' answers' log' : List ℕ) (used' : ℕ) (buffer2' : List ℕ) : Type 0 where
+  pub record Reruns (r : Answers) (ws' candidate' buffer' answers' log' : List ℕ) (used' : ℕ) (buffer2' : List ℕ) : Type 0 where
     pub answer : r ≡ reran
     pub words : ws' ≡ reran_words
     pub candidate : candidate' ≡ reran_candidate

@@ -1,6 +1,5 @@
 // The fills of a run, each made in the instance and in the candidate.
-ghost use Rattle.std.specs.Prelude.{◌≡◌, ℕ, ◌≤◌, ◌++◌, length, drop};
-ghost use Rattle.calculus.specs.declared.answer.Answer.TheVariants.{Done};
+ghost use Rattle.std.specs.Prelude.{◌≡◌, ℕ, ◌≤◌, ◌++◌, Ok, length, drop};
 ghost use Rattle.calculus.specs.Model.{after_fills};
 ghost use Rattle.instance.specs.Header.{max_words};
 ghost use Rattle.instance.specs.Run.{fill_answer, fill_words};
@@ -11,28 +10,46 @@ use calculus::answer::Answer;
 use instance::header::Header;
 use substitute::{replace, substitute};
 use substitute_logged::substitute_logged;
-use undo_log::Logged;
 
-// A fill of the instance, logged if `logs` is not 0.
+// A fill that is wanted: a null's number, a cell, and whether it is logged.
+#[derive(Clone, Copy)]
+pub struct Wanted {
+    pub mark: u32,
+    pub cell: u32,
+    pub logs: bool,
+}
+
+// The fill that three words ask for: the third is 0 for one that is not logged.
+fn wanted(mark: u32, cell: u32, logs: u32) -> Wanted
+    ensures { result ≡ wanted mark cell logs }
+{
+    Wanted {
+        mark,
+        cell,
+        logs: 0 < logs,
+    }
+}
+
+// A fill of the instance, logged or not.
 fn fill_instance(
     header: Header,
     instance: &mut [u32],
     log: &mut [u32],
-    used: usize,
-    mark: u32,
-    cell: u32,
-    logs: u32,
-) -> Logged
-    ensures answer { result.answer ≡ fill_answer header (fed (wanted mark cell logs) log.old used) instance.old }
-    ensures words { instance.new ≡ fill_words header (fed (wanted mark cell logs) log.old used) instance.old }
-    ensures log { log.new ≡ log_left (wanted mark cell logs) (fill_answer header (fed (wanted mark cell logs) log.old used) instance.old) (rows header instance.old) log.old used }
-    ensures used { result.log ≡ used_left (wanted mark cell logs) (fill_answer header (fed (wanted mark cell logs) log.old used) instance.old) (rows header instance.old) used }
+    used: &mut usize,
+    fill: Wanted,
+) -> Answer
+    ensures answer { result ≡ fill_answer header (fed fill log.old used.old) instance.old }
+    ensures words { instance.new ≡ fill_words header (fed fill log.old used.old) instance.old }
+    ensures log { log.new ≡ log_left fill (fill_answer header (fed fill log.old used.old) instance.old)
+        (rows header instance.old) log.old used.old }
+    ensures used { used.new ≡ used_left fill (fill_answer header (fed fill log.old used.old) instance.old)
+        (rows header instance.old) used.old }
 {
-    if logs == 0 {
-        let answer = substitute(header, instance, mark, cell);
-        return Logged { answer, log: used };
+    if fill.logs {
+        substitute_logged(header, instance, log, used, fill.mark, fill.cell)
+    } else {
+        substitute(header, instance, fill.mark, fill.cell)
     }
-    substitute_logged(header, instance, log, used, mark, cell)
 }
 
 // "each accepted one is made in the candidate too"
@@ -41,69 +58,52 @@ fn fill(
     instance: &mut [u32],
     candidate: &mut [u32],
     log: &mut [u32],
-    used: usize,
-    mark: u32,
-    cell: u32,
-    logs: u32,
-) -> Logged
+    used: &mut usize,
+    fill: Wanted,
+) -> Answer
     requires { length candidate.old ≤ max_words }
-    ensures answer { result.answer ≡ fill_told header (wanted mark cell logs) (filled_with instance.old candidate.old log.old used) }
-    ensures left { filled_with instance.new candidate.new log.new result.log ≡ fill_leaves header (wanted mark cell logs) (filled_with instance.old candidate.old log.old used) }
-    ensures few { (k : ℕ) → result.answer ≡ Done k → k ≤ max_words }
+    ensures answer { result ≡ fill_told header fill (filled_with instance.old candidate.old log.old used.old) }
+    ensures left { filled_with instance.new candidate.new log.new used.new
+        ≡ fill_leaves header fill (filled_with instance.old candidate.old log.old used.old) }
+    ensures few { (k : ℕ) → result ≡ Ok k → k ≤ max_words }
 {
-    let made = fill_instance(header, instance, log, used, mark, cell, logs);
-    let answer = made.answer;
-    if let Answer::Done(_) = answer {
-        replace(candidate, mark, cell);
-    }
-    made
+    let count = fill_instance(header, instance, log, used, fill)?;
+    replace(candidate, fill.mark, fill.cell);
+    Ok(count)
 }
 
 // Writes the answer of a fill to the first three words of a slice.
-fn store(answers: &mut [u32], answer: Answer, mark: u32, cell: u32, logs: u32)
-    requires { (3 ≤ length answers.old) × ((k : ℕ) → answer ≡ Done k → k ≤ max_words) }
-    ensures { answers.new ≡ answer_words (wanted mark cell logs) answer ++ drop 3 answers.old }
+fn store(answers: &mut [u32], answer: Answer, fill: Wanted)
+    requires { (3 ≤ length answers.old) × ((k : ℕ) → answer ≡ Ok k → k ≤ max_words) }
+    ensures { answers.new ≡ answer_words fill answer ++ drop 3 answers.old }
 {
-    match answer {
-        Answer::Done(count) => {
-            answers[0] = 0;
-            answers[1] = count;
-            answers[2] = if logs == 0 { 0 } else { 2 + count };
-        }
-        Answer::Refused(why) => {
-            answers[0] = why;
-            answers[1] = 0;
-            answers[2] = 0;
-        }
-    }
+    let words = match answer {
+        Ok(count) => [0, count, if fill.logs { 2 + count } else { 0 }],
+        Err(why) => [u32::from(why), 0, 0],
+    };
+    answers[..3].copy_from_slice(&words);
 }
 
-// Makes the fills one by one; each gets the instance, the candidate and the log as the last one left them. Returns the log's words in use.
+// Makes the fills one by one; each gets the instance, the candidate and the log as the last one left them.
 pub fn fill_all(
     header: Header,
     instance: &mut [u32],
     candidate: &mut [u32],
     log: &mut [u32],
-    used: usize,
+    used: &mut usize,
     fills: &[u32],
     answers: &mut [u32],
-) -> usize
+)
     requires { (length candidate.old ≤ max_words) × (length fills.now ≤ length answers.old) }
-    ensures left { filled_with instance.new candidate.new log.new result ≡ after_fills (fill_leaves header) (wanted_of fills.now) (filled_with instance.old candidate.old log.old used) }
-    ensures answers { answers.new ≡ stored (fills_told header (wanted_of fills.now) (filled_with instance.old candidate.old log.old used)) answers.old }
+    ensures left { filled_with instance.new candidate.new log.new used.new
+        ≡ after_fills (fill_leaves header) (wanted_of fills.now) (filled_with instance.old candidate.old log.old used.old) }
+    ensures answers { answers.new ≡ stored (fills_told header (wanted_of fills.now)
+        (filled_with instance.old candidate.old log.old used.old)) answers.old }
 {
-    let mut last = used;
-    let mut i = 0;
-    while i + 2 < fills.len() {
-        let next = i + 3;
-        let mark = fills[i];
-        let cell = fills[i + 1];
-        let logs = fills[i + 2];
-        let made = fill(header, instance, candidate, log, last, mark, cell, logs);
-        let answer = made.answer;
-        store(&mut answers[i..], answer, mark, cell, logs);
-        last = made.log;
-        i = next;
+    for k in 0..fills.len() / 3 {
+        let i = 3 * k;
+        let next = wanted(fills[i], fills[i + 1], fills[i + 2]);
+        let answer = fill(header, instance, candidate, log, used, next);
+        store(&mut answers[i..], answer, next);
     }
-    last
 }

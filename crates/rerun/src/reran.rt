@@ -1,9 +1,8 @@
-// The answer of a rerun: the verdicts and costs of both runs; or the verdict and cost of run A and the refusal of run B; or a refusal before the fills.
-use calculus::truth::Truth;
+// The answer of a rerun that is not refused before the fills: run A's verdict, and run B's answer.
+use answer::asked::{Asked, Verdict};
 
-#[derive(Clone, Copy)]
-pub enum Reran {
-    Verdicts(Truth, u32, Truth, u32),
-    SecondRefused(Truth, u32, u32),
-    Refused(u32),
+#[derive(Clone, Copy, Debug, PartialEq, Eq)]
+pub struct Reran {
+    pub first: Verdict,
+    pub second: Asked,
 }

@@ -3,13 +3,13 @@ ghost use Rattle.rerun.specs.Rerun.{given, Reruns};
 
 use super::fills::fill_all;
 use super::reran::Reran;
-use answer::asked::Asked;
 use answer::way::{Way, ask_by};
-use calculus::refusal::OUTPUT_TOO_SHORT;
+use calculus::refusal::Refusal;
 use instance::header::Header;
 
-// Three words of `fills` are a fill: a null's number, a cell, and 0 if it is not logged; its answer goes to the same indices of `answers`. `used` are the
-// log's words in use. Both runs ask by the same way; run B has a buffer and a budget of its own. No fill is made if run A is refused.
+// Three words of `fills` are a fill: a null's number, a cell, and 0 if it is not logged; its answer goes to the same
+// indices of `answers`. `used` are the log's words in use. Both runs ask by the same way; run B has a buffer and a budget
+// of its own. No fill is made if run A is refused.
 pub fn rerun(
     way: Way,
     header: Header,
@@ -24,22 +24,14 @@ pub fn rerun(
     used: &mut usize,
     buffer2: &mut [u32],
     budget2: u32,
-) -> Reran
+) -> Result<Reran, Refusal>
     ensures { Reruns (given way header query.now candidate.old buffer.old budget fills.now answers.old log.old used.old buffer2.old budget2) instance.old result instance.new candidate.new buffer.new answers.new log.new used.new buffer2.new }
 {
     if answers.len() < fills.len() {
-        return Reran::Refused(OUTPUT_TOO_SHORT);
+        return Err(Refusal::OutputTooShort);
     }
-    match ask_by(way, header, instance, query, candidate, buffer, budget) {
-        Asked::Refused(why_a) => Reran::Refused(why_a),
-        Asked::Verdict(truth_a, cost_a) => {
-            *used = fill_all(header, instance, candidate, log, *used, fills, answers);
-            match ask_by(way, header, instance, query, candidate, buffer2, budget2) {
-                Asked::Refused(why_b) => Reran::SecondRefused(truth_a, cost_a, why_b),
-                Asked::Verdict(truth_b, cost_b) => Reran::Verdicts(
-                    truth_a, cost_a, truth_b, cost_b,
-                ),
-            }
-        }
-    }
+    let first = ask_by(way, header, instance, query, candidate, buffer, budget)?;
+    fill_all(header, instance, candidate, log, used, fills, answers);
+    let second = ask_by(way, header, instance, query, candidate, buffer2, budget2);
+    Ok(Reran { first, second })
 }

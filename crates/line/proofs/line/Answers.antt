@@ -2,7 +2,7 @@
 use mathlib.Core.Path.{◌≡◌, sym, ◌∙◌}
 use lib.ListN.{length}
 use Rattle.calculus.specs.Overwrite.{overwrite}
-use Rattle.answer.specs.declared.asked.Asked.{Asked}
+use Rattle.answer.specs.Asked.{Asked}
 use Rattle.line.specs.Line.{line_for, line_length, line_out}
 use Rattle.line.proofs.Answering.{no_line, one_line}
 use Rattle.line.proofs.line.Goals as goal

@@ -22,8 +22,7 @@ use Rattle.query.specs.Named.{named_in, query_of}
 use Rattle.answer.specs.Ask.{admitted, needed, askable, ask, asked_buffer, list}
 use Rattle.answer.specs.Admitted.{Admitted}
 use Rattle.answer.specs.Numbers.{TellsVerdict}
-use Rattle.answer.specs.declared.asked.Asked.{Asked}
-use Rattle.answer.specs.declared.asked.Asked.TheVariants.{Refused}
+use Rattle.answer.specs.Asked.{Asked}
 use Rattle.answer.proofs.RerunLaws.{Asks}
 use Rattle.answer.proofs.Admitted.{admitted_done}
 use Rattle.answer.proofs.AskLaws.{admitted-refused, refused-asked, refused-buffer, evaluated-asked, evaluated_buffer, short-list, long-list, has_terms}
@@ -69,8 +68,8 @@ module _ (c : After-admit) where
 
   refused-told :
       (r : ℕ) → askable h ws qs cs (list buffer) ≡ Err r →
-      (Refused r ≡ ask h ws qs cs (list buffer) budget) ×
-      ((buffer ≡ asked_buffer h ws qs cs buffer) × TellsVerdict (Refused r) (ask h ws qs cs (list buffer) budget) (outcome_of (model_of h ws cs) (query_of h.arities qs)))
+      (Err r ≡ ask h ws qs cs (list buffer) budget) ×
+      ((buffer ≡ asked_buffer h ws qs cs buffer) × TellsVerdict (Err r) (ask h ws qs cs (list buffer) budget) (outcome_of (model_of h ws cs) (query_of h.arities qs)))
   refused-told r e = told (refused-asked h ws qs cs (list buffer) budget r e) (refused-buffer h ws qs cs buffer r e)
 
   module _ (a : Answer) (is : c.admit.result ≡ a) where

@@ -18,7 +18,7 @@ use Rattle.query.proofs.Passed.{count-within}
 use Rattle.answer.specs.Ask.{admitted, ask, none}
 use Rattle.answer.specs.Admitted.{Admitted}
 use Rattle.answer.specs.Numbers.{TellsVerdict}
-use Rattle.answer.specs.declared.asked.Asked.{Asked}
+use Rattle.answer.specs.Asked.{Asked}
 use Rattle.answer.proofs.Admitted.{admitted_done}
 use Rattle.answer.proofs.AskLaws.{admitted-refused, refused-asked, evaluated-asked, no_list}
 use Rattle.answer.proofs.AskLaws.{Described, described, described_unflagged, described-kept, evaluable, walked-ranged, evaluated-top, described_places, has_terms}
