@@ -14,7 +14,7 @@ use Rattle.calculus.proofs.Bools.{zero_not_one}
 use Rattle.instance.specs.declared.header.Header.{Header}
 use Rattle.instance.specs.Sound.{sound, rows}
 use Rattle.query.specs.Words.{right_length}
-use Rattle.query.specs.Scope.{Scopes}
+use Rattle.query.specs.declared.scopes.Scopes.{Scopes}
 use Rattle.query.specs.Check.{Checked, passed, check_query, check_number}
 use Rattle.answer.specs.Ask.{if_passed, admitted}
 use Rattle.answer.specs.Admitted.{Admitted}

@@ -28,7 +28,7 @@ use Rattle.query.specs.Named.{named_in, query_of}
 use Rattle.query.proofs.Named.{named-constant}
 use Rattle.calculus.specs.Cell.{is_constant}
 use Rattle.calculus.specs.Formula.{inked_query}
-use Rattle.query.specs.Scope.{Scopes}
+use Rattle.query.specs.declared.scopes.Scopes.{Scopes}
 use Rattle.query.specs.Check.{passed, check_query}
 use Rattle.query.proofs.Passed.{passed-constants, are_cells_lem, same-candidate}
 use Rattle.answer.specs.Asked.{verdict}

@@ -3,7 +3,7 @@ use Rattle.std.specs.Prelude.{ℕ, ◌≡◌, true, List, length}
 use Rattle.instance.specs.declared.header.Header.{Header}
 use Rattle.instance.specs.Sound.{sound, rows}
 use Rattle.query.specs.Words.{right_length}
-use Rattle.query.specs.Scope.{Scopes}
+use Rattle.query.specs.declared.scopes.Scopes.{Scopes}
 use Rattle.query.specs.Check.{passed, check_query}
 
 -- the instance is sound and has `count` rows, and the question passed its check

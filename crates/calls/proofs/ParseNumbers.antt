@@ -5,13 +5,14 @@ use mathlib.Core.Bool.{Bool, true}
 use mathlib.Core.List.{List, [], ◌∷◌}
 use Rattle.calculus.specs.Listed.{listed}
 use Rattle.calculus.specs.Reading.{read, refused_in}
-use Rattle.calculus.specs.Refusal.{cut_short}
+use Rattle.calculus.specs.declared.refusal.Refusal.{Refusal}
+use Rattle.calculus.specs.Refusal.{refusal_number, cut_short}
 use Rattle.calculus.proofs.Reading.{demand_in, then-in}
 use Rattle.parse.specs.Parse.{Parsed, read_byte, read_each}
 use Rattle.parse.specs.Number.{read_digits}
 
 module _ (ns : List ℕ) (cut : listed cut_short ns ≡ true) where
-  pub byte_in : (rule : ℕ → Bool) (r : ℕ) (bs : List ℕ) → listed r ns ≡ true → refused_in ns (read_byte rule r bs) ≡ true
+  pub byte_in : (rule : ℕ → Bool) (r : Refusal) (bs : List ℕ) → listed (refusal_number r) ns ≡ true → refused_in ns (read_byte rule r bs) ≡ true
   unfolding read_byte
   byte_in rule r [] p = cut
   byte_in rule r (b ∷ bs) p = demand_in ns (rule b) r (read b bs) p refl

@@ -15,7 +15,8 @@ use Rattle.calculus.specs.Formula.{variables}
 use Rattle.instance.specs.Header.{arity_of, max_columns}
 use Rattle.query.specs.Words.{Kind, row_stands, equals, negates, no_such_kind, joins, ranges, kind_of, word_at, node_count, max_nodes, right_length}
 use Rattle.query.specs.Named.{named_in, max_terms}
-use Rattle.query.specs.Scope.{Scopes, naming, binding, at_the_top}
+use Rattle.query.specs.declared.scopes.Scopes.{Scopes}
+use Rattle.query.specs.Scope.{naming, binding, at_the_top}
 use Rattle.query.specs.Answers.{Long}
 use Rattle.query.specs.Check.{passed, rest_is_zero, is_child, check_child, check_by, check_node, check_nodes, check_query}
 use Rattle.query.proofs.Parts.{terms-passed, child-passed, node-passed, nodes-passed}

@@ -13,7 +13,8 @@ use Rattle.calculus.proofs.Bools.{and_parts, false_not_true}
 use Rattle.calculus.specs.Formula.{variables}
 use Rattle.instance.specs.Header.{arity_of}
 use Rattle.query.specs.Words.{Kind, row_stands, equals, negates, no_such_kind, joins, ranges, kind_of, word_at, node_count, max_nodes}
-use Rattle.query.specs.Scope.{Scopes, naming, binding}
+use Rattle.query.specs.declared.scopes.Scopes.{Scopes}
+use Rattle.query.specs.Scope.{naming, binding}
 use Rattle.query.specs.Answers.{Long}
 use Rattle.query.specs.Check.{passed, rest_is_zero, is_term, is_bound, is_child, check_terms, check_child, check_by, check_node, check_nodes}
 use Rattle.calculus.proofs.Reading.{demand-read, then_read, refused-read}

@@ -5,6 +5,6 @@
 pub mod check;
 pub mod inked;
 mod node;
-mod scopes;
+pub mod scopes;
 mod term;
 pub mod words;

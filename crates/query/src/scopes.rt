@@ -6,14 +6,14 @@ ghost use Rattle.query.specs.Words.{max_nodes};
 ghost use Rattle.query.specs.Scope.{at_the_top, naming};
 
 #[derive(Drop)]
-pub(crate) struct Scopes {
-    pub(crate) named: [bool; 100],
-    pub(crate) masks: [u32; 100],
+pub struct Scopes {
+    pub named: [bool; 100],
+    pub masks: [u32; 100],
 }
 
 impl Scopes {
     // Node 0 is the top, and has the candidate's variables, one for each of its cells.
-    pub(crate) fn at_the_top(cells: usize) -> Scopes
+    pub fn at_the_top(cells: usize) -> Scopes
         requires { cells ≤ max_columns }
         ensures { result ≡ at_the_top cells }
     {
@@ -26,7 +26,7 @@ impl Scopes {
     }
 
     // A node is named as a child, in the given scope.
-    pub(crate) fn name(&mut self, node: usize, mask: u32)
+    pub fn name(&mut self, node: usize, mask: u32)
         requires { node < max_nodes }
         ensures { self.new ≡ naming self.old node mask }
     {

@@ -5,7 +5,7 @@ use mathlib.Core.List.{List}
 use native.Mathlib.Omega.{arith}
 use lib.ListN.{get_or}
 use Rattle.query.specs.Words.{Kind, row_stands, equals, negates, no_such_kind, joins, ranges, kind_of}
-use Rattle.query.specs.Scope.{Scopes}
+use Rattle.query.specs.declared.scopes.Scopes.{Scopes}
 use Rattle.query.specs.Check.{check_by, check_node}
 use Rattle.query.proofs.Steps.{node_by, joined, ranged, no_kind}
 use Rattle.query.proofs.node.check_node.Goals as goal

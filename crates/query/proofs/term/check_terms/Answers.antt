@@ -9,7 +9,7 @@ use Rattle.calculus.specs.declared.refusal.Refusal.TheVariants.{BadNode, Unbound
 use Rattle.calculus.specs.Demand.{demand}
 use Rattle.calculus.specs.Reading.{refused}
 use Rattle.query.specs.Words.{word_at}
-use Rattle.query.specs.Scope.{Scopes}
+use Rattle.query.specs.declared.scopes.Scopes.{Scopes}
 use Rattle.query.specs.Check.{is_term, is_bound, check_terms}
 use Rattle.query.proofs.Steps.{part_word, terms_rest}
 use Rattle.query.proofs.term.check_terms.Goals as goal

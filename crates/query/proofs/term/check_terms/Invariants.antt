@@ -1,6 +1,6 @@
 use Prim.Native.Nat.{◌+◌, ◌-◌}
 use mathlib.Core.Path.{◌≡◌}
-use Rattle.query.specs.Scope.{Scopes}
+use Rattle.query.specs.declared.scopes.Scopes.{Scopes}
 use Rattle.query.specs.Check.{check_terms}
 use Rattle.query.proofs.term.check_terms.Given as goal
 
