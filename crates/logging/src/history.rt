@@ -7,34 +7,32 @@ use undo_log::FRESH;
 use worked::plots::two_sheets;
 use worked::show;
 
-// Fills, and returns the log's words in use.
+// Fills, and moves the log's words in use.
 fn fill(
     rt: &impl Print,
-    name: &[u8],
+    name: &str,
     header: Header,
     plot: &mut [u32],
     log: &mut [u32],
-    used: usize,
+    used: &mut usize,
     mark: u32,
     cell: u32,
-) -> io::Result<usize> {
-    let left = show_fill(rt, name, header, plot, log, used, mark, cell)?;
-    show::header(rt, header)?;
-    Ok(left)
+) -> io::Result<()> {
+    show_fill(rt, name, header, plot, log, used, mark, cell)?;
+    show::header(rt, header)
 }
 
-// Undoes, and returns the log's words in use.
+// Undoes, and moves the log's words in use.
 fn take_back(
     rt: &impl Print,
-    name: &[u8],
+    name: &str,
     header: Header,
     plot: &mut [u32],
     log: &[u32],
-    used: usize,
-) -> io::Result<usize> {
-    let left = show_undo(rt, name, header, plot, log, used)?;
-    show::header(rt, header)?;
-    Ok(left)
+    used: &mut usize,
+) -> io::Result<()> {
+    show_undo(rt, name, header, plot, log, used)?;
+    show::header(rt, header)
 }
 
 fn state(
@@ -50,22 +48,19 @@ fn state(
     show::header(rt, header)
 }
 
-// Enters a row in sheet 0, and returns the header. The call is not given the log.
+// Enters a row in sheet 0. The call is not given the log.
 fn enter(
     rt: &impl Print,
-    name: &[u8],
-    header: Header,
+    name: &str,
+    header: &mut Header,
     plot: &mut [u32],
     log: &[u32],
     used: usize,
     cells: &[u32],
-) -> io::Result<Header> {
-    let stored = insert(header, plot, 0, cells);
-    let answer = stored.answer;
-    let grown = stored.header;
+) -> io::Result<()> {
+    let answer = insert(header, plot, 0, cells);
     show::answer(rt, name, answer)?;
-    state(rt, grown, plot, log, used)?;
-    Ok(grown)
+    state(rt, *header, plot, log, used)
 }
 
 // A fill that makes the log full, and one that it has no room for.
@@ -74,10 +69,10 @@ fn fill_log(
     header: Header,
     plot: &mut [u32],
     log: &mut [u32],
-    used: usize,
-) -> io::Result<usize> {
-    let full = fill(rt, b"mark 1 by 8", header, plot, log, used, 1, 8)?;
-    fill(rt, b"mark 2 by 8", header, plot, log, full, 2, 8)
+    used: &mut usize,
+) -> io::Result<()> {
+    fill(rt, "mark 1 by 8", header, plot, log, used, 1, 8)?;
+    fill(rt, "mark 2 by 8", header, plot, log, used, 2, 8)
 }
 
 // The undos until no word is in use, and one more.
@@ -86,33 +81,42 @@ fn take_all_back(
     header: Header,
     plot: &mut [u32],
     log: &[u32],
-    used: usize,
+    used: &mut usize,
 ) -> io::Result<()> {
-    let second = take_back(rt, b"undo", header, plot, log, used)?;
-    let first = take_back(rt, b"undo again", header, plot, log, second)?;
-    take_back(rt, b"undo once more", header, plot, log, first)?;
-    Ok(())
+    take_back(rt, "undo", header, plot, log, used)?;
+    take_back(rt, "undo again", header, plot, log, used)?;
+    take_back(rt, "undo once more", header, plot, log, used)
 }
 
-// The row entered between the fills holds the first fill's mark and its cell: the second fill finds the one, and no undo touches the other.
+// The row entered between the fills holds the first fill's mark and its cell: the second fill finds the one, and no undo
+// touches the other.
 pub fn history(rt: &impl Print) -> io::Result<()> {
     let mut plot = [0u32, 1_000_002, 1_000_001, 1, 1_000_001, 7, 7, 7];
     let mut log = [9u32; 7];
+    let mut used = FRESH;
     let row = [1_000_001u32, 1_000_002];
-    let start = two_sheets(2, 1, 5, 1, 1);
-    show::heading(rt, b"the start")?;
-    state(rt, start, &plot, &log, FRESH)?;
-    let first = fill(
+    let mut header = two_sheets(2, 1, 5, 1, 1);
+    show::heading(rt, "the start")?;
+    state(rt, header, &plot, &log, used)?;
+    fill(
         rt,
-        b"mark 1 by mark 2",
-        start,
+        "mark 1 by mark 2",
+        header,
         &mut plot,
         &mut log,
-        FRESH,
+        &mut used,
         1,
         1_000_002,
     )?;
-    let grown = enter(rt, b"(m1, m2) entered", start, &mut plot, &log, first, &row)?;
-    let full = fill_log(rt, grown, &mut plot, &mut log, first)?;
-    take_all_back(rt, grown, &mut plot, &log, full)
+    enter(
+        rt,
+        "(m1, m2) entered",
+        &mut header,
+        &mut plot,
+        &log,
+        used,
+        &row,
+    )?;
+    fill_log(rt, header, &mut plot, &mut log, &mut used)?;
+    take_all_back(rt, header, &mut plot, &log, &mut used)
 }

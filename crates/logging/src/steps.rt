@@ -5,36 +5,34 @@ use substitute_logged::substitute_logged;
 use undo::undo;
 use worked::show;
 
-// Fills, and returns the log's words in use.
+// Fills, and moves the log's words in use.
 pub fn show_fill(
     rt: &impl Print,
-    name: &[u8],
+    name: &str,
     header: Header,
     plot: &mut [u32],
     log: &mut [u32],
-    used: usize,
+    used: &mut usize,
     mark: u32,
     cell: u32,
-) -> io::Result<usize> {
-    let made = substitute_logged(header, plot, log, used, mark, cell);
-    show::logged(rt, name, made)?;
+) -> io::Result<()> {
+    let answer = substitute_logged(header, plot, log, used, mark, cell);
+    show::logged(rt, name, answer, *used)?;
     show::words(rt, plot)?;
-    show::log(rt, log)?;
-    Ok(made.log)
+    show::log(rt, log)
 }
 
-// Undoes, and returns the log's words in use.
+// Undoes, and moves the log's words in use.
 pub fn show_undo(
     rt: &impl Print,
-    name: &[u8],
+    name: &str,
     header: Header,
     plot: &mut [u32],
     log: &[u32],
-    used: usize,
-) -> io::Result<usize> {
-    let made = undo(header, plot, log, used);
-    show::logged(rt, name, made)?;
+    used: &mut usize,
+) -> io::Result<()> {
+    let answer = undo(header, plot, log, used);
+    show::logged(rt, name, answer, *used)?;
     show::words(rt, plot)?;
-    show::log(rt, log)?;
-    Ok(made.log)
+    show::log(rt, log)
 }

@@ -9,62 +9,62 @@ use worked::show;
 pub fn latest(rt: &impl Print) -> io::Result<()> {
     let mut plot = [0u32, 0, 201, 1, 201, 1, 5, 1_000_001, 7];
     let log = [2u32, 4, 1, 2, 1, 200, 1];
-    show::heading(rt, b"after both fills")?;
+    show::heading(rt, "after both fills")?;
     show::words(rt, &plot)?;
     show::log(rt, &log)?;
-    let first = show_undo(rt, b"undo", sound(), &mut plot, &log, 7)?;
-    show_undo(rt, b"undo again", sound(), &mut plot, &log, first)?;
-    Ok(())
+    let mut used = 7;
+    show_undo(rt, "undo", sound(), &mut plot, &log, &mut used)?;
+    show_undo(rt, "undo again", sound(), &mut plot, &log, &mut used)
 }
 
 // Undoes in a fresh copy of the rows.
-fn fresh(rt: &impl Print, name: &[u8], header: Header, log: &[u32], used: usize) -> io::Result<()> {
+fn fresh(rt: &impl Print, name: &str, header: Header, log: &[u32], used: usize) -> io::Result<()> {
     let mut plot = ROWS;
-    show_undo(rt, name, header, &mut plot, log, used)?;
-    Ok(())
+    let mut used = used;
+    show_undo(rt, name, header, &mut plot, log, &mut used)
 }
 
 // Entries that no fill of these rows writes, and that are well formed all the same.
 pub fn by_the_letter(rt: &impl Print) -> io::Result<()> {
-    fresh(rt, b"an entry of no cells", sound(), &[9, 9, 3, 0], 4)?;
-    fresh(rt, b"a place twice", sound(), &[6, 6, 3, 2, 9], 4)?;
-    fresh(rt, b"places that fall", sound(), &[6, 4, 1, 3, 3, 9], 5)?;
-    fresh(rt, b"a cell that holds mark 200", sound(), &[9, 1, 1, 1], 4)?;
-    fresh(rt, b"a cell that holds 5", sound(), &[6, 200, 1], 3)
+    fresh(rt, "an entry of no cells", sound(), &[9, 9, 3, 0], 4)?;
+    fresh(rt, "a place twice", sound(), &[6, 6, 3, 2, 9], 4)?;
+    fresh(rt, "places that fall", sound(), &[6, 4, 1, 3, 3, 9], 5)?;
+    fresh(rt, "a cell that holds mark 200", sound(), &[9, 1, 1, 1], 4)?;
+    fresh(rt, "a cell that holds 5", sound(), &[6, 200, 1], 3)
 }
 
 pub fn refused(rt: &impl Print) -> io::Result<()> {
     fresh(
         rt,
-        b"an unsound plot, no word in use",
+        "an unsound plot, no word in use",
         unsound(),
         &[2, 4, 1, 2],
         0,
     )?;
-    fresh(rt, b"no word in use", sound(), &[2, 4, 1, 2], 0)?;
-    fresh(rt, b"no word in use of none", sound(), &[], 0)
+    fresh(rt, "no word in use", sound(), &[2, 4, 1, 2], 0)?;
+    fresh(rt, "no word in use of none", sound(), &[], 0)
 }
 
 pub fn bad_words_in_use(rt: &impl Print) -> io::Result<()> {
-    fresh(rt, b"5 words in use of 4", sound(), &[2, 4, 1, 2], 5)?;
+    fresh(rt, "5 words in use of 4", sound(), &[2, 4, 1, 2], 5)?;
     fresh(
         rt,
-        b"the most words in use",
+        "the most words in use",
         sound(),
         &[2, 4, 1, 2],
         18_446_744_073_709_551_615,
     )?;
-    fresh(rt, b"one word in use", sound(), &[0, 1, 0], 1)?;
+    fresh(rt, "one word in use", sound(), &[0, 1, 0], 1)?;
     fresh(
         rt,
-        b"4 words in use, and an entry of 5",
+        "4 words in use, and an entry of 5",
         sound(),
         &[2, 4, 1, 3],
         4,
     )?;
     fresh(
         rt,
-        b"an entry of the most cells",
+        "an entry of the most cells",
         sound(),
         &[2, 4, 1, 4_294_967_295],
         4,
@@ -72,16 +72,16 @@ pub fn bad_words_in_use(rt: &impl Print) -> io::Result<()> {
 }
 
 // Undoes an entry of two cells.
-fn entry(rt: &impl Print, name: &[u8], first: u32, second: u32, mark: u32) -> io::Result<()> {
+fn entry(rt: &impl Print, name: &str, first: u32, second: u32, mark: u32) -> io::Result<()> {
     let log = [first, second, mark, 2];
     fresh(rt, name, sound(), &log, 4)
 }
 
 pub fn bad_entries(rt: &impl Print) -> io::Result<()> {
-    entry(rt, b"mark 0", 2, 4, 0)?;
-    entry(rt, b"mark 201", 2, 4, 201)?;
-    entry(rt, b"the first sheet number's place", 0, 4, 1)?;
-    entry(rt, b"a later sheet number's place", 2, 5, 1)?;
-    entry(rt, b"a place at the words in use", 2, 7, 1)?;
-    entry(rt, b"a place at the slice's end", 2, 9, 1)
+    entry(rt, "mark 0", 2, 4, 0)?;
+    entry(rt, "mark 201", 2, 4, 201)?;
+    entry(rt, "the first sheet number's place", 0, 4, 1)?;
+    entry(rt, "a later sheet number's place", 2, 5, 1)?;
+    entry(rt, "a place at the words in use", 2, 7, 1)?;
+    entry(rt, "a place at the slice's end", 2, 9, 1)
 }

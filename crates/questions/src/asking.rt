@@ -17,7 +17,7 @@ const EVERY: u32 = 7;
 // Asks a question, and shows the answer and the working list afterwards; then asks it without a list.
 pub fn listed(
     rt: &impl Print,
-    name: &[u8],
+    name: &str,
     header: Header,
     plot: &[u32],
     query: &[u32],
@@ -29,13 +29,13 @@ pub fn listed(
     show::asked(rt, name, answer)?;
     show::words(rt, list)?;
     let again = ask_unlisted(header, plot, query, candidate, budget);
-    show::asked(rt, b"  without a list", again)
+    show::asked(rt, "  without a list", again)
 }
 
 // The same, with a list that is longer than any plot here needs.
 fn asked(
     rt: &impl Print,
-    name: &[u8],
+    name: &str,
     header: Header,
     plot: &[u32],
     query: &[u32],
@@ -49,7 +49,7 @@ fn asked(
 // Asks a question of n nodes.
 fn one(
     rt: &impl Print,
-    name: &[u8],
+    name: &str,
     header: Header,
     plot: &[u32],
     nodes: [[u32; 8]; 7],
@@ -66,7 +66,7 @@ fn one(
 // Asks whether some or every x equals the term: a question of two nodes.
 fn quantified(
     rt: &impl Print,
-    name: &[u8],
+    name: &str,
     header: Header,
     plot: &[u32],
     kind: u32,
@@ -85,7 +85,7 @@ fn quantified(
 // Sheet 0 has the row (201), sheet 1 the row (m1).
 const CHANNELS: [u32; 4] = [0, 201, 1, 1_000_001];
 
-fn channels(rt: &impl Print, name: &[u8], query: &[u32], candidate: &[u32]) -> io::Result<()> {
+fn channels(rt: &impl Print, name: &str, query: &[u32], candidate: &[u32]) -> io::Result<()> {
     asked(
         rt,
         name,
@@ -108,7 +108,7 @@ const WITHOUT: [[u32; 8]; 7] = [
     NONE,
 ];
 
-fn without(rt: &impl Print, name: &[u8], plot: &[u32], budget: u32) -> io::Result<()> {
+fn without(rt: &impl Print, name: &str, plot: &[u32], budget: u32) -> io::Result<()> {
     one(
         rt,
         name,
@@ -122,24 +122,24 @@ fn without(rt: &impl Print, name: &[u8], plot: &[u32], budget: u32) -> io::Resul
 }
 
 // Asks that question within a budget.
-fn within(rt: &impl Print, name: &[u8], budget: u32) -> io::Result<()> {
+fn within(rt: &impl Print, name: &str, budget: u32) -> io::Result<()> {
     without(rt, name, &CHANNELS, budget)
 }
 
 // Asks that question after a fill of mark 1.
-fn filled(rt: &impl Print, name: &[u8], cell: u32) -> io::Result<()> {
+fn filled(rt: &impl Print, name: &str, cell: u32) -> io::Result<()> {
     let mut plot = CHANNELS;
-    substitute(two_sheets(1, 1, 4, 1, 1), &mut plot, 1, cell);
+    let _ = substitute(two_sheets(1, 1, 4, 1, 1), &mut plot, 1, cell);
     without(rt, name, &plot, 100)
 }
 
 // Reading 6, before and after fills, and reading 11.
 pub fn in_one_sheet_only(rt: &impl Print) -> io::Result<()> {
-    within(rt, b"201 in sheet 0 and not in 1", 100)?;
-    filled(rt, b"after m1 by 201", 201)?;
-    filled(rt, b"after m1 by 202", 202)?;
-    within(rt, b"with 3 looks", 3)?;
-    within(rt, b"with 4 looks", 4)
+    within(rt, "201 in sheet 0 and not in 1", 100)?;
+    filled(rt, "after m1 by 201", 201)?;
+    filled(rt, "after m1 by 202", 202)?;
+    within(rt, "with 3 looks", 3)?;
+    within(rt, "with 4 looks", 4)
 }
 
 // Reading 7: sheet 0 without (sheet 0 without sheet 1).
@@ -155,7 +155,7 @@ pub fn without_twice(rt: &impl Print) -> io::Result<()> {
     ];
     one(
         rt,
-        b"201 in sheet 0 and not (in sheet 0 and not in 1)",
+        "201 in sheet 0 and not (in sheet 0 and not in 1)",
         two_sheets(1, 1, 4, 1, 1),
         &CHANNELS,
         nodes,
@@ -178,7 +178,7 @@ pub fn excluded_middle(rt: &impl Print) -> io::Result<()> {
     ];
     one(
         rt,
-        b"some x in the sheet and (x = 0 or not x = 0)",
+        "some x in the sheet and (x = 0 or not x = 0)",
         one_sheet(1, 2, 1),
         &[0, 1_000_001],
         nodes,
@@ -189,7 +189,7 @@ pub fn excluded_middle(rt: &impl Print) -> io::Result<()> {
 }
 
 // Asks whether x3 = x3 for some or every x3 of no rows, with an allowance of 0.
-fn of_no_rows(rt: &impl Print, name: &[u8], kind: u32) -> io::Result<()> {
+fn of_no_rows(rt: &impl Print, name: &str, kind: u32) -> io::Result<()> {
     quantified(
         rt,
         name,
@@ -205,25 +205,25 @@ fn of_no_rows(rt: &impl Print, name: &[u8], kind: u32) -> io::Result<()> {
 
 // Reading 9.
 pub fn no_rows(rt: &impl Print) -> io::Result<()> {
-    of_no_rows(rt, b"no rows: some x, x = x", SOME)?;
-    of_no_rows(rt, b"no rows: every x, x = x", EVERY)
+    of_no_rows(rt, "no rows: some x, x = x", SOME)?;
+    of_no_rows(rt, "no rows: every x, x = x", EVERY)
 }
 
 // Asks whether every x is 7, in a sheet of two rows of one cell.
-fn sevens(rt: &impl Print, name: &[u8], plot: &[u32]) -> io::Result<()> {
+fn sevens(rt: &impl Print, name: &str, plot: &[u32]) -> io::Result<()> {
     quantified(rt, name, one_sheet(1, 4, 2), plot, EVERY, 0, 7, &[], 100)
 }
 
 // Reading 10: the values come in their order, each once.
 pub fn every_is_seven(rt: &impl Print) -> io::Result<()> {
     let mut plot = [0u32, 1_000_001, 0, 8];
-    sevens(rt, b"rows (m1), (8): every x, x = 7", &plot)?;
-    substitute(one_sheet(1, 4, 2), &mut plot, 1, 8);
-    sevens(rt, b"after m1 by 8", &plot)
+    sevens(rt, "rows (m1), (8): every x, x = 7", &plot)?;
+    let _ = substitute(one_sheet(1, 4, 2), &mut plot, 1, 8);
+    sevens(rt, "after m1 by 8", &plot)
 }
 
 // Asks whether the candidate is in a sheet of two columns with one row.
-fn pair(rt: &impl Print, name: &[u8], row: [u32; 2], candidate: [u32; 2]) -> io::Result<()> {
+fn pair(rt: &impl Print, name: &str, row: [u32; 2], candidate: [u32; 2]) -> io::Result<()> {
     let plot = [0u32, row[0], row[1]];
     let query = [1u32, 0, 2_000_000, 2_000_001, 0, 0, 0, 0];
     asked(rt, name, one_sheet(2, 3, 1), &plot, &query, &candidate, 100)
@@ -233,23 +233,23 @@ fn pair(rt: &impl Print, name: &[u8], row: [u32; 2], candidate: [u32; 2]) -> io:
 pub fn whole_rows(rt: &impl Print) -> io::Result<()> {
     pair(
         rt,
-        b"(1, m1) where (m1, 2) stands",
+        "(1, m1) where (m1, 2) stands",
         [1_000_001, 2],
         [1, 1_000_001],
     )?;
     pair(
         rt,
-        b"(1, 2) where (m1, m2) stands",
+        "(1, 2) where (m1, m2) stands",
         [1_000_001, 1_000_002],
         [1, 2],
     )?;
     pair(
         rt,
-        b"(m1, m1) where (m1, m1) stands",
+        "(m1, m1) where (m1, m1) stands",
         [1_000_001, 1_000_001],
         [1_000_001, 1_000_001],
     )?;
-    pair(rt, b"(m7, 2) where (1, 2) stands", [1, 2], [1_000_007, 2])
+    pair(rt, "(m7, 2) where (1, 2) stands", [1, 2], [1_000_007, 2])
 }
 
 // The nearest quantifier binds, even if the candidate has the variable.
@@ -258,7 +258,7 @@ pub fn bound_again(rt: &impl Print) -> io::Result<()> {
     let plot = [0u32, 1, 0, 2];
     quantified(
         rt,
-        b"some x: x = 2, with x = 5 in the candidate",
+        "some x: x = 2, with x = 5 in the candidate",
         header,
         &plot,
         SOME,
@@ -278,7 +278,7 @@ pub fn bound_again(rt: &impl Print) -> io::Result<()> {
     ];
     one(
         rt,
-        b"every x: (some x: x = 2) and not x = 2",
+        "every x: (some x: x = 2) and not x = 2",
         header,
         &plot,
         again,
@@ -289,7 +289,7 @@ pub fn bound_again(rt: &impl Print) -> io::Result<()> {
 }
 
 // Asks n words that are no valid question, with a candidate whose cells are all the same.
-fn misfit(rt: &impl Print, name: &[u8], n: usize, cells: usize, cell: u32) -> io::Result<()>
+fn misfit(rt: &impl Print, name: &str, n: usize, cells: usize, cell: u32) -> io::Result<()>
     requires { (n ≤ 8) × (cells ≤ 7) }
 {
     let words = [1u32; 8];
@@ -301,49 +301,49 @@ fn misfit(rt: &impl Print, name: &[u8], n: usize, cells: usize, cell: u32) -> io
 pub fn refused(rt: &impl Print) -> io::Result<()> {
     asked(
         rt,
-        b"an unsound plot and no question",
+        "an unsound plot and no question",
         two_sheets(1, 1, 3, 1, 1),
         &CHANNELS,
         &[],
         &[201],
         0,
     )?;
-    misfit(rt, b"no question", 0, 1, 1_000_000)?;
-    misfit(rt, b"7 words", 7, 1, 201)?;
-    misfit(rt, b"a candidate of 7", 8, 7, 1)?;
-    misfit(rt, b"a candidate that is no cell", 8, 1, 1_000_000)
+    misfit(rt, "no question", 0, 1, 1_000_000)?;
+    misfit(rt, "7 words", 7, 1, 201)?;
+    misfit(rt, "a candidate of 7", 8, 7, 1)?;
+    misfit(rt, "a candidate that is no cell", 8, 1, 1_000_000)
 }
 
 // Asks a question of one node.
-fn node(rt: &impl Print, name: &[u8], words: [u32; 8]) -> io::Result<()> {
+fn node(rt: &impl Print, name: &str, words: [u32; 8]) -> io::Result<()> {
     channels(rt, name, &words, &[201])
 }
 
 // Refusals of a node.
 pub fn refused_nodes(rt: &impl Print) -> io::Result<()> {
-    node(rt, b"kind 0", NONE)?;
+    node(rt, "kind 0", NONE)?;
     node(
         rt,
-        b"a sheet that the head lacks",
+        "a sheet that the head lacks",
         [1, 2, 2_000_000, 0, 0, 0, 0, 1],
     )?;
     node(
         rt,
-        b"a word that is not named",
+        "a word that is not named",
         [1, 1, 2_000_009, 0, 0, 0, 0, 1],
     )?;
     node(
         rt,
-        b"a variable that nothing binds",
+        "a variable that nothing binds",
         [1, 1, 2_000_009, 0, 0, 0, 0, 0],
     )?;
-    node(rt, b"no such term", [1, 1, 2_000_016, 0, 0, 0, 0, 0])?;
+    node(rt, "no such term", [1, 1, 2_000_016, 0, 0, 0, 0, 0])?;
     node(
         rt,
-        b"a node that is its own child",
+        "a node that is its own child",
         [3, 0, 0, 0, 0, 0, 0, 0],
     )?;
-    node(rt, b"variable 16 quantified", [6, 16, 0, 0, 0, 0, 0, 0])
+    node(rt, "variable 16 quantified", [6, 16, 0, 0, 0, 0, 0, 0])
 }
 
 // A working list that is too short.
@@ -352,7 +352,7 @@ pub fn short_list(rt: &impl Print) -> io::Result<()> {
     let query = [1u32, 0, 2_000_000, 0, 0, 0, 0, 0];
     listed(
         rt,
-        b"a list of 1 word for 2 cells",
+        "a list of 1 word for 2 cells",
         two_sheets(1, 1, 4, 1, 1),
         &CHANNELS,
         &query,

@@ -13,24 +13,20 @@ fn chain(n: usize, last: [u32; 3]) -> [u32; 808]
     ensures { length result ≡ 808 }
 {
     let mut query = [0u32; 808];
-    let mut i = 0;
-    while i < n {
+    for i in 0..n {
         let at = i * 8;
-        i += 1;
         query[at] = 7;
-        query[at + 2] = i as u32;
+        query[at + 2] = (i + 1) as u32;
     }
     let end = n * 8;
-    query[end] = last[0];
-    query[end + 1] = last[1];
-    query[end + 2] = last[2];
+    query[end..end + 3].copy_from_slice(&last);
     query
 }
 
 // Asks that question about a sheet of one column, by both ways, and shows the answers.
 fn chained(
     rt: &impl Print,
-    name: &[u8],
+    name: &str,
     n: usize,
     last: [u32; 3],
     used: u32,
@@ -57,7 +53,7 @@ fn chained(
         &[],
         budget,
     );
-    show::asked(rt, b"  without a list", again)
+    show::asked(rt, "  without a list", again)
 }
 
 // x0 = x0
@@ -67,8 +63,8 @@ const EQUAL: [u32; 3] = [2, 2_000_000, 2_000_000];
 pub fn deepest(rt: &impl Print) -> io::Result<()> {
     let plot = [0u32, 5];
     let mut list = [9u32; 1];
-    chained(rt, b"100 nodes", 99, EQUAL, 2, &plot, &mut list, 1)?;
-    chained(rt, b"808 words", 100, EQUAL, 2, &plot, &mut list, 1)
+    chained(rt, "100 nodes", 99, EQUAL, 2, &plot, &mut list, 1)?;
+    chained(rt, "808 words", 100, EQUAL, 2, &plot, &mut list, 1)
 }
 
 // The row (0) is in sheet 0.
@@ -85,7 +81,7 @@ pub fn full(rt: &impl Print) -> io::Result<()> {
     let mut list = [9u32; 2049];
     chained(
         rt,
-        b"2 to the 12 atoms of 2,049 looks",
+        "2 to the 12 atoms of 2,049 looks",
         12,
         ONE,
         4096,
@@ -95,7 +91,7 @@ pub fn full(rt: &impl Print) -> io::Result<()> {
     )?;
     chained(
         rt,
-        b"with one look less",
+        "with one look less",
         12,
         ONE,
         4096,
@@ -105,7 +101,7 @@ pub fn full(rt: &impl Print) -> io::Result<()> {
     )?;
     chained(
         rt,
-        b"2 to the 21 atoms of 2 looks",
+        "2 to the 21 atoms of 2 looks",
         21,
         ZERO,
         4096,

@@ -17,7 +17,7 @@ const CROSSED: [[u32; 8]; 7] = [
 ];
 
 // Asks that of one row (5).
-fn crossed(rt: &impl Print, name: &[u8], list: &mut [u32], budget: u32) -> io::Result<()> {
+fn crossed(rt: &impl Print, name: &str, list: &mut [u32], budget: u32) -> io::Result<()> {
     let query = flat(CROSSED);
     listed(
         rt,
@@ -36,16 +36,16 @@ pub fn by_node_and_word(rt: &impl Print) -> io::Result<()> {
     let mut enough = [9u32; 6];
     crossed(
         rt,
-        b"row (5), the question names 7, 5, 3, 5, 7",
+        "row (5), the question names 7, 5, 3, 5, 7",
         &mut enough,
         100,
     )?;
     let mut spent = [9u32; 6];
-    crossed(rt, b"with 4 looks", &mut spent, 4)?;
+    crossed(rt, "with 4 looks", &mut spent, 4)?;
     let mut short = [9u32; 5];
     crossed(
         rt,
-        b"a list of 5 words for 1 cell and 5 terms",
+        "a list of 5 words for 1 cell and 5 terms",
         &mut short,
         100,
     )
@@ -57,7 +57,7 @@ pub fn no_rows(rt: &impl Print) -> io::Result<()> {
     let mut list = [9u32; 2];
     listed(
         rt,
-        b"no rows: some x, x = 3",
+        "no rows: some x, x = 3",
         one_sheet(1, 0, 0),
         &[],
         &query,

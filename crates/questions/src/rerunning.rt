@@ -19,7 +19,7 @@ const ROWS: [u32; 6] = [0, 1_000_001, 0, 8, 1_000_001, 5];
 fn shown(
     rt: &impl Print,
     way: Way,
-    name: &[u8],
+    name: &str,
     header: Header,
     rows: [u32; 6],
     query: &[u32],
@@ -65,7 +65,7 @@ fn shown(
 fn one(
     rt: &impl Print,
     way: Way,
-    name: &[u8],
+    name: &str,
     query: &[u32],
     cell: u32,
     fills: &[u32],
@@ -91,11 +91,11 @@ fn one(
 }
 
 // Asks whether the cell is in the sheet, with an allowance that suffices if both rows are counted.
-fn stands(rt: &impl Print, name: &[u8], cell: u32, fills: &[u32]) -> io::Result<()> {
+fn stands(rt: &impl Print, name: &str, cell: u32, fills: &[u32]) -> io::Result<()> {
     one(rt, Way::Listed, name, &STANDS, cell, fills, 3)
 }
 
-fn by_eight(rt: &impl Print, name: &[u8], cell: u32) -> io::Result<()> {
+fn by_eight(rt: &impl Print, name: &str, cell: u32) -> io::Result<()> {
     stands(rt, name, cell, &[1, 8, 0])
 }
 
@@ -104,27 +104,27 @@ pub fn settled(rt: &impl Print) -> io::Result<()> {
     one(
         rt,
         Way::Listed,
-        b"every x: x = 7, m1 by 8",
+        "every x: x = 7, m1 by 8",
         &ALL_SEVEN,
         0,
         &[1, 8, 0],
         100,
     )?;
-    by_eight(rt, b"m1 in the sheet, m1 by 8", 1_000_001)?;
-    by_eight(rt, b"m2 in the sheet, m1 by 8", 1_000_002)?;
-    by_eight(rt, b"5 in the sheet, m1 by 8", 5)?;
-    by_eight(rt, b"8 in the sheet, m1 by 8", 8)
+    by_eight(rt, "m1 in the sheet, m1 by 8", 1_000_001)?;
+    by_eight(rt, "m2 in the sheet, m1 by 8", 1_000_002)?;
+    by_eight(rt, "5 in the sheet, m1 by 8", 5)?;
+    by_eight(rt, "8 in the sheet, m1 by 8", 8)
 }
 
 // Fills that are refused with 29, 16 and 43, and then m1 by m2; no fill at all; one word and two words that are no fill.
 pub fn lists_of_fills(rt: &impl Print) -> io::Result<()> {
     let mixed = [0u32, 8, 0, 1, 1_000_000, 0, 2, 8, 0, 1, 1_000_002, 0];
-    stands(rt, b"m1 in the sheet, four fills", 1_000_001, &mixed)?;
-    stands(rt, b"m1 in the sheet, no fill", 1_000_001, &[])?;
-    stands(rt, b"m1 in the sheet, a mark and no more", 1_000_001, &[1])?;
+    stands(rt, "m1 in the sheet, four fills", 1_000_001, &mixed)?;
+    stands(rt, "m1 in the sheet, no fill", 1_000_001, &[])?;
+    stands(rt, "m1 in the sheet, a mark and no more", 1_000_001, &[1])?;
     stands(
         rt,
-        b"m1 in the sheet, a fill and two words more",
+        "m1 in the sheet, a fill and two words more",
         1_000_001,
         &[1, 1_000_002, 0, 2, 8],
     )
@@ -137,7 +137,7 @@ pub fn both_kinds(rt: &impl Print) -> io::Result<()> {
     shown(
         rt,
         Way::Listed,
-        b"m2 in the sheet, m2 by m3, m1 by 8 refused, m3 by m1, m1 by 8 without the log",
+        "m2 in the sheet, m2 by m3, m1 by 8 refused, m3 by m1, m1 by 8 without the log",
         one_sheet(1, 6, 3),
         [0, 1_000_001, 0, 1_000_002, 0, 1_000_001],
         &STANDS,
@@ -155,7 +155,7 @@ pub fn both_kinds(rt: &impl Print) -> io::Result<()> {
 fn by_eight_logged(
     rt: &impl Print,
     way: Way,
-    name: &[u8],
+    name: &str,
     used: usize,
     list2: &mut [u32],
     budget2: u32,
@@ -181,11 +181,11 @@ fn by_eight_logged(
 // A logged fill that is made, and one that the log has no room for since more words are in use than it has.
 pub fn words_in_use(rt: &impl Print) -> io::Result<()> {
     let mut list2 = [9u32; 3];
-    by_eight_logged(rt, Way::Listed, b"m1 by 8 in a fresh log", 0, &mut list2, 3)?;
+    by_eight_logged(rt, Way::Listed, "m1 by 8 in a fresh log", 0, &mut list2, 3)?;
     by_eight_logged(
         rt,
         Way::Listed,
-        b"m1 by 8, 4 words in use of 3",
+        "m1 by 8, 4 words in use of 3",
         4,
         &mut list2,
         3,
@@ -199,7 +199,7 @@ pub fn second_refused(rt: &impl Print) -> io::Result<()> {
     by_eight_logged(
         rt,
         Way::Listed,
-        b"a list of 1 word for run B",
+        "a list of 1 word for run B",
         0,
         &mut short,
         3,
@@ -207,7 +207,7 @@ pub fn second_refused(rt: &impl Print) -> io::Result<()> {
     by_eight_logged(
         rt,
         Way::Listed,
-        b"a budget of 1 for run B",
+        "a budget of 1 for run B",
         0,
         &mut list2,
         1,
@@ -217,9 +217,9 @@ pub fn second_refused(rt: &impl Print) -> io::Result<()> {
 // 44, and refusals of run A; under 46 only A's list is written.
 pub fn refused(rt: &impl Print) -> io::Result<()> {
     let many = [1u32, 8, 0, 1, 8, 0, 1, 8, 0, 1, 8, 0, 1, 8, 0];
-    stands(rt, b"no place for five answers", 5, &many)?;
-    one(rt, Way::Listed, b"no question", &[], 5, &[1, 8, 0], 3)?;
-    one(rt, Way::Listed, b"a budget of 2", &STANDS, 5, &[1, 8, 0], 2)
+    stands(rt, "no place for five answers", 5, &many)?;
+    one(rt, Way::Listed, "no question", &[], 5, &[1, 8, 0], 3)?;
+    one(rt, Way::Listed, "a budget of 2", &STANDS, 5, &[1, 8, 0], 2)
 }
 
 // Both runs without a list: no list is written, and run B is not refused for a list that is too short.
@@ -227,7 +227,7 @@ pub fn unlisted(rt: &impl Print) -> io::Result<()> {
     one(
         rt,
         Way::Unlisted,
-        b"every x: x = 7, m1 by 8, without a list",
+        "every x: x = 7, m1 by 8, without a list",
         &ALL_SEVEN,
         0,
         &[1, 8, 0],
@@ -237,7 +237,7 @@ pub fn unlisted(rt: &impl Print) -> io::Result<()> {
     by_eight_logged(
         rt,
         Way::Unlisted,
-        b"m1 in the sheet, m1 by 8, without a list",
+        "m1 in the sheet, m1 by 8, without a list",
         0,
         &mut short,
         3,
@@ -245,7 +245,7 @@ pub fn unlisted(rt: &impl Print) -> io::Result<()> {
     by_eight_logged(
         rt,
         Way::Unlisted,
-        b"a budget of 1 for run B, without a list",
+        "a budget of 1 for run B, without a list",
         0,
         &mut short,
         1,

@@ -1,6 +1,13 @@
 // The headers of the worked plots. They are made only here.
 use instance::header::{Header, header_with};
 
+pub const NO_SHEET: Header = Header {
+    relations: 0,
+    arities: [0; 8],
+    used: 0,
+    counts: [0; 8],
+};
+
 // Any header, even one that is unsound whatever the words are.
 pub fn sheets(relations: u32, arities: [u32; 8], used: u32, counts: [u32; 8]) -> Header {
     header_with(relations, arities, used, counts)
