@@ -1,4 +1,4 @@
--- A flag is set. Assumes nothing.
+-- A flag is set, and what stays. Assumes nothing.
 use Prim.Native.Nat.{ℕ, ◌*◌, ◌/◌, ◌%◌, ◌^◌, ◌<◌}
 use mathlib.Core.Path.{◌≡◌, refl, ap, ◌∙◌}
 use mathlib.Core.Bool.{Bool, true, false}
@@ -11,8 +11,14 @@ use lib.Seq.{get_or-set_same, get_or-set_other}
 use Rattle.std.specs.Int.{w32}
 use Rattle.std.proofs.lemmas.Nat.Bits.{bit_at_set_same, bit_at_set_other}
 use Rattle.calculus.specs.Bit.{bit_at}
-use Rattle.known.specs.Known.{flag_at, Flagged}
+use Rattle.known.specs.Known.{flag_at, SameBesides, Flagged}
 use Rattle.known.specs.declared.Known.{Known}
+
+pub kept_same : {known : Known} → SameBesides known known
+kept_same = record { counts = refl; arities = refl; places = refl }
+
+pub kept_then : {a b c : Known} → SameBesides a b → SameBesides b c → SameBesides a c
+kept_then f g = record { counts = g.counts ∙ f.counts; arities = g.arities ∙ f.arities; places = g.places ∙ f.places }
 
 module _ (known : Known) (p : ℕ) (l : p / 32 < length known.flags) where
   abbrev word : ℕ

@@ -13,15 +13,17 @@ use Rattle.calculus.specs.Domain.{listing}
 use Rattle.calculus.specs.Listed.{listed}
 use Rattle.calculus.proofs.Listed.{listed-append}
 use Rattle.calculus.proofs.Listing.{listing-append}
-use Rattle.known.specs.Known.{flag_at, unpassed}
+use Rattle.known.specs.declared.Known.{Known}
+use Rattle.known.specs.Known.{flag_at, unpassed, Flagged}
+use Rattle.known.proofs.Setting.{kept_same, kept_then}
 use Rattle.query.specs.Named.{constants_among}
 use Rattle.query.proofs.KindTerms.{among_next as among_one}
 use Rattle.instance.specs.Header.{arity_of}
-use Rattle.range.specs.Flagged.{Flagged, stood_before, Asking, Passed}
+use Rattle.range.specs.Flagged.{stood_before, Asking, Passed}
 use Rattle.range.specs.Walked.{passes}
 use Rattle.range.proofs.Places.{stood-next, unpassed-same}
 
-unpassed-append : (known xs ys : List ℕ) (p : ℕ) → unpassed known p (xs ++ ys) ≡ unpassed known p xs ++ unpassed known (p + length xs) ys
+unpassed-append : (known : Known) (xs ys : List ℕ) (p : ℕ) → unpassed known p (xs ++ ys) ≡ unpassed known p xs ++ unpassed known (p + length xs) ys
 unfolding unpassed
 unpassed-append known [] ys p = let e : p + 0 ≡ p = omega arith in rw e refl
 unpassed-append known (x ∷ xs) ys p =
@@ -36,19 +38,19 @@ unpassed-append known (x ∷ xs) ys p =
     go false ih = ap (λ (l : List ℕ). x ∷ l) ih
 
 -- what stood before word p of the question: in the instance, or earlier in the question
-pub stood_parts : (known ws qs : List ℕ) (p : ℕ) → stood_before known (ws ++ qs) (length ws + p) ≡ unpassed known 0 ws ++ unpassed known (length ws) (take p qs)
+pub stood_parts : (known : Known) (ws qs : List ℕ) (p : ℕ) → stood_before known (ws ++ qs) (length ws + p) ≡ unpassed known 0 ws ++ unpassed known (length ws) (take p qs)
 stood_parts known ws qs p =
     let e : 0 + length ws ≡ length ws = omega arith in
     ap (unpassed known 0) (take-append-add ws qs p) ∙ unpassed-append known ws (take p qs) 0 ∙ rw e refl
 
 pub listed-parts :
-    (known ws qs : List ℕ) (p w : ℕ) →
+    (known : Known) (ws qs : List ℕ) (p w : ℕ) →
     listed w (stood_before known (ws ++ qs) (length ws + p)) ≡ (listed w (unpassed known 0 ws) || listed w (unpassed known (length ws) (take p qs)))
 listed-parts known ws qs p w =
     ap (listed w) (stood_parts known ws qs p) ∙ listed-append w (unpassed known 0 ws) (unpassed known (length ws) (take p qs))
 
 -- whether a word is an inked term that is new
-module _ (known ws qs : List ℕ) (p : ℕ) (term : Bool) (is : term ≡ true) (low : get_or qs p 0 < 1000000) where
+module _ (known : Known) (ws qs : List ℕ) (p : ℕ) (term : Bool) (is : term ≡ true) (low : get_or qs p 0 < 1000000) where
   abbrev word : ℕ
   word = get_or qs p 0
 
@@ -68,22 +70,21 @@ module _ (known ws qs : List ℕ) (p : ℕ) (term : Bool) (is : term ≡ true) (
       rw (is, lt-ltb word 1000000 low, seen) refl
 
 pub passed-starts :
-    (ws qs known : List ℕ) (p : ℕ) → ((q : ℕ) → length ws + p ≤ q → flag_at known q ≡ false) → Passed ws qs known p [] known p
+    (ws qs : List ℕ) (known : Known) (p : ℕ) → ((q : ℕ) → length ws + p ≤ q → flag_at known q ≡ false) → Passed ws qs known p [] known p
 unfolding listing
-passed-starts ws qs known p later = record { size = refl; kept = refl; instance = refl; walks = refl; later = later }
+passed-starts ws qs known p later = record { kept = kept_same; instance = refl; walks = refl; later = later }
 
 pub passed_then :
-    {ws qs a b c xs ys : List ℕ} {p r s : ℕ} → Passed ws qs a p xs b r → Passed ws qs b r ys c s → Passed ws qs a p (xs ++ ys) c s
+    {ws qs : List ℕ} {a b c : Known} {xs ys : List ℕ} {p r s : ℕ} → Passed ws qs a p xs b r → Passed ws qs b r ys c s → Passed ws qs a p (xs ++ ys) c s
 passed_then {xs = xs} {ys = ys} f g = record {
-  size = g.size ∙ f.size;
-  kept = g.kept ∙ f.kept;
+  kept = kept_then f.kept g.kept;
   instance = g.instance ∙ f.instance;
   walks = g.walks ∙ ap (λ (l : List ℕ). listing l ys) f.walks ∙ sym (listing-append _ xs ys);
   later = g.later;
 }
 
 -- a word is kept if it is an inked term that is new
-module _ (ws qs known : List ℕ) (p : ℕ) (l : p < length qs) (term : Bool) (later : (q : ℕ) → length ws + p ≤ q → flag_at known q ≡ false) where
+module _ (ws qs : List ℕ) (known : Known) (p : ℕ) (l : p < length qs) (term : Bool) (later : (q : ℕ) → length ws + p ≤ q → flag_at known q ≡ false) where
   abbrev w : ℕ
   w = get_or qs p 0
 
@@ -97,10 +98,9 @@ module _ (ws qs known : List ℕ) (p : ℕ) (l : p < length qs) (term : Bool) (l
   abbrev adds : List ℕ
   adds = cond (term && is_constant w) (w ∷ []) []
 
-  pub passed-word : (after : List ℕ) → Flagged known (length ws + p) (not is_new) after → Passed ws qs known p adds after (p + 1)
+  pub passed-word : (after : Known) → Flagged known (length ws + p) (not is_new) after → Passed ws qs known p adds after (p + 1)
   unfolding listing
   passed-word after f = record {
-    size = f.size;
     kept = f.kept;
     instance = unpassed-same known after ws 0 (λ q m. f.other q (λ e. omega (arith, e, m)));
     walks =
@@ -165,16 +165,16 @@ module _ (qs : List ℕ) (start end p : ℕ) (ordered : start ≤ end) (within :
   among_last l = ap constants_among (take_all (p - start) terms (omega (arith, terms-long)))
 
 -- what a pass is given stays
-pub asking-kept : {ws qs before heads named after : List ℕ} {p r : ℕ} → Asking ws qs before heads → Passed ws qs before p named after r → Asking ws qs after heads
-asking-kept a f = record { size = f.size ∙ a.size; short = a.short; few = a.few; cached = rw f.instance a.cached }
+pub asking-kept : {ws qs : List ℕ} {before : Known} {heads named : List ℕ} {after : Known} {p r : ℕ} → Asking ws qs before heads → Passed ws qs before p named after r → Asking ws qs after heads
+asking-kept a f = record { short = a.short; few = a.few; cached = rw f.instance a.cached }
 
 -- the words of a node up to word p were walked, and then word p
 pub node-step :
-    {ws qs before known : List ℕ} {first p : ℕ} (start end : ℕ) → start ≤ end → end ≤ length qs → p < length qs →
+    {ws qs : List ℕ} {before known : Known} {first p : ℕ} (start end : ℕ) → start ≤ end → end ≤ length qs → p < length qs →
     Passed ws qs before first (constants_among (take (p - start) (take (end - start) (drop start qs)))) known p →
     (term : Bool) → term ≡ (leb start p && ltb p end) →
     (new : Bool) → new ≡ (term && (is_constant (get_or qs p 0) && not (listed (get_or qs p 0) (stood_before known (ws ++ qs) (length ws + p))))) →
-    (after : List ℕ) → Flagged known (length ws + p) (not new) after →
+    (after : Known) → Flagged known (length ws + p) (not new) after →
     Passed ws qs before first (constants_among (take (p + 1 - start) (take (end - start) (drop start qs)))) after (p + 1)
 node-step {ws} {qs} {before} {known} {first} {p} start end ordered within inside so_far term is new e after f =
     let word = passed-word ws qs known p inside term so_far.later after (rw e at f) in
@@ -192,7 +192,7 @@ none-behind ars ws q l = get_or-eq_default (passes ars [] 0 ws) false {n = q} (o
 
 -- the whole question was walked
 pub passed-whole :
-    {ws qs before after named : List ℕ} → Passed ws qs before 0 named after (length qs) → unpassed after 0 (ws ++ qs) ≡ listing (unpassed before 0 ws) named
+    {ws qs : List ℕ} {before after : Known} {named : List ℕ} → Passed ws qs before 0 named after (length qs) → unpassed after 0 (ws ++ qs) ≡ listing (unpassed before 0 ws) named
 unfolding unpassed
 passed-whole {ws} {qs} {before} {after} {named} f =
     sym (ap (unpassed after 0) (take_all (length ws + length qs) (ws ++ qs) (omega (arith, length-append ws qs)))) ∙ f.walks ∙

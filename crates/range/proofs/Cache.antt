@@ -10,13 +10,14 @@ use lib.ListN.{length, get_or, set, replicate, length-set, length-replicate, get
 use lib.Seq.{get_or-set_same, get_or-set_other}
 use Rattle.calculus.specs.Listed.{listed}
 use Rattle.calculus.proofs.Listed.{listed-left}
-use Rattle.known.specs.Known.{unpassed}
+use Rattle.known.specs.declared.Known.{Known}
+use Rattle.known.specs.Known.{unpassed, Flagged}
 use Rattle.range.specs.Cache.{head_count, head_of, Head, Cached}
-use Rattle.range.specs.Flagged.{Flagged, stood_before}
+use Rattle.range.specs.Flagged.{stood_before}
 use Rattle.range.proofs.Places.{stood-next}
 use Rattle.range.proofs.Walked.{listed_snoc}
 
-pub cached-starts : (known ws : List ℕ) → Cached (replicate head_count 0) ws (stood_before known ws 0) 0
+pub cached-starts : (known : Known) (ws : List ℕ) → Cached (replicate head_count 0) ws (stood_before known ws 0) 0
 unfolding unpassed listed
 cached-starts known ws = record {
   size = length-replicate {A = ℕ} head_count 0;
@@ -27,7 +28,7 @@ cached-starts known ws = record {
 
 -- a relation's number leaves it as it is
 pub cached-relation :
-    {heads known after ws : List ℕ} {i : ℕ} → i < length ws → Cached heads ws (stood_before known ws i) i → Flagged known i true after →
+    {heads : List ℕ} {known after : Known} {ws : List ℕ} {i : ℕ} → i < length ws → Cached heads ws (stood_before known ws i) i → Flagged known i true after →
     Cached heads ws (stood_before after ws (i + 1)) (i + 1)
 cached-relation {ws = ws} l s f =
     rw (stood-next ws l f)
@@ -84,6 +85,6 @@ module _ {heads ws vs : List ℕ} {i : ℕ} (s : Cached heads ws vs i) where
   }
 
 pub cached-cell :
-    {heads known after ws : List ℕ} {i : ℕ} (bucket : ℕ) → bucket ≡ head_of (get_or ws i 0) → i < length ws → Cached heads ws (stood_before known ws i) i →
+    {heads : List ℕ} {known after : Known} {ws : List ℕ} {i : ℕ} (bucket : ℕ) → bucket ≡ head_of (get_or ws i 0) → i < length ws → Cached heads ws (stood_before known ws i) i →
     Flagged known i (listed (get_or ws i 0) (stood_before known ws i)) after → Cached (set heads bucket (i + 1)) ws (stood_before after ws (i + 1)) (i + 1)
 cached-cell {ws = ws} bucket e l s f = rw (e, stood-next ws l f) (cached_more s)

@@ -6,23 +6,25 @@ use mathlib.Core.List.{List, [], ◌∷◌, ◌++◌}
 use native.Mathlib.Omega.{arith}
 use borrow.Author.Tests.{ltb-true, ltb-false, eqb-true, eqb-false}
 use lib.Dec.{ltb, eqb}
-use lib.ListN.{length, get_or, take, drop, replicate}
+use lib.ListN.{length, get_or, drop, replicate}
 use lib.Seq.{drop-drop, drop-length, get_or-drop, take-length}
 use Rattle.calculus.specs.Listed.{listed}
 use Rattle.calculus.proofs.Lists.{drop_step}
 use Rattle.instance.specs.Header.{arity_of}
 use Rattle.instance.specs.Rows.{words_well_formed}
 use Rattle.instance.proofs.Rows.{at_row, at_cell}
-use Rattle.known.specs.Known.{flags_from, flag_at, unpassed}
+use Rattle.known.specs.declared.Known.{Known}
+use Rattle.known.specs.Known.{flag_at, unpassed, SameBesides, Flagged}
+use Rattle.known.proofs.Setting.{kept_same, kept_then}
 use Rattle.range.specs.Cache.{head_count, Cached}
-use Rattle.range.specs.Flagged.{Flagged, stood_before}
+use Rattle.range.specs.Flagged.{stood_before}
 use Rattle.range.specs.Walked.{passes}
 use Rattle.range.proofs.Cache.{cached-starts, cached-relation}
 use Rattle.range.proofs.Places.{stood-next}
 use Rattle.range.proofs.Walked.{SameCells, same_more}
 
 -- the flags so far, if the flag of place i becomes the next one
-module _ {known after : List ℕ} {i : ℕ} {b : Bool} {rest : List Bool} (flags : List Bool) (f : Flagged known i b after) (e : drop i flags ≡ b ∷ rest) where
+module _ {known after : Known} {i : ℕ} {b : Bool} {rest : List Bool} (flags : List Bool) (f : Flagged known i b after) (e : drop i flags ≡ b ∷ rest) where
   first : get_or flags i false ≡ b
   first = let z : i + 0 ≡ i = omega arith in ap (λ (k : ℕ). get_or flags k false) (sym z) ∙ sym (get_or-drop i flags 0 false) ∙ ap (λ (l : List Bool). get_or l 0 false) e
 
@@ -41,12 +43,11 @@ module _ {known after : List ℕ} {i : ℕ} {b : Bool} {rest : List Bool} (flags
 
 -- The first i words were walked, and `left` cells of a row are still to come. `earlier` holds every cell that stood; the flags leave of equal cells
 -- only the first.
-pub record Passing (n : ℕ) (ars ws before known heads : List ℕ) (left i : ℕ) : Type 0 where
+pub record Passing (n : ℕ) (ars ws : List ℕ) (before known : Known) (heads : List ℕ) (left i : ℕ) : Type 0 where
   pub earlier : List ℕ
   pub inside : i ≤ length ws
   pub well_formed : words_well_formed n ars left (drop i ws) ≡ true
-  pub size : length known ≡ length before
-  pub kept : take flags_from known ≡ take flags_from before
+  pub kept : SameBesides before known
   pub same : SameCells (stood_before known ws i) earlier
   pub cached : Cached heads ws (stood_before known ws i) i
   pub past : (q : ℕ) → q < i → flag_at known q ≡ get_or (passes ars [] 0 ws) q false
@@ -54,15 +55,14 @@ pub record Passing (n : ℕ) (ars ws before known heads : List ℕ) (left i : �
   pub rest : drop i (passes ars [] 0 ws) ≡ passes ars earlier left (drop i ws)
 
 pub passing-starts :
-    (n : ℕ) (ars ws known : List ℕ) → words_well_formed n ars 0 ws ≡ true → ((q : ℕ) → flag_at known q ≡ false) →
+    (n : ℕ) (ars ws : List ℕ) (known : Known) → words_well_formed n ars 0 ws ≡ true → ((q : ℕ) → flag_at known q ≡ false) →
     Passing n ars ws known known (replicate head_count 0) 0 0
 unfolding unpassed
 passing-starts n ars ws known e none = record {
   earlier = [];
   inside = omega arith;
   well_formed = e;
-  size = refl;
-  kept = refl;
+  kept = kept_same;
   same = λ d. refl;
   cached = cached-starts known ws;
   past = λ q l. absurd (omega arith);
@@ -70,7 +70,7 @@ passing-starts n ars ws known e none = record {
   rest = refl;
 }
 
-module _ {n : ℕ} {ars ws before known heads : List ℕ} {left i : ℕ} (s : Passing n ars ws before known heads left i) (l : i < length ws) where
+module _ {n : ℕ} {ars ws : List ℕ} {before known : Known} {heads : List ℕ} {left i : ℕ} (s : Passing n ars ws before known heads left i) (l : i < length ws) where
   abbrev w : ℕ
   w = get_or ws i 0
 
@@ -90,7 +90,7 @@ module _ {n : ℕ} {ars ws before known heads : List ℕ} {left i : ℕ} (s : Pa
   passing-relation e = ltb-true w n (at_row n ars w ws' (rw e at here)).0
 
   -- a relation's number is passed over
-  pub passing-row : left ≡ 0 → (after : List ℕ) → Flagged known i true after → Passing n ars ws before after heads (arity_of ars w) (i + 1)
+  pub passing-row : left ≡ 0 → (after : Known) → Flagged known i true after → Passing n ars ws before after heads (arity_of ars w) (i + 1)
   unfolding passes
   passing-row e after f =
       let more : drop i all ≡ true ∷ passes ars s.earlier (arity_of ars w) ws' = rw e at next in
@@ -98,8 +98,7 @@ module _ {n : ℕ} {ars ws before known heads : List ℕ} {left i : ℕ} (s : Pa
         earlier = s.earlier;
         inside = omega arith;
         well_formed = (at_row n ars w ws' (rw e at here)).1;
-        size = f.size ∙ s.size;
-        kept = f.kept ∙ s.kept;
+        kept = kept_then s.kept f.kept;
         same = λ d. ap (listed d) (stood-next ws l f) ∙ s.same d;
         cached = cached-relation l s.cached f;
         past = past_next all f more s.past;
@@ -109,7 +108,7 @@ module _ {n : ℕ} {ars ws before known heads : List ℕ} {left i : ℕ} (s : Pa
 
   -- a cell is passed over if it stood earlier
   pub passing-cell :
-      (k : ℕ) → left ≡ suc k → (after heads' : List ℕ) → Flagged known i (listed w (stood_before known ws i)) after →
+      (k : ℕ) → left ≡ suc k → (after : Known) (heads' : List ℕ) → Flagged known i (listed w (stood_before known ws i)) after →
       Cached heads' ws (stood_before after ws (i + 1)) (i + 1) → Passing n ars ws before after heads' k (i + 1)
   unfolding passes
   passing-cell k e after heads' f cache =
@@ -122,8 +121,7 @@ module _ {n : ℕ} {ars ws before known heads : List ℕ} {left i : ℕ} (s : Pa
         earlier = s.earlier ++ w ∷ [];
         inside = omega arith;
         well_formed = (at_cell n ars k w ws' (rw e at here)).1;
-        size = f.size ∙ s.size;
-        kept = f.kept ∙ s.kept;
+        kept = kept_then s.kept f.kept;
         same = λ d. ap (listed d) (stood-next ws l f) ∙ same_more vs s.earlier w s.same (listed w vs) refl d;
         cached = cache;
         past = past_next all f more s.past;
@@ -133,7 +131,7 @@ module _ {n : ℕ} {ars ws before known heads : List ℕ} {left i : ℕ} (s : Pa
 
 -- at the end the heads are those of all cells
 pub passing-cached :
-    {n : ℕ} {ars ws before known heads : List ℕ} {left i : ℕ} → Passing n ars ws before known heads left i → length ws ≤ i →
+    {n : ℕ} {ars ws : List ℕ} {before known : Known} {heads : List ℕ} {left i : ℕ} → Passing n ars ws before known heads left i → length ws ≤ i →
     Cached heads ws (unpassed known 0 ws) (length ws)
 passing-cached {ws = ws} {known = known} {heads = heads} {i = i} s l =
     let e : i ≡ length ws = omega (arith, s.inside) in
@@ -141,7 +139,7 @@ passing-cached {ws = ws} {known = known} {heads = heads} {i = i} s l =
 
 -- at the end the flags are those of the walk, and none stands after the words
 pub passing-ends :
-    {n : ℕ} {ars ws before known heads : List ℕ} {left i : ℕ} → Passing n ars ws before known heads left i → length ws ≤ i →
+    {n : ℕ} {ars ws : List ℕ} {before known : Known} {heads : List ℕ} {left i : ℕ} → Passing n ars ws before known heads left i → length ws ≤ i →
     (p : ℕ) → flag_at known p ≡ get_or (passes ars [] 0 ws) p false
 unfolding passes
 passing-ends {ars = ars} {ws} {before} {known} {heads} {left} {i} s l p = go (ltb p i) refl

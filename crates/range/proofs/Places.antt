@@ -1,58 +1,26 @@
 -- Flags place by place: setting one, and a scan of the words that are not passed over. Assumes nothing.
-use Prim.Native.Nat.{ℕ, suc, ◌+◌, ◌/◌, ◌%◌, ◌^◌, ◌≤◌, ◌<◌}
+use Prim.Native.Nat.{ℕ, suc, ◌+◌, ◌≤◌, ◌<◌}
 use mathlib.Core.Path.{◌≡◌, refl, ap, ◌∙◌}
-use mathlib.Core.Bool.{Bool, true, false, ◌||◌, cond}
+use mathlib.Core.Bool.{Bool, true, false, cond}
 use mathlib.Core.List.{List, [], ◌∷◌, ◌++◌, append-nil}
 use native.Mathlib.Omega.{arith}
 use native.Mathlib.Numerals.{add-one}
-use borrow.Author.Tests.{eqb-true, eqb-false, eq-eqb, ne_eqb}
-use lib.Bits.{bit_or}
-use lib.Dec.{eqb}
-use lib.ListN.{length, get_or, set, take, drop, length-set, drop_of_length-le}
-use lib.Seq.{take-suc, take-set-le, get_or-set_same, get_or-set_other, length-take-le}
-use Rattle.calculus.specs.Bit.{bit_at}
+use borrow.Author.Tests.{eq-eqb, ne_eqb}
+use lib.ListN.{length, get_or, take, drop, drop_of_length-le}
+use lib.Seq.{take-suc, length-take-le}
 use Rattle.calculus.specs.Listed.{listed}
-use Rattle.calculus.proofs.Bits.{bit_set}
-use Rattle.known.specs.Known.{flags_from, flag_at, unpassed}
+use Rattle.known.specs.declared.Known.{Known}
+use Rattle.known.specs.Known.{flag_at, unpassed, Flagged}
 use Rattle.calculus.proofs.Lists.{drop_step}
-use Rattle.range.specs.Flagged.{Flagged, stood_before}
-
--- a flag is set
-module _ (known : List ℕ) (p : ℕ) (l : flags_from + p / 32 < length known) where
-  abbrev word : ℕ
-  word = bit_or (get_or known (flags_from + p / 32) 0) (2 ^ (p % 32))
-
-  abbrev flagged : List ℕ
-  flagged = set known (flags_from + p / 32) word
-
-  set_other : (q : ℕ) → (q ≡ p → ⊥) → (b : Bool) → eqb (flags_from + q / 32) (flags_from + p / 32) ≡ b → flag_at flagged q ≡ flag_at known q
-  set_other q ne true e =
-      let same : flags_from + q / 32 ≡ flags_from + p / 32 = eqb-true _ _ e in
-      let differ : (q % 32 ≡ p % 32 → ⊥) = λ h. ne (omega (arith, same, h)) in
-      rw same
-      (ap (λ (x : ℕ). bit_at x (q % 32)) (get_or-set_same known (flags_from + p / 32) word 0 l) ∙
-      bit_set (get_or known (flags_from + p / 32) 0) (p % 32) (q % 32) ∙
-      ap (λ (b : Bool). b || bit_at (get_or known (flags_from + p / 32) 0) (q % 32)) (ne_eqb _ _ differ))
-  set_other q ne false e = ap (λ (x : ℕ). bit_at x (q % 32)) (get_or-set_other known (flags_from + p / 32) (flags_from + q / 32) word 0 (eqb-false _ _ e))
-
-  pub set_flag : Flagged known p true flagged
-  set_flag = record {
-    size = length-set known (flags_from + p / 32) word;
-    kept = take-set-le flags_from known (flags_from + p / 32) word (omega arith);
-    here =
-        ap (λ (x : ℕ). bit_at x (p % 32)) (get_or-set_same known (flags_from + p / 32) word 0 l) ∙
-        bit_set (get_or known (flags_from + p / 32) 0) (p % 32) (p % 32) ∙
-        ap (λ (b : Bool). b || bit_at (get_or known (flags_from + p / 32) 0) (p % 32)) (eq-eqb (p % 32) (p % 32) refl);
-    other = λ q ne. set_other q ne (eqb (flags_from + q / 32) (flags_from + p / 32)) refl;
-  }
+use Rattle.range.specs.Flagged.{stood_before}
 
 -- what is not passed over depends on the flags of its own places alone
-pub unpassed-same : (known after ws : List ℕ) (p : ℕ) → ((q : ℕ) → q < p + length ws → flag_at after q ≡ flag_at known q) → unpassed after p ws ≡ unpassed known p ws
+pub unpassed-same : (known after : Known) (ws : List ℕ) (p : ℕ) → ((q : ℕ) → q < p + length ws → flag_at after q ≡ flag_at known q) → unpassed after p ws ≡ unpassed known p ws
 unfolding unpassed
 unpassed-same known after [] p same = refl
 unpassed-same known after (w ∷ ws) p same = rw (same p (omega arith), unpassed-same known after ws (suc p) (λ q l. same q (omega arith))) refl
 
-unpassed_snoc : (known ws : List ℕ) (w p : ℕ) → unpassed known p (ws ++ w ∷ []) ≡ unpassed known p ws ++ cond (flag_at known (p + length ws)) [] (w ∷ [])
+unpassed_snoc : (known : Known) (ws : List ℕ) (w p : ℕ) → unpassed known p (ws ++ w ∷ []) ≡ unpassed known p ws ++ cond (flag_at known (p + length ws)) [] (w ∷ [])
 unfolding unpassed
 unpassed_snoc known [] w p = let e : p + 0 ≡ p = omega arith in rw e refl
 unpassed_snoc known (x ∷ ws) w p =
@@ -68,7 +36,7 @@ unpassed_snoc known (x ∷ ws) w p =
 
 -- the cells that stood before place i + 1
 pub stood-next :
-    {known after : List ℕ} {i : ℕ} {b : Bool} (ws : List ℕ) → i < length ws → Flagged known i b after →
+    {known after : Known} {i : ℕ} {b : Bool} (ws : List ℕ) → i < length ws → Flagged known i b after →
     stood_before after ws (i + 1) ≡ cond b (stood_before known ws i) (stood_before known ws i ++ get_or ws i 0 ∷ [])
 stood-next {known} {after} {i} {b} ws l f =
     let long : length (take i ws) ≡ i = length-take-le i ws (omega arith) in
@@ -81,7 +49,7 @@ stood-next {known} {after} {i} {b} ws l f =
     go false = refl
 
 -- a scan for a cell among the words that are not passed over, at word j; the first word has place b
-module _ (known : List ℕ) (b : ℕ) (ws : List ℕ) (cell j : ℕ) where
+module _ (known : Known) (b : ℕ) (ws : List ℕ) (cell j : ℕ) where
   at_word : j < length ws → unpassed known (b + j) (drop j ws) ≡ cond (flag_at known (b + j)) (unpassed known (b + (j + 1)) (drop (j + 1) ws)) (get_or ws j 0 ∷ unpassed known (b + (j + 1)) (drop (j + 1) ws))
   unfolding unpassed
   at_word l =

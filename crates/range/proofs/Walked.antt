@@ -13,6 +13,7 @@ use Rattle.calculus.specs.Row.{Row, cells_of}
 use Rattle.calculus.proofs.Listing.{listing-append, listing-distinct}
 use Rattle.instance.specs.Header.{arity_of}
 use Rattle.instance.specs.Rows.{rows_from}
+use Rattle.known.specs.declared.Known.{Known}
 use Rattle.known.specs.Known.{flag_at, unpassed}
 use Rattle.range.specs.Walked.{walked, walked_range, passes}
 
@@ -64,7 +65,7 @@ walked_more cs ds = ap (λ (l : List ℕ). listing l ds) (sym (walked-listing cs
 
 -- from place p on, with `left` cells of a row still to come
 walk_from :
-    (ars known earlier : List ℕ) (left p : ℕ) (ws : List ℕ) → ((q : ℕ) → flag_at known (p + q) ≡ get_or (passes ars earlier left ws) q false) →
+    (ars : List ℕ) (known : Known) (earlier : List ℕ) (left p : ℕ) (ws : List ℕ) → ((q : ℕ) → flag_at known (p + q) ≡ get_or (passes ars earlier left ws) q false) →
     unpassed known p ws ≡ walked earlier (take left ws ++ cells_of (rows_from ars left ws))
 unfolding unpassed walked passes rows_from cells_of
 walk_from ars known earlier zero p [] flags = refl
@@ -82,6 +83,6 @@ walk_from ars known earlier (suc left) p (w ∷ ws) flags =
 
 -- what the flags leave of the words is what the walk over the rows finds
 pub unpassed-walked :
-    (ars ws known : List ℕ) → ((p : ℕ) → flag_at known p ≡ get_or (passes ars [] 0 ws) p false) → unpassed known 0 ws ≡ walked [] (cells_of (rows_from ars 0 ws))
+    (ars ws : List ℕ) (known : Known) → ((p : ℕ) → flag_at known p ≡ get_or (passes ars [] 0 ws) p false) → unpassed known 0 ws ≡ walked [] (cells_of (rows_from ars 0 ws))
 unpassed-walked ars ws known flags =
     walk_from ars known [] 0 0 ws (λ q. let e : 0 + q ≡ q = omega arith in ap (flag_at known) e ∙ flags q)

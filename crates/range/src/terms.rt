@@ -5,15 +5,16 @@ ghost use Rattle.calculus.specs.Cell.{is_constant};
 ghost use Rattle.calculus.specs.Listed.{listed};
 ghost use Rattle.instance.specs.InstanceWellFormed.{InstanceOf};
 ghost use Rattle.instance.specs.Rows.{rows_from};
-ghost use Rattle.known.specs.Known.{known_words, max_query_words, flags_from, arities_in, flag_at, unpassed};
+ghost use Rattle.known.specs.Known.{max_query_words, arities_in, flag_at, unpassed, SameBesides};
 ghost use Rattle.query.specs.Words.{node_words};
 ghost use Rattle.query.specs.Named.{constants_among, named_in, HasTerms};
 ghost use Rattle.range.specs.Flagged.{stood_before, Asking, Passed};
 ghost use Rattle.range.specs.Walked.{walked_range};
 
-use super::pass::{pass, pass_cells, stood, stood_earlier};
+use super::pass::{pass_cells, stood, stood_earlier};
 use calculus::cell::CONSTANTS;
 use domain::bucket::bucket_of;
+use known::Known;
 use query::inked::{term_count, terms_start};
 use query::words::NODE_WORDS;
 
@@ -21,7 +22,7 @@ use query::words::NODE_WORDS;
 fn is_new(
     words: &[u32],
     query: &[u32],
-    known: &[u32; 170],
+    known: &Known,
     heads: &[u16; 512],
     place: usize,
     term: bool,
@@ -31,13 +32,10 @@ fn is_new(
         && not (listed (get_or query.now place 0) (stood_before known.now
         (words.now ++ query.now) (length words.now + place))))) }
 {
-    if !term {
+    if !term || CONSTANTS <= query[place] {
         return false;
     }
     let w = query[place];
-    if CONSTANTS <= w {
-        return false;
-    }
     let head = heads[bucket_of(w) / 2] as usize;
     if stood_earlier(words, known, words.len(), w, head) {
         return false;
@@ -45,22 +43,12 @@ fn is_new(
     !stood(known, words.len(), &query[..place], w)
 }
 
-// Whether a place is from `start` on and before `end`.
-fn between(start: usize, place: usize, end: usize) -> bool
-    ensures { result ≡ (leb start place && ltb place end) }
-{
-    if place < start {
-        return false;
-    }
-    place < end
-}
-
 // Passes over the words of a node, from word `first` of the question, except each new inked term; the terms are the
 // words from `start` on and before `end`.
 fn pass_node(
     words: &[u32],
     query: &[u32],
-    known: &mut [u32; 170],
+    known: &mut Known,
     heads: &[u16; 512],
     first: usize,
     start: usize,
@@ -74,13 +62,11 @@ fn pass_node(
         (constants_among (take (end - start) (drop start query.now))) known.new
         (first + node_words) }
 {
-    let mut place = first;
-    while place < first + NODE_WORDS {
-        let term = between(start, place, end);
+    for place in first..first + NODE_WORDS {
+        let term = (start..end).contains(&place);
         if !is_new(words, query, known, heads, place, term) {
-            pass(known, words.len() + place);
+            known.pass(words.len() + place);
         }
-        place += 1;
     }
 }
 
@@ -89,7 +75,7 @@ fn pass_terms(
     words: &[u32],
     query: &[u32],
     arities: &[u32; 8],
-    known: &mut [u32; 170],
+    known: &mut Known,
     heads: &[u16; 512],
 )
     requires { Asking words.now query.now known.old heads.now
@@ -97,23 +83,20 @@ fn pass_terms(
     ensures { Passed words.now query.now known.old 0
         (named_in arities.now query.now) known.new (length query.now) }
 {
-    let mut node = 0;
-    while node < query.len() / NODE_WORDS {
+    for node in 0..query.len() / NODE_WORDS {
         let start = terms_start(query, node);
         let end = start + term_count(query, arities, node);
         pass_node(words, query, known, heads, node * NODE_WORDS, start, end);
-        node += 1;
     }
 }
 
 // Sets the flag of each place that a walk over the instance's words and then the question's passes over. The promise
 // speaks of the values that are left and their order, not of which place of equal ones is left.
-pub fn pass_over(words: &[u32], query: &[u32], arities: &[u32; 8], known: &mut [u32; 170])
+pub fn pass_over(words: &[u32], query: &[u32], arities: &[u32; 8], known: &mut Known)
     requires instance_of { InstanceOf (arities_in known.old) words.now × HasTerms arities.now query.now
         × (arities_in known.old ≡ arities.now) × (length query.now ≤ max_query_words) }
-    requires known_len { (length known.old ≡ known_words) × ((p : ℕ) → flag_at known.old p ≡ false) }
-    ensures kept { (length known.new ≡ known_words)
-        × (take flags_from known.new ≡ take flags_from known.old) }
+    requires no_flags { (p : ℕ) → flag_at known.old p ≡ false }
+    ensures kept { SameBesides known.old known.new }
     ensures walked { unpassed known.new 0 (words.now ++ query.now)
         ≡ walked_range (named_in arities.now query.now)
         (rows_from arities.now 0 words.now) }

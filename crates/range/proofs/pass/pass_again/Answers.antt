@@ -4,9 +4,12 @@ use mathlib.Core.Path.{◌≡◌, refl, sym, ◌∙◌, ap}
 use mathlib.Core.List.{List}
 use native.Mathlib.Omega.{arith}
 use lib.ListN.{get_or, set}
+use Rattle.known.specs.declared.Known.{Known}
 use Rattle.calculus.specs.Listed.{listed}
 use Rattle.range.specs.Cache.{head_of, Head, Cached}
-use Rattle.range.specs.Flagged.{Flagged, stood_before}
+use Rattle.known.specs.Known.{Flagged}
+use Rattle.range.specs.Flagged.{stood_before}
+use Rattle.known.proofs.Setting.{kept_same}
 use Rattle.range.proofs.Cache.{cached-cell}
 use Rattle.range.proofs.pass.pass_again.Goals as goal
 use Rattle.range.proofs.pass.pass_again.Goals.{After-bucket_of-bucket, Start}
@@ -18,7 +21,7 @@ module _ (c : Start) where
   abbrev ws : List ℕ
   ws = c.args.words.now
 
-  abbrev known : List ℕ
+  abbrev known : Known
   known = c.args.known.now
 
   abbrev heads : List ℕ
@@ -35,12 +38,12 @@ module _ (c : Start) where
 
   -- the cell's head
   head_at : (bucket : ℕ) → bucket ≡ head_of cell → Head ws vs place cell (get_or heads bucket 0)
-  head_at bucket e = rw e (c.requires.cached_2.heads_of cell)
+  head_at bucket e = rw e (c.requires.cached_before.heads_of cell)
 
   -- what is promised, once the flag is right
-  done : (bucket : ℕ) → bucket ≡ head_of cell → (after : List ℕ) → Flagged known place (listed cell vs) after
+  done : (bucket : ℕ) → bucket ≡ head_of cell → (after : Known) → Flagged known place (listed cell vs) after
       → Flagged known place (listed cell vs) after × Cached (set heads bucket (place + 1)) ws (stood_before after ws (place + 1)) (place + 1)
-  done bucket e after f = (f, cached-cell bucket e c.requires.known_len.1 c.requires.cached_2 f)
+  done bucket e after f = (f, cached-cell bucket e c.requires.place_in.0 c.requires.cached_before f)
 
 abbrev from : After-bucket_of-bucket → Start
 from c = c.before.before.before.before
@@ -58,8 +61,8 @@ overflow_cast-head c = omega (arith, (found (goal.at.overflow_cast-head c).After
 pub stood_earlier-requires : goal.stood_earlier-requires
 stood_earlier-requires c =
     let b = (goal.at.stood_earlier-requires c).After-bucket_of-bucket in
-    let p = b.requires.known_len in record {
-      known_len = (p.0, omega (arith, p.1), p.2);
+    let p = b.requires.place_in in record {
+      place_in = (omega (arith, p.0), p.1);
       head = found b;
     }
 
@@ -67,9 +70,9 @@ pub returns-then-stood_earlier : goal.returns-then-stood_earlier
 returns-then-stood_earlier c =
     let b = (goal.at.returns-then-stood_earlier c).After-bucket_of-bucket in
     let f = c.pass.ensures in by_flags_cached (done (from b) (c.bucket_of-bucket.result / 2) (half b) _
-    (record { size = f.size; kept = f.kept; here = f.here ∙ sym c.if-stood_earlier.true ∙ c.stood_earlier.ensures; other = f.other }))
+    (record { kept = f.kept; here = f.here ∙ sym c.if-stood_earlier.true ∙ c.stood_earlier.ensures; other = f.other }))
 
 pub returns-else-stood_earlier : goal.returns-else-stood_earlier
 returns-else-stood_earlier c =
     let b = (goal.at.returns-else-stood_earlier c).After-bucket_of-bucket in by_flags_cached (done (from b) (c.bucket_of-bucket.result / 2) (half b) _
-    (record { size = refl; kept = refl; here = b.requires.known_len.3 ∙ sym c.if-stood_earlier.false ∙ c.stood_earlier.ensures; other = λ q ne. refl }))
+    (record { kept = kept_same; here = b.requires.place_in.2 ∙ sym c.if-stood_earlier.false ∙ c.stood_earlier.ensures; other = λ q ne. refl }))

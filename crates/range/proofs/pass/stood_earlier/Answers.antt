@@ -19,10 +19,10 @@ returns-then-words-head c =
     sym (ap (λ (x : ℕ). listed x vs) (sym c.if-words-head.true) ∙ c.requires.head.stood (omega (arith, c.if-head-eq0.false)))
 
 pub slice_bounds-stood-end : goal.slice_bounds-stood-end
-slice_bounds-stood-end c = let s = (goal.at.slice_bounds-stood-end c).Start in sym (length-take-le s.args.place s.args.words.now s.requires.known_len.1)
+slice_bounds-stood-end c = let s = (goal.at.slice_bounds-stood-end c).Start in sym (length-take-le s.args.place s.args.words.now s.requires.place_in.0)
 
 pub stood-requires : goal.stood-requires
 stood-requires c =
     let s = (goal.at.stood-requires c).Start in
-    let l = s.requires.known_len.1 in
-    (s.requires.known_len.0, omega (arith, length-take-le s.args.place s.args.words.now l, l, s.requires.known_len.2))
+    let l = s.requires.place_in.0 in
+    omega (arith, length-take-le s.args.place s.args.words.now l, l, s.requires.place_in.1)

@@ -5,6 +5,7 @@ use mathlib.Core.List.{List, []}
 use Rattle.calculus.specs.Domain.{listing}
 use Rattle.calculus.specs.Row.{cells_of}
 use Rattle.instance.specs.Rows.{rows_from}
+use Rattle.known.proofs.Setting.{kept_then}
 use Rattle.query.specs.Named.{named_in}
 use Rattle.range.specs.Walked.{walked}
 use Rattle.range.proofs.Walked.{unpassed-walked, walked_more}
@@ -16,14 +17,14 @@ pub pass_cells-requires : goal.pass_cells-requires
 pass_cells-requires c =
     let s = (goal.at.pass_cells-requires c).Start in record {
       instance_of = (c.requires.instance_of.0, refl);
-      known_len = c.requires.known_len;
+      no_flags = c.requires.no_flags;
     }
 
 pub pass_terms-requires : goal.pass_terms-requires
 pass_terms-requires c =
     let s = (goal.at.pass_terms-requires c).Start in
     let done = c.pass_cells.ensures in (
-      record { size = done.kept.0; short = c.requires.instance_of.0.well_formed.few; few = c.requires.instance_of.3; cached = done.cached },
+      record { short = c.requires.instance_of.0.well_formed.few; few = c.requires.instance_of.3; cached = done.cached },
       λ q l. done.flags q ∙ none-behind _ c.args.words.now q l,
       c.requires.instance_of.1,
     )
@@ -37,7 +38,7 @@ returns c =
     let done = cells.ensures in
     let named = named_in ars c.args.query.now in
     let all = c.pass_terms.ensures in record {
-      kept = (all.size ∙ done.kept.0, all.kept ∙ done.kept.1);
+      kept = kept_then done.kept all.kept;
       walked = passed-whole all ∙
           ap (λ (l : List ℕ). listing l named) (unpassed-walked _ ws cells.new.known done.flags) ∙
           ap (λ (l : List ℕ). listing (walked [] (cells_of (rows_from l 0 ws))) named) c.requires.instance_of.2 ∙

@@ -10,6 +10,3 @@ abbrev pub invariant-loop-node : goal.invariant-loop-node
 invariant-loop-node l =
     (seen : List ℕ) × (l.node ≤ node_count l.query) × (seen ++ named_from l.arities l.query l.node (node_count l.query - l.node) ≡ named_in l.arities l.query)
     × Passed l.words l.query l.initial.known 0 seen l.known (l.node * node_words)
-
-abbrev pub decreases-loop-node : goal.decreases-loop-node
-decreases-loop-node l = node_count l.query - l.node
