@@ -1,7 +1,6 @@
 // Questions: the readings, cases in which a wrong program would say something else, and the refusals.
-ghost use Rattle.std.specs.Prelude.{◌≤◌};
+ghost use Rattle.std.specs.Prelude.{◌≤◌, length};
 
-use super::question::{NONE, flat};
 use answer::ask::ask;
 use answer::unlisted::ask_unlisted;
 use instance::header::Header;
@@ -46,21 +45,27 @@ fn asked(
     listed(rt, name, header, plot, query, candidate, &mut list, budget)
 }
 
-// Asks a question of n nodes.
+// Asks a question of these nodes.
 fn one(
     rt: &impl Print,
     name: &str,
     header: Header,
     plot: &[u32],
-    nodes: [[u32; 8]; 7],
-    n: usize,
+    nodes: &[[u32; 8]],
     candidate: &[u32],
     budget: u32,
 ) -> io::Result<()>
-    requires { n ≤ 7 }
+    requires { length nodes.now ≤ 7 }
 {
-    let words = flat(nodes);
-    asked(rt, name, header, plot, &words[..n * 8], candidate, budget)
+    asked(
+        rt,
+        name,
+        header,
+        plot,
+        nodes.as_flattened(),
+        candidate,
+        budget,
+    )
 }
 
 // Asks whether some or every x equals the term: a question of two nodes.
@@ -98,14 +103,11 @@ fn channels(rt: &impl Print, name: &str, query: &[u32], candidate: &[u32]) -> io
 }
 
 // The candidate is in sheet 0 and not in sheet 1.
-const WITHOUT: [[u32; 8]; 7] = [
+const WITHOUT: [[u32; 8]; 4] = [
     [4, 1, 2, 0, 0, 0, 0, 0],
     [1, 0, 2_000_000, 0, 0, 0, 0, 0],
     [3, 3, 0, 0, 0, 0, 0, 0],
     [1, 1, 2_000_000, 0, 0, 0, 0, 0],
-    NONE,
-    NONE,
-    NONE,
 ];
 
 fn without(rt: &impl Print, name: &str, plot: &[u32], budget: u32) -> io::Result<()> {
@@ -114,8 +116,7 @@ fn without(rt: &impl Print, name: &str, plot: &[u32], budget: u32) -> io::Result
         name,
         two_sheets(1, 1, 4, 1, 1),
         plot,
-        WITHOUT,
-        4,
+        &WITHOUT,
         &[201],
         budget,
     )
@@ -158,8 +159,7 @@ pub fn without_twice(rt: &impl Print) -> io::Result<()> {
         "201 in sheet 0 and not (in sheet 0 and not in 1)",
         two_sheets(1, 1, 4, 1, 1),
         &CHANNELS,
-        nodes,
-        7,
+        &nodes,
         &[201],
         100,
     )
@@ -181,8 +181,7 @@ pub fn excluded_middle(rt: &impl Print) -> io::Result<()> {
         "some x in the sheet and (x = 0 or not x = 0)",
         one_sheet(1, 2, 1),
         &[0, 1_000_001],
-        nodes,
-        7,
+        &nodes,
         &[],
         100,
     )
@@ -274,15 +273,13 @@ pub fn bound_again(rt: &impl Print) -> io::Result<()> {
         [3, 5, 0, 0, 0, 0, 0, 0],
         [2, 2_000_000, 2, 0, 0, 0, 0, 0],
         [2, 2_000_000, 2, 0, 0, 0, 0, 0],
-        NONE,
-    ];
+        ];
     one(
         rt,
         "every x: (some x: x = 2) and not x = 2",
         header,
         &plot,
-        again,
-        6,
+        &again,
         &[],
         100,
     )
@@ -321,7 +318,7 @@ fn node(rt: &impl Print, name: &str, words: [u32; 8]) -> io::Result<()> {
 
 // Refusals of a node.
 pub fn refused_nodes(rt: &impl Print) -> io::Result<()> {
-    node(rt, "kind 0", NONE)?;
+    node(rt, "kind 0", [0; 8])?;
     node(
         rt,
         "a sheet that the head lacks",

@@ -7,7 +7,6 @@ use std::io;
 mod asking;
 mod charges;
 mod limits;
-mod question;
 mod ranges;
 mod rerunning;
 

@@ -1,6 +1,5 @@
 // What some and every range over: the plot's values, and then the values that the question names.
 use super::asking::listed;
-use super::question::flat;
 use std::io;
 use worked::plots::one_sheet;
 
@@ -18,13 +17,12 @@ const CROSSED: [[u32; 8]; 7] = [
 
 // Asks that of one row (5).
 fn crossed(rt: &impl Print, name: &str, list: &mut [u32], budget: u32) -> io::Result<()> {
-    let query = flat(CROSSED);
     listed(
         rt,
         name,
         one_sheet(1, 2, 1),
         &[0, 5],
-        &query,
+        CROSSED.as_flattened(),
         &[],
         list,
         budget,
