@@ -7,40 +7,49 @@ use lib.ListN.{length}
 use Rattle.calculus.specs.Answer.{Answer}
 use Rattle.std.specs.Prelude.{Ok, Err}
 use Rattle.calculus.specs.Reading.{refused, read}
+use Rattle.calculus.specs.declared.refusal.Refusal.{Refusal}
 use Rattle.calculus.specs.declared.refusal.Refusal.TheVariants.{Unsound, BadQueryLength}
-use Rattle.calculus.specs.Refusal.{unsound, bad_query_length}
 use Rattle.calculus.proofs.Answers.{demand_done}
-use Rattle.calculus.proofs.Bools.{zero_not_one}
 use Rattle.instance.specs.declared.header.Header.{Header}
-use Rattle.instance.specs.Sound.{sound, rows}
+use Rattle.instance.specs.Sound.{sound, rows, scanned}
+use Rattle.instance.proofs.Sound.{scan_refused}
 use Rattle.query.specs.Words.{right_length}
 use Rattle.query.specs.declared.scopes.Scopes.{Scopes}
-use Rattle.query.specs.Check.{Checked, passed, check_query, check_number}
+use Rattle.query.specs.Check.{Checked, passed, check_query}
+use Rattle.query.specs.Answers.{checked_as}
 use Rattle.answer.specs.Ask.{if_passed, admitted}
 use Rattle.answer.specs.Admitted.{Admitted}
 
 module _ (h : Header) (ws qs cs : List ℕ) where
-  pub unsound-first : sound h ws ≡ false → Err unsound ≡ admitted h ws qs cs
+  pub unsound_refused : (r : Refusal) → scanned h ws ≡ Err r → admitted h ws qs cs ≡ Err r
   unfolding admitted
-  unsound-first e = rw e refl
+  unsound_refused r e = scan_refused h ws _ r e
 
   module _ (e : sound h ws ≡ true) where
-    pub length-second : right_length qs ≡ false → Err bad_query_length ≡ admitted h ws qs cs
+    pub length_refused : right_length qs ≡ false → admitted h ws qs cs ≡ Err BadQueryLength
     unfolding admitted
-    length-second l = rw (e, l) refl
+    length_refused l = rw (e, l) refl
 
     module _ (l : right_length qs ≡ true) where
-      pub check_third : (r : ℕ) → r ≡ check_number (check_query h.relations h.arities qs cs) → (r ≡ 0 → ⊥) → Err r ≡ admitted h ws qs cs
+      pub check_refused : (r : Refusal) → checked_as (check_query h.relations h.arities qs cs) ≡ Err r → admitted h ws qs cs ≡ Err r
       unfolding admitted
-      check_third r is some = rw (e, l) (go (check_query h.relations h.arities qs cs) _ is)
+      check_refused r p = rw (e, l) (go (check_query h.relations h.arities qs cs) _ p)
         where
-          go : (c : Checked) (a : Answer) → r ≡ check_number c → Err r ≡ if_passed c a
-          go (read done s) a p = absurd (some p)
-          go (refused q) a p = ap Err p
+          go : (c : Checked) (a : Answer) → checked_as c ≡ Err r → if_passed c a ≡ Err r
+          go (read done s) a p = cc
+          go (refused q) a p = cc
 
       pub none-refused : (s : Scopes) → check_query h.relations h.arities qs cs ≡ passed s → Ok (length (rows h ws)) ≡ admitted h ws qs cs
       unfolding admitted
       none-refused s p = rw (e, l, p) refl
+
+      pub check_passed : checked_as (check_query h.relations h.arities qs cs) ≡ Ok tt → admitted h ws qs cs ≡ Ok (length (rows h ws))
+      unfolding admitted
+      check_passed p = rw (e, l) (go (check_query h.relations h.arities qs cs) _ p)
+        where
+          go : (c : Checked) (a : Answer) → checked_as c ≡ Ok tt → if_passed c a ≡ a
+          go (read done s) a p = refl
+          go (refused q) a p = cc
 
   pub admitted_done : (k : ℕ) → admitted h ws qs cs ≡ Ok k → Admitted h ws qs cs k
   unfolding admitted
@@ -53,4 +62,4 @@ module _ (h : Header) (ws qs cs : List ℕ) where
           (c : Checked) → check_query h.relations h.arities qs cs ≡ c → sound h ws ≡ true → right_length qs ≡ true →
           if_passed c (Ok (length (rows h ws))) ≡ Ok k → Admitted h ws qs cs k
       go (read done s) p is_sound right d = record { is_sound = is_sound; right = right; scopes = s; passes = p; counted = cc }
-      go (refused r) p is_sound right d = let z : ◌≡◌ {A = ℕ} 0 1 = cc in absurd (zero_not_one z)
+      go (refused r) p is_sound right d = cc

@@ -9,6 +9,7 @@ use lib.Seq.{take_at, take_all, get_or-take}
 use borrow.Author.Tests.{le-leb, lt-leb}
 use Rattle.calculus.specs.Answer.{Answer}
 use Rattle.std.specs.Prelude.{Ok, Err}
+use Rattle.calculus.specs.declared.refusal.Refusal.{Refusal}
 use Rattle.calculus.specs.Answer.{after}
 use Rattle.calculus.specs.declared.refusal.Refusal.TheVariants.{BufferTooShort}
 use Rattle.calculus.specs.Row.{Row}
@@ -28,9 +29,9 @@ use Rattle.query.specs.Named.{named_in, query_of, HasTerms}
 use Rattle.query.proofs.Passed.{few-cells, count-within, node-well_formed}
 use Rattle.instance.specs.RowCounts.{row_counts}
 use Rattle.instance.proofs.RowCounts.{row-count_at, row_counts-size}
-use Rattle.known.specs.Known.{known_words, flag_words, flags_from, arities_in, places_in, flag_at, unpassed}
-use Rattle.known.proofs.Walking.{no_flags, unpassed-all}
-use Rattle.known.proofs.Parts.{counts_front, arities_middle, front_size, layout_size, arities-kept, counts-kept, places_behind}
+use Rattle.known.specs.declared.Known.{Known}
+use Rattle.known.specs.Known.{arities_in, places_in, flag_at, unpassed, SameBesides}
+use Rattle.known.proofs.Walking.{unpassed-all}
 use Rattle.range.specs.Walked.{walked_range}
 use Rattle.range.proofs.Walked.{walked_range_lem}
 use Rattle.answer.specs.Asked.{Asked}
@@ -48,13 +49,13 @@ use Rattle.instance.proofs.Sound.{sound_gives}
 
 -- a question that is not admitted is refused by every way of asking
 pub admitted-refused :
-    (h : Header) (ws qs cs : List ℕ) (lent : Lent) (r : ℕ) → admitted h ws qs cs ≡ Err r → askable h ws qs cs lent ≡ Err r
+    (h : Header) (ws qs cs : List ℕ) (lent : Lent) (r : Refusal) → admitted h ws qs cs ≡ Err r → askable h ws qs cs lent ≡ Err r
 unfolding askable
 admitted-refused h ws qs cs lent r d = rw d refl
 
 -- the answer to a question that is refused, and to one that is not
 module _ (h : Header) (ws qs cs : List ℕ) (lent : Lent) (budget : ℕ) where
-  pub refused-asked : (r : ℕ) → askable h ws qs cs lent ≡ Err r → Err r ≡ ask h ws qs cs lent budget
+  pub refused-asked : (r : Refusal) → askable h ws qs cs lent ≡ Err r → Err r ≡ ask h ws qs cs lent budget
   unfolding ask
   refused-asked r e = sym (ap (λ (x : Answer). answered_by x (within budget (outcome_by lent (model_of h ws cs) (query_of h.arities qs)))) e)
 
@@ -68,7 +69,7 @@ module _ (h : Header) (ws qs cs : List ℕ) (lent : Lent) (budget : ℕ) where
 
 -- the list that was lent
 module _ (h : Header) (ws qs cs buffer : List ℕ) where
-  pub refused-buffer : (r : ℕ) → askable h ws qs cs (list buffer) ≡ Err r → buffer ≡ asked_buffer h ws qs cs buffer
+  pub refused-buffer : (r : Refusal) → askable h ws qs cs (list buffer) ≡ Err r → buffer ≡ asked_buffer h ws qs cs buffer
   unfolding asked_buffer
   refused-buffer r e = sym (ap (λ (x : Answer). after x (overwrite (range_over (named_in h.arities qs) (rows h ws)) buffer) buffer) e)
 
@@ -89,42 +90,25 @@ module _ (h : Header) (ws qs cs buffer : List ℕ) where
 pub no_list : (h : Header) (ws qs cs : List ℕ) (count : ℕ) → Admitted h ws qs cs count → Asks h ws qs cs none
 no_list h ws qs cs count a = record { is_sound = a.is_sound; right = a.right; scopes = a.scopes; passes = a.passes; room = refl }
 
--- the array holds an instance's row counts and arities
-pub record Described (h : Header) (ws table : List ℕ) : Type 0 where
-  pub size : length table ≡ known_words
-  pub counts : take max_relations table ≡ row_counts (rows_from h.arities 0 (take h.used ws))
+-- what is known holds an instance's row counts and arities
+pub record Described (h : Header) (ws : List ℕ) (table : Known) : Type 0 where
+  pub counts : table.counts ≡ row_counts (rows_from h.arities 0 (take h.used ws))
   pub arities : arities_in table ≡ h.arities
 
-module _ (h : Header) (ws table : List ℕ) (eight : length h.arities ≡ max_relations) (is_sound : sound h ws ≡ true)
-    (places : ℕ) (is-written : table ≡ h.counts ++ h.arities ++ places ∷ replicate flag_words 0) where
-  abbrev rs : List Row
-  rs = rows_from h.arities 0 (take h.used ws)
-
-  -- the header's counts are those of the rows
-  is : table ≡ row_counts rs ++ h.arities ++ places ∷ replicate flag_words 0
-  unfolding rows
-  is = is-written ∙ ap (λ (l : List ℕ). l ++ h.arities ++ places ∷ replicate flag_words 0) (sound_gives h ws is_sound).counted
-
-  pub described : Described h ws table
-  described = record {
-    size = ap length is ∙ layout_size (row_counts rs) h.arities (places ∷ replicate flag_words 0) (row_counts-size rs) eight;
-    counts = ap (take max_relations) is ∙ counts_front (row_counts rs) h.arities (places ∷ replicate flag_words 0) (row_counts-size rs) eight;
-    arities = ap arities_in is ∙ arities_middle (row_counts rs) h.arities (places ∷ replicate flag_words 0) (row_counts-size rs) eight;
-  }
-
-  pub described_unflagged : (p : ℕ) → flag_at table p ≡ false
-  described_unflagged p =
-      ap (λ (l : List ℕ). flag_at l p) (is ∙ sym (append_assoc (row_counts rs ++ h.arities) (places ∷ []) (replicate flag_words 0))) ∙
-      no_flags (row_counts rs ++ h.arities ++ places ∷ [])
-      (omega (arith, length-append (row_counts rs ++ h.arities) (places ∷ []), front_size (row_counts rs) h.arities [] (row_counts-size rs) eight)) flag_words p
-
-  pub described_places : places_in table ≡ places
-  described_places = ap places_in is ∙ places_behind (row_counts rs) h.arities (replicate flag_words 0) places (row_counts-size rs) eight
+-- the header's counts are those of the rows
+pub described :
+    (h : Header) (ws : List ℕ) (table : Known) → sound h ws ≡ true → table.counts ≡ h.counts → table.arities ≡ h.arities →
+    Described h ws table
+unfolding rows
+described h ws table is_sound counts arities = record {
+  counts = counts ∙ (sound_gives h ws is_sound).counted;
+  arities = arities;
+}
 
 -- a question that is admitted is ready to be evaluated
-module _ (h : Header) (ws qs cs : List ℕ) (count : ℕ) (a : Admitted h ws qs cs count) (eight : length h.arities ≡ max_relations) where
+module _ (h : Header) (ws qs cs : List ℕ) (count : ℕ) (a : Admitted h ws qs cs count) where
   pub made-ready :
-      (table : List ℕ) → Described h ws table →
+      (table : Known) → Described h ws table →
       Ready h.arities (take h.used ws) qs table × ((0 < node_count qs) × (length cs ≤ variables))
   made-ready table d =
       let rs = rows_from h.arities 0 (take h.used ws) in
@@ -132,21 +116,19 @@ module _ (h : Header) (ws qs cs : List ℕ) (count : ℕ) (a : Admitted h ws qs 
       let within = count-within qs a.right in (
         record {
           given = record { relations = h.relations; well_formed = g.well_formed };
-          eight = eight;
           whole = within.2;
           nodes_few = within.1;
           nodes = node-well_formed h.relations h.arities qs cs a.right a.scopes a.passes;
           counted = λ r l.
               let low : r < max_relations = omega (arith, l, g.headed.few) in
-              sym (get_or-take max_relations table r 0 low) ∙ ap (λ (z : List ℕ). get_or z r 0) d.counts ∙ row-count_at rs r low;
-          size = d.size;
+              ap (λ (z : List ℕ). get_or z r 0) d.counts ∙ row-count_at rs r low;
         },
         (within.0, omega (arith, few-cells h.relations h.arities qs cs a.right a.scopes a.passes)),
       )
 
   -- with the arities as the array has them
   pub evaluable :
-      (table values : List ℕ) → Described h ws table → Ranged h.arities (take h.used ws) qs table values →
+      (table : Known) (values : List ℕ) → Described h ws table → Ranged h.arities (take h.used ws) qs table values →
       (Ready (arities_in table) (take h.used ws) qs table × Ranged (arities_in table) (take h.used ws) qs table values) ×
       ((0 < node_count qs) × (length cs ≤ variables))
   evaluable table values d ranged =
@@ -154,15 +136,9 @@ module _ (h : Header) (ws qs cs : List ℕ) (count : ℕ) (a : Admitted h ws qs 
       subst (λ (ars : List ℕ). (Ready ars (take h.used ws) qs table × Ranged ars (take h.used ws) qs table values) × ((0 < node_count qs) × (length cs ≤ variables)))
       (sym d.arities) ((made.0, ranged), made.1)
 
--- the array is still described if only flags were set
-pub described-kept :
-    (h : Header) (ws before table : List ℕ) → Described h ws before → length table ≡ known_words → take flags_from table ≡ take flags_from before →
-    Described h ws table
-described-kept h ws before table d size kept = record {
-  size = size;
-  counts = counts-kept table before size d.size kept ∙ d.counts;
-  arities = arities-kept table before size d.size kept ∙ d.arities;
-}
+-- it is still described if only flags were set
+pub described-kept : (h : Header) (ws : List ℕ) (before table : Known) → Described h ws before → SameBesides before table → Described h ws table
+described-kept h ws before table d kept = record { counts = kept.counts ∙ d.counts; arities = kept.arities ∙ d.arities }
 
 -- what a pass over the question's terms may assume
 pub has_terms : (h : Header) (ws qs cs : List ℕ) (count : ℕ) → Admitted h ws qs cs count → length h.arities ≡ max_relations → HasTerms h.arities qs
@@ -180,7 +156,7 @@ has_terms h ws qs cs count a eight =
 
 -- the instance's own words and then the question's; no flag is needed if no node ranges over values
 pub walked-ranged :
-    (h : Header) (ws qs table : List ℕ) → sound h ws ≡ true → places_in table ≡ h.used + length qs →
+    (h : Header) (ws qs : List ℕ) (table : Known) → sound h ws ≡ true → places_in table ≡ h.used + length qs →
     (ranges_among qs (node_count qs) ≡ true → unpassed table 0 (take h.used ws ++ qs) ≡ walked_range (named_in h.arities qs) (rows_from h.arities 0 (take h.used ws))) →
     Ranged h.arities (take h.used ws) qs table (take h.used ws)
 walked-ranged h ws qs table e places walks =
@@ -201,7 +177,7 @@ walked-ranged h ws qs table e places walks =
 
 -- a list of the range, with no flag
 pub listed-ranged :
-    (h : Header) (ws qs table values : List ℕ) → places_in table ≡ length values → ((p : ℕ) → flag_at table p ≡ false) → length values ≤ max_words →
+    (h : Header) (ws qs : List ℕ) (table : Known) (values : List ℕ) → places_in table ≡ length values → ((p : ℕ) → flag_at table p ≡ false) → length values ≤ max_words →
     values ≡ range_over (named_in h.arities qs) (rows_from h.arities 0 (take h.used ws)) → Ranged h.arities (take h.used ws) qs table values
 listed-ranged h ws qs table values places unflagged few are =
     record {
@@ -212,7 +188,7 @@ listed-ranged h ws qs table values places unflagged few are =
 
 -- the answer of the evaluation, with the arities as the array has them
 pub evaluated-top :
-    (h : Header) (ws qs cs : List ℕ) (budget : ℕ) (table : List ℕ) → Described h ws table →
+    (h : Header) (ws qs cs : List ℕ) (budget : ℕ) (table : Known) → Described h ws table →
     (r : Asked) → r ≡ evaluated_as (within budget (eval (world (arities_in table) (take h.used ws) qs) (formula_of (arities_in table) qs) (assignment cs))) →
     r ≡ evaluated_as (within budget (outcome_of (model_of h ws cs) (query_of h.arities qs)))
 unfolding rows

@@ -6,3 +6,4 @@ pub mod Admitted
 pub mod Rerun
 pub mod Numbers
 pub mod Repeats
+pub mod Top

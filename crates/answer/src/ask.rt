@@ -15,11 +15,12 @@ use super::asked::Asked;
 use super::top::answer_top;
 use calculus::refusal::Refusal;
 use domain::list_range;
+use evaluate::nodes::Asking;
 use instance::header::Header;
 use known::Known;
 use query::inked::count_named;
 
-// Answers by the list of the range. The array is a local of this function, so that it can take the place on the
+// Answers by the list of the range. What is known is a local of this function, so that it can take the place on the
 // stack that the listing has left.
 fn answer_listed(
     header: Header,
@@ -37,7 +38,13 @@ fn answer_listed(
 {
     let used = header.used as usize;
     let known = Known::new(&header.counts, &header.arities, values.len());
-    answer_top(&instance[..used], query, &known, values, candidate, budget)
+    let asking = Asking {
+        query,
+        values,
+        words: &instance[..used],
+        known: &known,
+    };
+    answer_top(&asking, candidate, budget)
 }
 
 pub fn ask(

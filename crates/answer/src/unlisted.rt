@@ -1,10 +1,10 @@
 // Asking a question of an instance with no list: the quantifiers walk the instance's own words, and then the
 // question's.
-ghost use Rattle.std.specs.Prelude.{◌≡◌, true, false, ◌++◌, ℕ, ◌*◌, ◌≤◌, length, take};
+ghost use Rattle.std.specs.Prelude.{◌≡◌, true, false, ◌++◌, ℕ, ◌*◌, ◌≤◌, length};
 ghost use Rattle.calculus.specs.Model.{outcome_of};
 ghost use Rattle.instance.specs.InstanceWellFormed.{InstanceOf};
 ghost use Rattle.instance.specs.Run.{model_of};
-ghost use Rattle.known.specs.Known.{known_words, max_query_words, flags_from, arities_in, flag_at, unpassed};
+ghost use Rattle.known.specs.Known.{max_query_words, arities_in, flag_at, unpassed, SameBesides};
 ghost use Rattle.query.specs.Words.{node_count, node_words};
 ghost use Rattle.query.specs.Named.{named_in, query_of, HasTerms};
 ghost use Rattle.instance.specs.Rows.{rows_from};
@@ -16,6 +16,7 @@ ghost use Rattle.answer.specs.Ranging.{ranges_among};
 use super::admit::admit;
 use super::asked::Asked;
 use super::top::answer_top;
+use evaluate::nodes::Asking;
 use instance::header::Header;
 use known::Known;
 use query::words::NODE_WORDS;
@@ -31,17 +32,20 @@ fn ranging(query: &[u32]) -> bool
     requires { node_count query.now * node_words ≡ length query.now }
     ensures { result ≡ ranges_among query.now (node_count query.now) }
 {
-    query
-        .chunks_exact(NODE_WORDS)
-        .any(|node| (SOME..=EVERY).contains(&node[0]))
+    for node in 0..query.len() / NODE_WORDS {
+        if (SOME..=EVERY).contains(&query[node * NODE_WORDS]) {
+            return true;
+        }
+    }
+    false
 }
 
 // Sets the flag of each place that a walk over the range passes over, if a node ranges over values.
 fn pass_for(words: &[u32], query: &[u32], arities: &[u32; 8], known: &mut Known)
     requires instance_of { InstanceOf (arities_in known.old) words.now × HasTerms arities.now query.now
         × (arities_in known.old ≡ arities.now) × (length query.now ≤ max_query_words) }
-    requires known_len { (length known.old ≡ known_words) × ((p : ℕ) → flag_at known.old p ≡ false) }
-    ensures kept { (length known.new ≡ known_words) × (take flags_from known.new ≡ take flags_from known.old) }
+    requires no_flags { (p : ℕ) → flag_at known.old p ≡ false }
+    ensures kept { SameBesides known.old known.new }
     ensures walked { ranges_among query.now (node_count query.now) ≡ true
         → unpassed known.new 0 (words.now ++ query.now)
         ≡ walked_range (named_in arities.now query.now)
@@ -70,5 +74,11 @@ pub fn ask_unlisted(
     let words = &instance[..used];
     let mut known = Known::new(&header.counts, &header.arities, used + query.len());
     pass_for(words, query, &header.arities, &mut known);
-    answer_top(words, query, &known, words, candidate, budget)
+    let asking = Asking {
+        query,
+        values: words,
+        words,
+        known: &known,
+    };
+    answer_top(&asking, candidate, budget)
 }

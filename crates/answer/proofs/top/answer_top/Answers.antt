@@ -4,33 +4,18 @@ use mathlib.Core.Path.{◌≡◌, ap, sym, ◌∙◌}
 use mathlib.Core.List.{List}
 use native.Mathlib.Omega.{arith}
 use Rattle.query.specs.Words.{node_count}
-use Rattle.query.specs.Tree.{formula_of}
-use Rattle.calculus.specs.Eval.{eval}
 use Rattle.calculus.specs.Formula.{assignment}
-use Rattle.evaluate.specs.Ready.{world}
 use Rattle.evaluate.specs.Within.{within}
-use Rattle.known.specs.Known.{arities_in}
 use Rattle.answer.specs.Ask.{evaluated_as}
+use Rattle.answer.specs.Top.{outcome_in}
 use Rattle.answer.proofs.top.answer_top.Goals as goal
-use Rattle.answer.proofs.top.answer_top.Goals.{After-evaluate, Start}
+use Rattle.answer.proofs.top.answer_top.Goals.{After-evaluate}
 
 -- the outcome of the whole question within the budget
-module _ (c : After-evaluate) where
-  abbrev start : Start
-  start = c.before.before.before.before.before.before.before.before
-
-  whole :
-      c.evaluate.result ≡
-      within start.args.budget
-      (eval (world (arities_in start.args.known.now) start.args.words.now start.args.query.now) (formula_of (arities_in start.args.known.now) start.args.query.now)
-      (assignment start.args.candidate.now))
-  whole =
-      c.evaluate.ensures.right (node_count start.args.query.now) (omega arith) ∙
-      ap
-      (λ (e : List ℕ).
-      within start.args.budget
-      (eval (world (arities_in start.args.known.now) start.args.words.now start.args.query.now) (formula_of (arities_in start.args.known.now) start.args.query.now) e))
-      c.assigned-env.ensures
+whole : (c : After-evaluate) → c.evaluate.result ≡ within c.args.budget (outcome_in c.args.asking.now (assignment c.args.candidate.now))
+whole c =
+    c.evaluate.ensures.right (node_count c.args.asking.now.query.now) (omega arith)
+    ∙ ap (λ (e : List ℕ). within c.args.budget (outcome_in c.args.asking.now e)) c.assigned-env.ensures
 
 pub returns-in-Verdict : goal.returns-in-Verdict
 returns-in-Verdict c = ap evaluated_as (sym c.in-Verdict.is ∙ whole (goal.at.returns-in-Verdict c).After-evaluate)

@@ -1,5 +1,6 @@
 -- `answer::unlisted::pass_for` meets its contract. Assumes nothing.
-use mathlib.Core.Path.{refl, sym, ◌∙◌}
+use mathlib.Core.Path.{sym, ◌∙◌}
+use Rattle.known.proofs.Setting.{kept_same}
 use Rattle.calculus.proofs.Bools.{false_not_true}
 use Rattle.answer.proofs.unlisted.pass_for.Goals as goal
 
@@ -8,7 +9,7 @@ ranging-requires c = c.requires.instance_of.1.whole
 
 pub pass_over-requires : goal.pass_over-requires
 pass_over-requires c =
-    record { instance_of = c.requires.instance_of; known_len = c.requires.known_len }
+    record { instance_of = c.requires.instance_of; no_flags = c.requires.no_flags }
 
 pub returns-then-ranging : goal.returns-then-ranging
 returns-then-ranging c =
@@ -19,7 +20,7 @@ returns-then-ranging c =
 
 pub returns-else-ranging : goal.returns-else-ranging
 returns-else-ranging c =
-    let p = c.requires in record {
-      kept = (p.known_len.0, refl);
+    record {
+      kept = kept_same;
       walked = λ some. false_not_true (sym (sym c.ranging.ensures ∙ c.if-ranging.false) ∙ some);
     }
