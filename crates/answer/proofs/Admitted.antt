@@ -8,35 +8,36 @@ use Rattle.calculus.specs.Answer.{Answer}
 use Rattle.std.specs.Prelude.{Ok, Err}
 use Rattle.calculus.specs.Reading.{refused, read}
 use Rattle.calculus.specs.declared.refusal.Refusal.TheVariants.{Unsound, BadQueryLength}
-use Rattle.calculus.specs.Refusal.{unsound, bad_query_length}
+use Rattle.calculus.specs.declared.refusal.Refusal.{Refusal}
 use Rattle.calculus.proofs.Answers.{demand_done}
 use Rattle.calculus.proofs.Bools.{zero_not_one}
 use Rattle.instance.specs.declared.header.Header.{Header}
 use Rattle.instance.specs.Sound.{sound, rows}
 use Rattle.query.specs.Words.{right_length}
 use Rattle.query.specs.declared.scopes.Scopes.{Scopes}
-use Rattle.query.specs.Check.{Checked, passed, check_query, check_number}
+use Rattle.query.specs.Check.{Checked, passed, check_query}
+use Rattle.query.specs.Answers.{checked_as}
 use Rattle.answer.specs.Ask.{if_passed, admitted}
 use Rattle.answer.specs.Admitted.{Admitted}
 
 module _ (h : Header) (ws qs cs : List ℕ) where
-  pub unsound-first : sound h ws ≡ false → Err unsound ≡ admitted h ws qs cs
+  pub unsound-first : sound h ws ≡ false → Err Unsound ≡ admitted h ws qs cs
   unfolding admitted
   unsound-first e = rw e refl
 
   module _ (e : sound h ws ≡ true) where
-    pub length-second : right_length qs ≡ false → Err bad_query_length ≡ admitted h ws qs cs
+    pub length-second : right_length qs ≡ false → Err BadQueryLength ≡ admitted h ws qs cs
     unfolding admitted
     length-second l = rw (e, l) refl
 
     module _ (l : right_length qs ≡ true) where
-      pub check_third : (r : ℕ) → r ≡ check_number (check_query h.relations h.arities qs cs) → (r ≡ 0 → ⊥) → Err r ≡ admitted h ws qs cs
+      pub check_third : (why : Refusal) → Err why ≡ checked_as (check_query h.relations h.arities qs cs) → Err why ≡ admitted h ws qs cs
       unfolding admitted
-      check_third r is some = rw (e, l) (go (check_query h.relations h.arities qs cs) _ is)
+      check_third why is = rw (e, l) (go (check_query h.relations h.arities qs cs) _ is)
         where
-          go : (c : Checked) (a : Answer) → r ≡ check_number c → Err r ≡ if_passed c a
-          go (read done s) a p = absurd (some p)
-          go (refused q) a p = ap Err p
+          go : (c : Checked) (a : Answer) → Err why ≡ checked_as c → Err why ≡ if_passed c a
+          go (read done s) a p = cc
+          go (refused q) a p = let same : why ≡ q = cc in ap Err same
 
       pub none-refused : (s : Scopes) → check_query h.relations h.arities qs cs ≡ passed s → Ok (length (rows h ws)) ≡ admitted h ws qs cs
       unfolding admitted
