@@ -31,7 +31,9 @@ use Rattle.calculus.specs.Formula.{inked_query}
 use Rattle.query.specs.declared.scopes.Scopes.{Scopes}
 use Rattle.query.specs.Check.{passed, check_query}
 use Rattle.query.proofs.Passed.{passed-constants, are_cells_lem, same-candidate}
+use Rattle.answer.specs.declared.asked.Verdict.{Verdict}
 use Rattle.answer.specs.Asked.{verdict}
+use Rattle.calculus.specs.declared.refusal.Refusal.{Refusal}
 use Rattle.evaluate.specs.declared.evaluated.Evaluated.{Evaluated}
 use Rattle.evaluate.specs.declared.evaluated.Evaluated.TheVariants as evaluated
 use Rattle.evaluate.specs.Within.{within}
@@ -40,7 +42,7 @@ use Rattle.answer.specs.Ways.{NoShorter}
 use Rattle.answer.proofs.Admitted.{none-refused, admitted_done}
 use Rattle.answer.proofs.Ways.{outcome_by_lem}
 use Rattle.answer.specs.Rerun.{DemandThree}
-use Rattle.evaluate.proofs.Budget.{verdict, was_verdict}
+use Rattle.evaluate.proofs.Budget.{verdict as within_budget, was_verdict}
 use Rattle.calculus.proofs.Bools.{and_intro, zero_not_one}
 
 -- what follows from a verdict: nothing before it was refused
@@ -96,8 +98,9 @@ verdict-asked h ws qs candidate lent budget t n =
         answered_by a e ≡ verdict t n →
         Asks h ws qs candidate lent × (within budget (outcome_of (model_of h ws candidate) (query_of h.arities qs)) ≡ evaluated.Verdict t n)
     go (Ok k) p (evaluated.Verdict u m) q r =
-        let truths : u ≡ t = cc in
-        let costs : m ≡ n = cc in
+        let same : ◌≡◌ {A = Verdict} (record { truth = u; cost = m }) (record { truth = t; cost = n }) = cc in
+        let truths : u ≡ t = ap (λ (v : Verdict). v.truth) same in
+        let costs : m ≡ n = ap (λ (v : Verdict). v.cost) same in
         (asks_done h ws qs candidate lent k p, q ∙ ap (λ (x : Truth). evaluated.Verdict x m) truths ∙ ap (evaluated.Verdict t) costs)
     go (Ok k) p evaluated.Spent q r = let z : ◌≡◌ {A = ℕ} 0 1 = cc in absurd (zero_not_one z)
     go (Err k) p e q r = let z : ◌≡◌ {A = ℕ} 0 1 = cc in absurd (zero_not_one z)
@@ -112,10 +115,10 @@ unfolding ask
 asked-verdict h ws qs candidate lent budget a fits =
     let o = outcome_of (model_of h ws candidate) (query_of h.arities qs) in
     ap (λ (x : Answer). answered_by x (within budget (outcome_by lent (model_of h ws candidate) (query_of h.arities qs)))) (askable_done h ws qs candidate lent a) ∙
-    ap (λ (o : Outcome). evaluated_as (within budget o)) (outcome_by_lem lent (model_of h ws candidate) (query_of h.arities qs)) ∙ ap evaluated_as (verdict budget o fits)
+    ap (λ (o : Outcome). evaluated_as (within budget o)) (outcome_by_lem lent (model_of h ws candidate) (query_of h.arities qs)) ∙ ap evaluated_as (within_budget budget o fits)
 
 -- a refusal is not a verdict
-pub not_refused : {t : Truth} {n r : ℕ} → Err r ≡ verdict t n → ⊥
+pub not_refused : {t : Truth} {n : ℕ} {r : Refusal} → Err r ≡ verdict t n → ⊥
 not_refused e = let z : ◌≡◌ {A = ℕ} 0 1 = cc in omega arith
 
 -- every constant of the question is an inked value
