@@ -9,14 +9,13 @@ use lib.ListN.{length, drop, get_or, length-append, length-drop}
 use lib.Count.{ones}
 use lib.Dec.{leb, eqb}
 use borrow.Author.Tests.{leb-true, le-leb, lt-leb, eq-eqb, ne_eqb}
-use Rattle.calculus.specs.Answer.{Answer}
 use Rattle.std.specs.Prelude.{Ok, Err}
 use Rattle.calculus.specs.Cell.{nulls}
 use Rattle.calculus.specs.Overwrite.{overwrite}
 use Rattle.calculus.specs.Reading.{read, refused, and_then}
+use Rattle.calculus.specs.declared.refusal.Refusal.{Refusal}
 use Rattle.calculus.specs.declared.refusal.Refusal.TheVariants.{BytesLeftOver, NullsExhausted, NoRoom}
-use Rattle.calculus.proofs.Bools.{and_parts, zero_not_one}
-use Rattle.instance.specs.declared.header.Header.{Header}
+use Rattle.calculus.proofs.Bools.{and_parts}
 use Rattle.instance.specs.Header.{arities_well_formed, max_columns, max_words, header_with}
 use Rattle.instance.specs.Blanks.{Record, blanks_in, blanks, highest, highest_in, numbered, numbered_rows}
 use Rattle.instance.specs.Room.{has_room}
@@ -29,8 +28,8 @@ use Rattle.parse.proofs.Each.{each_read}
 use Rattle.card.specs.Format.{Head, read_record, read_records, read_head, read_card}
 use Rattle.card.specs.Decode.{Decoded, decoded, decoded_from, accepted, no_header}
 use Rattle.decode.specs.declared.measure.Total.{Total}
-use Rattle.decode.specs.declared.measure.Needed.TheVariants as needed
 use Rattle.decode.specs.Measure.{opened_head, measured_records, words_in, total}
+use Rattle.decode.specs.Restarted.{restarted}
 use Rattle.decode.specs.Write.{WriteRows, rows_read, words_read}
 use Rattle.decode.proofs.Fields.{written_or_blank}
 use Rattle.decode.proofs.Records.{record-read}
@@ -71,38 +70,37 @@ module _ (n : ℕ) (ars : List ℕ) (arities_well_formed_lem : arities_well_form
   records-read = each_read (read_record n ars) RecordsRead records-none one_more
 
 -- what a refused call returns, and the slice that it leaves
-abbrev pub turned_down : ℕ → List ℕ → Decoded
+abbrev pub turned_down : Refusal → List ℕ → Decoded
 turned_down why slice = record { answer = Err why; header = no_header; words = slice }
 
 module _ (card slice : List ℕ) where
-  -- if a call is refused, its answer and header are those of the definition, and the slice keeps its content
-  pub down : {a : Answer} {header : Header} (why : ℕ) → a ≡ Err why → header ≡ no_header → decoded card slice ≡ turned_down why slice
-      → (a ≡ (decoded card slice).answer) × ((header ≡ (decoded card slice).header) × (slice ≡ (decoded card slice).words))
-  down why p q e = rw (p, q, e) (refl, (refl, refl))
+  -- a call that is refused, and leaves the slice as it was
+  pub down : (why : Refusal) → decoded card slice ≡ turned_down why slice → (Err why ≡ restarted (decoded card slice)) × (slice ≡ (decoded card slice).words)
+  down why e = rw e (refl, refl)
 
-  pub head_turned : (why : ℕ) → (opened_head (read_head card)).answer ≡ Err why → decoded card slice ≡ turned_down why slice
+  pub head_turned : (why : Refusal) → Err why ≡ opened_head (read_head card) → decoded card slice ≡ turned_down why slice
   unfolding decoded decoded_from read_card opened_head
   head_turned why = go (read_head card)
     where
-      go : (p : Parsed Head) → (opened_head p).answer ≡ Err why
+      go : (p : Parsed Head) → Err why ≡ opened_head p
           → decoded_from
           (and_then p
           (λ h bs. and_then (read_records h.relations h.arities h.count bs) (λ rs bs. read (record { head = h; records = rs }) bs)))
           slice
           ≡ turned_down why slice
-      go (read h rest) a = let z : ◌≡◌ {A = ℕ} 0 1 = cc in absurd (zero_not_one z)
+      go (read h rest) a = cc
       go (refused r) a = cc
 
   module _ (n : ℕ) (ars : List ℕ) (count : ℕ) (h : Opened card n ars count) where
-    pub records_turned : (why : ℕ) → measured_records (length card) (read_records n ars count (drop (n + 3) card)) ≡ needed.Refused why
+    pub records_turned : (why : Refusal) → measured_records (length card) (read_records n ars count (drop (n + 3) card)) ≡ Err why
         → decoded card slice ≡ turned_down why slice
     unfolding decoded decoded_from read_card measured_records
     records_turned why e = rw h.was_read (go (read_records n ars count (drop (n + 3) card)) e)
       where
-        go : (p : Parsed (List Record)) → measured_records (length card) p ≡ needed.Refused why
+        go : (p : Parsed (List Record)) → measured_records (length card) p ≡ Err why
             → decoded_from (and_then p (λ rs bs. read (record { head = record { relations = n; arities = ars; count = count }; records = rs }) bs)) slice
             ≡ turned_down why slice
-        go (read rs rest) a = let z : ◌≡◌ {A = ℕ} 0 1 = cc in absurd (zero_not_one z)
+        go (read rs rest) a = cc
         go (refused r) a = cc
 
     -- a card all of whose records were read
@@ -116,11 +114,11 @@ module _ (card slice : List ℕ) where
       pub total-is : t ≡ total (length card) records rest
       pub known : RecordsRead count (drop (n + 3) card) records rest
 
-    pub card-read : (t : Total) → measured_records (length card) (read_records n ars count (drop (n + 3) card)) ≡ needed.Records t → CardRead t
+    pub card-read : (t : Total) → measured_records (length card) (read_records n ars count (drop (n + 3) card)) ≡ Ok t → CardRead t
     unfolding decoded decoded_from read_card measured_records
     card-read t e = go (read_records n ars count (drop (n + 3) card)) refl e
       where
-        go : (p : Parsed (List Record)) → read_records n ars count (drop (n + 3) card) ≡ p → measured_records (length card) p ≡ needed.Records t
+        go : (p : Parsed (List Record)) → read_records n ars count (drop (n + 3) card) ≡ p → measured_records (length card) p ≡ Ok t
             → CardRead t
         go (read rs rest) e a = record {
           records = rs;
@@ -130,7 +128,7 @@ module _ (card slice : List ℕ) where
           total-is = cc;
           known = records-read n ars h.arities_well_formed_lem count (drop (n + 3) card) e;
         }
-        go (refused r) e a = let z : ◌≡◌ {A = ℕ} 0 1 = cc in absurd (zero_not_one z)
+        go (refused r) e a = cc
 
     module _ (t : Total) (c : CardRead t) where
       end_is : t.end ≡ length card - length c.rest

@@ -6,11 +6,11 @@ use mathlib.Core.List.{List}
 use native.Mathlib.Omega.{arith}
 use lib.ListN.{length, drop, get_or, length-drop}
 use lib.Seq.{drop-drop}
+use Rattle.std.specs.Prelude.{Ok, Err}
+use Rattle.calculus.specs.declared.refusal.Refusal.{Refusal}
 use Rattle.instance.specs.Blanks.{blanks, highest}
 use Rattle.instance.specs.Header.{arities_well_formed, max_columns}
 use Rattle.parse.specs.Parse.{read_each}
-use Rattle.decode.specs.declared.measure.Measured.TheVariants as measured
-use Rattle.decode.specs.declared.measure.Needed.TheVariants as needed
 use Rattle.card.specs.Format.{read_record, read_records}
 use Rattle.decode.specs.Measure.{measured_record, measured_records, words_in}
 use Rattle.instance.proofs.Rows.{arity_low}
@@ -64,7 +64,7 @@ module _ (card : List ℕ) (start n : ℕ) (ars : List ℕ) (count : ℕ) where
     }
 
     pub next-turn : (arity written h : ℕ) → arities_well_formed n ars ≡ true
-        → measured_record (read_record n ars (drop at card)) ≡ measured.Record arity written h
+        → measured_record (read_record n ars (drop at card)) ≡ Ok (record { arity = arity; written = written; highest = h })
         → Turn words blank top at left arity written h
     next-turn arity written h arities_well_formed_lem e =
         let s = step n ars (drop at card) arity written h e in
@@ -79,8 +79,8 @@ module _ (card : List ℕ) (start n : ℕ) (ars : List ℕ) (count : ℕ) where
         ∙ rw (drop-drop (2 + 3 * written) at card) in
         made arity written h low fewer (omega arith) (m.sum ∙ ap (added words blank top) more ∙ added_more words blank top (1 + arity) (arity - written) h rest)
 
-    pub measuring_refused : (why : ℕ) → measured_record (read_record n ars (drop at card)) ≡ measured.Refused why
-        → measured_records (length card) (read_records n ars count (drop start card)) ≡ needed.Refused why
+    pub measuring_refused : (why : Refusal) → measured_record (read_record n ars (drop at card)) ≡ Err why
+        → measured_records (length card) (read_records n ars count (drop start card)) ≡ Err why
     measuring_refused why e =
         m.sum
         ∙ ap (added words blank top)
@@ -89,7 +89,7 @@ module _ (card : List ℕ) (start n : ℕ) (ars : List ℕ) (count : ℕ) where
 
   pub measuring_ends : (words blank top at left : ℕ) → Measuring words blank top at left → left ≤ 0
       → measured_records (length card) (read_records n ars count (drop start card))
-      ≡ needed.Records (record { words = words; blanks = blank; highest = top; end = at })
+      ≡ Ok (record { words = words; blanks = blank; highest = top; end = at })
   unfolding measured_records read_each words_in blanks highest
   measuring_ends words blank top at left m none =
       let a : left ≡ 0 = omega arith in

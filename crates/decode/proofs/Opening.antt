@@ -1,5 +1,5 @@
 -- Reading the head of a card: first the arities, one after the other, and then the head from them. Assumes nothing.
-use Prim.Native.Nat.{ℕ, suc, ◌+◌, ◌-◌, ◌^◌, ◌≤◌, ◌<◌}
+use Prim.Native.Nat.{ℕ, suc, ◌+◌, ◌-◌, ◌≤◌, ◌<◌}
 use mathlib.Core.Path.{◌≡◌, refl, sym, ap, ◌∙◌}
 use mathlib.Core.Bool.{true, false}
 use mathlib.Core.List.{List, [], ◌∷◌, ◌++◌, append_assoc, append-nil}
@@ -8,11 +8,12 @@ use lib.ListN.{length, drop, get_or, set, replicate, length-append, length-drop}
 use lib.Seq.{drop-drop}
 use lib.Dec.{leb}
 use borrow.Author.Tests.{leb-true}
-use Rattle.std.specs.Prelude.{Ok, Err}
+use Rattle.std.specs.Prelude.{Result, Ok, Err}
+use Rattle.calculus.specs.declared.refusal.Refusal.{Refusal}
 use Rattle.calculus.specs.Padded.{padded}
 use Rattle.calculus.specs.Reading.{read, refused, and_then}
 use Rattle.calculus.specs.declared.refusal.Refusal.TheVariants.{CutShort, BadRelationCount, BadArity}
-use Rattle.calculus.proofs.Bools.{and_parts, zero_not_one}
+use Rattle.calculus.proofs.Bools.{and_parts}
 use Rattle.calculus.proofs.Padded.{padded_more}
 use Rattle.instance.specs.Header.{is_count, is_arity, arities_well_formed, max_relations}
 use Rattle.parse.specs.Parse.{Parsed, read_each}
@@ -21,22 +22,13 @@ use Rattle.parse.proofs.Bytes.{byte_at, byte_cut}
 use Rattle.parse.proofs.Numbers.{takes_number, took}
 use Rattle.card.specs.Format.{Head, read_arities, read_head}
 use Rattle.card.proofs.Parts.{arities-read, head_read}
-use Rattle.decode.specs.declared.head.Arities as declared-arities
 use Rattle.decode.specs.declared.head.Head as declared-head
-use Rattle.decode.specs.Measure.{no_arities, opened_arities, no_head, opened_head}
-
--- a refusal counts no rows
-pub none-counted : (why n : ℕ) → Err why ≡ Ok n → n < 256 ^ 2
-none-counted why n e = let z : ◌≡◌ {A = ℕ} 0 1 = cc in absurd (zero_not_one z)
-
-pub refused-head : (card : List ℕ) {r : declared-head.Head} (why : ℕ) → r ≡ no_head why → opened_head (read_head card) ≡ no_head why
-    → (r ≡ opened_head (read_head card)) × ((n : ℕ) → r.answer ≡ Ok n → n < 256 ^ 2)
-refused-head card why p e = rw (p, e) (refl, none-counted why)
+use Rattle.decode.specs.Measure.{opened_arities, opened_head}
 
 -- ---- the loop over the arities, which start at byte 1
 
 -- what is returned for n arities
-abbrev opening : List ℕ → ℕ → declared-arities.Arities
+abbrev opening : List ℕ → ℕ → Result (List ℕ) Refusal
 opening card n = opened_arities [] (read_arities n (drop 1 card))
 
 module _ (card : List ℕ) (n : ℕ) where
@@ -57,12 +49,12 @@ module _ (card : List ℕ) (n : ℕ) where
     one : n - i ≡ suc (n - (i + 1))
     one = omega arith
 
-    pub opening_cut : length card - 1 ≤ i → opening card n ≡ no_arities CutShort
+    pub opening_cut : length card - 1 ≤ i → opening card n ≡ Err CutShort
     unfolding read_each opened_arities
     opening_cut h = o.whole ∙ rw (one, byte_cut is_arity BadArity card (i + 1) (omega arith))
 
     module _ (room : i + 1 < length card) (a : ℕ) (is : a ≡ get_or card (i + 1) 0) where
-      pub opening_bad : is_arity a ≡ false → opening card n ≡ no_arities BadArity
+      pub opening_bad : is_arity a ≡ false → opening card n ≡ Err BadArity
       unfolding read_each opened_arities
       opening_bad e = o.whole ∙ rw (one, byte_at is_arity BadArity card (i + 1) room, ← is, e)
 
@@ -80,32 +72,32 @@ module _ (card : List ℕ) (n : ℕ) where
           go (read ars bs) = rw (append_assoc o.before (a ∷ []) ars)
           go (refused r) = refl
 
-  pub opening_end : (ars : List ℕ) (i : ℕ) → OpeningArities ars i → n ≤ i → record { answer = Ok 0; arities = ars } ≡ opening card n
+  pub opening_end : (ars : List ℕ) (i : ℕ) → OpeningArities ars i → n ≤ i → Ok ars ≡ opening card n
   unfolding opened_arities read_each
   opening_end ars i o h =
       let none : n - i ≡ 0 = omega arith in
       sym (o.whole ∙ rw (none, append-nil o.before, o.array))
 
--- the arities of an accepted answer
-pub arities_opened : (card : List ℕ) (n k : ℕ) → (opening card n).answer ≡ Ok k
-    → (ars : List ℕ) × (rest : List ℕ) × (read_arities n (drop 1 card) ≡ read ars rest) × ((opening card n).arities ≡ padded max_relations ars)
+-- the arities that were read
+pub arities_opened : (card : List ℕ) (n : ℕ) (given : List ℕ) → Ok given ≡ opening card n
+    → (ars : List ℕ) × (rest : List ℕ) × (read_arities n (drop 1 card) ≡ read ars rest) × (given ≡ padded max_relations ars)
 unfolding opened_arities
-arities_opened card n k = go (read_arities n (drop 1 card)) refl
+arities_opened card n given = go (read_arities n (drop 1 card)) refl
   where
-    go : (p : Parsed (List ℕ)) → read_arities n (drop 1 card) ≡ p → (opened_arities [] p).answer ≡ Ok k
-        → (ars : List ℕ) × (rest : List ℕ) × (read_arities n (drop 1 card) ≡ read ars rest) × ((opening card n).arities ≡ padded max_relations ars)
-    go (read ars rest) e a = (ars, rest, e, rw e)
-    go (refused r) e a = let z : ◌≡◌ {A = ℕ} 0 1 = cc in absurd (zero_not_one z)
+    go : (p : Parsed (List ℕ)) → read_arities n (drop 1 card) ≡ p → Ok given ≡ opened_arities [] p
+        → (ars : List ℕ) × (rest : List ℕ) × (read_arities n (drop 1 card) ≡ read ars rest) × (given ≡ padded max_relations ars)
+    go (read ars rest) e a = (ars, rest, e, cc)
+    go (refused r) e a = cc
 
 -- ---- the head
 
-pub head-none : (card : List ℕ) → length card < 1 → opened_head (read_head card) ≡ no_head CutShort
+pub head-none : (card : List ℕ) → length card < 1 → opened_head (read_head card) ≡ Err CutShort
 unfolding read_head opened_head
 head-none card h = rw (byte_cut is_count BadRelationCount card 0 (omega arith))
 
 -- a card that has a first byte n
 module _ (card : List ℕ) (n : ℕ) (some : 1 ≤ length card) (is : n ≡ get_or card 0 0) where
-  pub head_bad : is_count n ≡ false → opened_head (read_head card) ≡ no_head BadRelationCount
+  pub head_bad : is_count n ≡ false → opened_head (read_head card) ≡ Err BadRelationCount
   unfolding read_head opened_head
   head_bad e = rw (byte_at is_count BadRelationCount card 0 some, ← is, e)
 
@@ -118,12 +110,12 @@ module _ (card : List ℕ) (n : ℕ) (some : 1 ≤ length card) (is : n ≡ get_
     unfolding read_head after
     first = rw (byte_at is_count BadRelationCount card 0 some, ← is, good)
 
-    pub head-refused : (why : ℕ) → (opening card n).answer ≡ Err why → opened_head (read_head card) ≡ no_head why
+    pub head-refused : (why : Refusal) → Err why ≡ opening card n → opened_head (read_head card) ≡ Err why
     unfolding opened_arities opened_head after
     head-refused why e = rw first (go (read_arities n (drop 1 card)) e)
       where
-        go : (p : Parsed (List ℕ)) → (opened_arities [] p).answer ≡ Err why → opened_head (after p) ≡ no_head why
-        go (read ars rest) a = let z : ◌≡◌ {A = ℕ} 0 1 = cc in absurd (zero_not_one z)
+        go : (p : Parsed (List ℕ)) → Err why ≡ opened_arities [] p → opened_head (after p) ≡ Err why
+        go (read ars rest) a = cc
         go (refused r) a = cc
 
     module _ (ars rest : List ℕ) (e : read_arities n (drop 1 card) ≡ read ars rest) where
@@ -135,12 +127,12 @@ module _ (card : List ℕ) (n : ℕ) (some : 1 ≤ length card) (is : n ≡ get_
           let same : 1 + n ≡ n + 1 = omega arith in
           (arities-read n (drop 1 card) e).after ∙ drop-drop n 1 card ∙ ap (λ (i : ℕ). drop i card) same
 
-      pub head_cut : length card - (n + 1) < 2 → opened_head (read_head card) ≡ no_head CutShort
+      pub head_cut : length card - (n + 1) < 2 → opened_head (read_head card) ≡ Err CutShort
       unfolding opened_head after
       head_cut h = rw (first, e, place, (takes_number 2).cut (drop (n + 1) card) (rw length-drop h))
 
       pub head-answer : {count : ℕ} {end : List ℕ} → read_number 2 (drop (n + 1) card) ≡ read count end
-          → opened_head (read_head card) ≡ record { answer = Ok count; relations = n; arities = padded max_relations ars }
+          → opened_head (read_head card) ≡ Ok (record { relations = n; arities = padded max_relations ars; rows = count })
       unfolding opened_head after
       head-answer counted = rw (first, e, place, counted)
 
@@ -151,28 +143,27 @@ pub record Opened (card : List ℕ) (n : ℕ) (ars : List ℕ) (count : ℕ) : T
   pub arities_well_formed_lem : arities_well_formed n ars ≡ true
   pub long : n + 3 ≤ length card
 
--- the same for an answer that is known to be the head's
-pub head_opened : (card : List ℕ) (r : declared-head.Head) (k : ℕ) → r ≡ opened_head (read_head card) → r.answer ≡ Ok k
-    → Opened card r.relations r.arities k
+-- the same for a head that is known to be the card's
+pub head_opened : (card : List ℕ) (head : declared-head.Head) → Ok head ≡ opened_head (read_head card) → Opened card head.relations head.arities head.rows
 unfolding opened_head
-head_opened card r k e a = rw e (go (read_head card) refl (rw e at a))
+head_opened card head = go (read_head card) refl
   where
-    go : (p : Parsed Head) → read_head card ≡ p → (opened_head p).answer ≡ Ok k → Opened card (opened_head p).relations (opened_head p).arities k
+    go : (p : Parsed Head) → read_head card ≡ p → Ok head ≡ opened_head p → Opened card head.relations head.arities head.rows
     go (read h rest) e a =
+        let same : head ≡ record { relations = h.relations; arities = h.arities; rows = h.count } = cc in
         let c = head_read card e in
         let t = took (takes_number 2) c.between c.count-read in
         let n = h.relations in
-        let count : h.count ≡ k = cc in
         let three : 1 + (n + 2) ≡ n + 3 = omega arith in
         let last : rest ≡ drop (n + 3) card =
         t.1 ∙ ap (drop 2) c.arities-read.after ∙ drop-drop 2 n c.body ∙ ap (λ (bs : List ℕ). drop (n + 2) (drop 1 bs)) (sym c.bytes) ∙
         drop-drop (n + 2) 1 card ∙ ap (λ (i : ℕ). drop i card) three
         in
         let size : length c.between ≡ length c.body - n = ap length c.arities-read.after ∙ length-drop n c.body in
-        record {
-          was_read = e ∙ rw (last, count);
+        rw same record {
+          was_read = e ∙ rw last;
           few = leb-true n max_relations (and_parts (leb 1 n) (leb n max_relations) c.counted).1;
           arities_well_formed_lem = rw c.arities_are (c.arities-read.arities_well_formed_lem (max_relations - length c.ars));
           long = omega (arith, t.0, c.arities-read.long, ap length c.bytes);
         }
-    go (refused why) e a = let z : ◌≡◌ {A = ℕ} 0 1 = cc in absurd (zero_not_one z)
+    go (refused why) e a = cc

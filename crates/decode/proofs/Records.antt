@@ -10,9 +10,10 @@ use lib.Dec.{ltb}
 use lib.Count.{ones}
 use borrow.Author.Tests.{ltb-true, lt-ltb, le-ltb}
 use Rattle.calculus.specs.Answer.{Answer}
-use Rattle.std.specs.Prelude.{Ok, Err}
+use Rattle.std.specs.Prelude.{Result, Ok, Err}
 use Rattle.calculus.specs.Cell.{nulls}
 use Rattle.calculus.specs.Reading.{read, refused, and_then}
+use Rattle.calculus.specs.declared.refusal.Refusal.{Refusal}
 use Rattle.calculus.specs.declared.refusal.Refusal.TheVariants.{CutShort, NoSuchRelation, BitBeyondArity}
 use Rattle.calculus.proofs.Bools.{zero_not_one}
 use Rattle.instance.specs.Header.{arity_of}
@@ -22,9 +23,7 @@ use Rattle.parse.proofs.Bytes.{byte_at, byte_cut}
 use Rattle.card.specs.Format.{read_fields, read_record, read_records}
 use Rattle.card.proofs.Parts.{fields-well_formed, record-read as parts}
 use Rattle.decode.specs.declared.measure.Measured.{Measured}
-use Rattle.decode.specs.declared.measure.Measured.TheVariants as measured
-use Rattle.decode.specs.declared.measure.Needed.{Needed}
-use Rattle.decode.specs.declared.measure.Needed.TheVariants as needed
+use Rattle.decode.specs.declared.measure.Total.{Total}
 use Rattle.decode.specs.Measure.{read_written, measured_fields, measured_record, measured_records, words_in}
 use Rattle.decode.proofs.Fields.{WrittenRead, written_read, only_written, fields-written, written_or_blank}
 
@@ -70,28 +69,28 @@ record-read n ars bs {r} {rest} e =
     rw whole at made
 
 -- what the first pass returns for a record, from what it returns for the fields
-abbrev pub measured_as : ℕ → ℕ → Answer → Measured
-measured_as arity count (Ok h) = measured.Record arity count h
-measured_as arity count (Err why) = measured.Refused why
+abbrev pub measured_as : ℕ → ℕ → Answer → Result Measured Refusal
+measured_as arity count (Ok h) = Ok (record { arity = arity; written = count; highest = h })
+measured_as arity count (Err why) = Err why
 
 -- What the first pass returns for one record, test by test.
 module _ (n : ℕ) (ars bs : List ℕ) where
-  pub record-none : length bs < 1 → measured_record (read_record n ars bs) ≡ measured.Refused CutShort
+  pub record-none : length bs < 1 → measured_record (read_record n ars bs) ≡ Err CutShort
   unfolding read_record measured_record
   record-none h = rw (byte_cut (λ r. ltb r n) NoSuchRelation bs 0 (omega arith))
 
   module _ (x : ℕ) (some : 0 < length bs) (is : x ≡ get_or bs 0 0) where
-    pub record-unknown : n ≤ x → measured_record (read_record n ars bs) ≡ measured.Refused NoSuchRelation
+    pub record-unknown : n ≤ x → measured_record (read_record n ars bs) ≡ Err NoSuchRelation
     unfolding read_record measured_record
     record-unknown h = rw (byte_at (λ r. ltb r n) NoSuchRelation bs 0 some, ← is, le-ltb x n h)
 
-    pub record_cut : x < n → length bs < 2 → measured_record (read_record n ars bs) ≡ measured.Refused CutShort
+    pub record_cut : x < n → length bs < 2 → measured_record (read_record n ars bs) ≡ Err CutShort
     unfolding read_record measured_record
     record_cut h l =
         rw (byte_at (λ r. ltb r n) NoSuchRelation bs 0 some, ← is, lt-ltb x n h, byte_cut (λ bits. ltb bits (2 ^ arity_of ars x)) BitBeyondArity bs 1 (omega arith))
 
     module _ (bits : ℕ) (known : x < n) (room : 1 < length bs) (map_is : bits ≡ get_or bs 1 0) where
-      pub record_beyond : 2 ^ arity_of ars x ≤ bits → measured_record (read_record n ars bs) ≡ measured.Refused BitBeyondArity
+      pub record_beyond : 2 ^ arity_of ars x ≤ bits → measured_record (read_record n ars bs) ≡ Err BitBeyondArity
       unfolding read_record measured_record
       record_beyond h =
           rw (byte_at (λ r. ltb r n) NoSuchRelation bs 0 some, ← is, lt-ltb x n known, byte_at (λ bits. ltb bits (2 ^ arity_of ars x)) BitBeyondArity bs 1 room, ← map_is, le-ltb bits (2 ^ arity_of ars x) h)
@@ -112,25 +111,25 @@ module _ (n : ℕ) (ars bs : List ℕ) where
           go (refused r) e = cc (fields-written (arity_of ars x) bits (drop 2 bs) h, ap only_written e)
 
 -- the first pass's answer for the remaining records, with the words, blanks and highest null of earlier records added
-abbrev pub added : ℕ → ℕ → ℕ → Needed → Needed
-added w b h (needed.Records t) = needed.Records (record { words = w + t.words; blanks = b + t.blanks; highest = max h t.highest; end = t.end })
-added w b h (needed.Refused why) = needed.Refused why
+abbrev pub added : ℕ → ℕ → ℕ → Result Total Refusal → Result Total Refusal
+added w b h (Ok t) = Ok (record { words = w + t.words; blanks = b + t.blanks; highest = max h t.highest; end = t.end })
+added w b h (Err why) = Err why
 
-pub added_none : (x : Needed) → added 0 0 0 x ≡ x
-added_none (needed.Records t) =
+pub added_none : (x : Result Total Refusal) → added 0 0 0 x ≡ x
+added_none (Ok t) =
     let a : 0 + t.words ≡ t.words = omega arith in
     let b : 0 + t.blanks ≡ t.blanks = omega arith in
     let c : max 0 t.highest ≡ t.highest = omega arith in
     rw (a, b, c)
-added_none (needed.Refused why) = refl
+added_none (Err why) = refl
 
-pub added_more : (w b h w' b' h' : ℕ) (x : Needed) → added w b h (added w' b' h' x) ≡ added (w + w') (b + b') (max h h') x
-added_more w b h w' b' h' (needed.Records t) =
+pub added_more : (w b h w' b' h' : ℕ) (x : Result Total Refusal) → added w b h (added w' b' h' x) ≡ added (w + w') (b + b') (max h h') x
+added_more w b h w' b' h' (Ok t) =
     let e : w + (w' + t.words) ≡ w + w' + t.words = omega arith in
     let f : b + (b' + t.blanks) ≡ b + b' + t.blanks = omega arith in
     let g : max h (max h' t.highest) ≡ max (max h h') t.highest = omega arith in
     rw (e, f, g)
-added_more w b h w' b' h' (needed.Refused why) = refl
+added_more w b h w' b' h' (Err why) = refl
 
 -- a record that the first pass measured
 pub record Step (n : ℕ) (ars bs : List ℕ) (arity count h : ℕ) : Type 0 where
@@ -144,15 +143,20 @@ pub record Step (n : ℕ) (ars bs : List ℕ) (arity count h : ℕ) : Type 0 whe
   pub long : 2 + 3 * count ≤ length bs
   pub after : rest ≡ drop (2 + 3 * count) bs
 
-pub step : (n : ℕ) (ars bs : List ℕ) (arity count h : ℕ) → measured_record (read_record n ars bs) ≡ measured.Record arity count h → Step n ars bs arity count h
+same_measured : {m n : Measured} → ◌≡◌ {A = Result Measured Refusal} (Ok m) (Ok n) → m ≡ n
+same_measured e = cc
+
+pub step : (n : ℕ) (ars bs : List ℕ) (arity count h : ℕ) → measured_record (read_record n ars bs) ≡ Ok (record { arity = arity; written = count; highest = h }) → Step n ars bs arity count h
 unfolding measured_record
 step n ars bs arity count h = go (read_record n ars bs) refl
   where
-    go : (p : Parsed Record) → read_record n ars bs ≡ p → measured_record p ≡ measured.Record arity count h → Step n ars bs arity count h
+    go : (p : Parsed Record) → read_record n ars bs ≡ p → measured_record p ≡ Ok (record { arity = arity; written = count; highest = h }) → Step n ars bs arity count h
     go (read r rest) e m =
         let q = record-read n ars bs e in
-        let arity_is : length r.fields ≡ arity = cc in
-        let count-is : length (written_of r.fields) ≡ count = cc in
+        let measured : ◌≡◌ {A = Measured} (record { arity = length r.fields; written = length (written_of r.fields); highest = highest_in r.fields }) (record { arity = arity; written = count; highest = h }) =
+        same_measured m in
+        let arity_is : length r.fields ≡ arity = ap (λ (m : Measured). m.arity) measured in
+        let count-is : length (written_of r.fields) ≡ count = ap (λ (m : Measured). m.written) measured in
         let same : ones (get_or bs 1 0) ≡ count = sym q.count ∙ count-is in
         let parts = written_or_blank r.fields in
         record {
@@ -162,7 +166,7 @@ step n ars bs arity count h = go (read_record n ars bs) refl
           arity_is = arity_is;
           blanks_are = omega arith;
           fewer = omega arith;
-          highest-is = cc;
+          highest-is = ap (λ (m : Measured). m.highest) measured;
           long = rw same at q.long;
           after = rw same at q.after;
         }
@@ -177,7 +181,7 @@ records-joined size r (read rs bs) = refl
 records-joined size r (refused why) = refl
 
 pub records_more : (size n : ℕ) (ars : List ℕ) (k : ℕ) (bs : List ℕ) (arity count h : ℕ)
-    → measured_record (read_record n ars bs) ≡ measured.Record arity count h
+    → measured_record (read_record n ars bs) ≡ Ok (record { arity = arity; written = count; highest = h })
     → measured_records size (read_records n ars (suc k) bs)
     ≡ added (1 + arity) (arity - count) h (measured_records size (read_records n ars k (drop (2 + 3 * count) bs)))
 unfolding read_each
@@ -186,12 +190,12 @@ records_more size n ars k bs arity count h m =
     rw s.was_read
     (records-joined size s.one (read_records n ars k s.rest) ∙ rw (s.arity_is, s.blanks_are, s.highest-is, s.after))
 
-pub records-refused : (size n : ℕ) (ars : List ℕ) (k : ℕ) (bs : List ℕ) (why : ℕ)
-    → measured_record (read_record n ars bs) ≡ measured.Refused why → measured_records size (read_records n ars (suc k) bs) ≡ needed.Refused why
+pub records-refused : (size n : ℕ) (ars : List ℕ) (k : ℕ) (bs : List ℕ) (why : Refusal)
+    → measured_record (read_record n ars bs) ≡ Err why → measured_records size (read_records n ars (suc k) bs) ≡ Err why
 unfolding measured_records read_each measured_record
 records-refused size n ars k bs why = go (read_record n ars bs)
   where
-    go : (p : Parsed Record) → measured_record p ≡ measured.Refused why
-        → measured_records size (and_then p (λ r bs. and_then (read_records n ars k bs) (λ rs bs. read (r ∷ rs) bs))) ≡ needed.Refused why
+    go : (p : Parsed Record) → measured_record p ≡ Err why
+        → measured_records size (and_then p (λ r bs. and_then (read_records n ars k bs) (λ rs bs. read (r ∷ rs) bs))) ≡ Err why
     go (read r rest) m = cc
     go (refused r) m = cc

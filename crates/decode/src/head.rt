@@ -1,107 +1,54 @@
 // What comes before a card's records: the number of relations, their arities and the number of rows.
-ghost use Rattle.std.specs.Prelude.{◌≡◌, [], ℕ, ◌^◌, ◌≤◌, ◌<◌, length, drop};
-ghost use Rattle.calculus.specs.declared.answer.Answer.TheVariants.{Done};
+ghost use Rattle.std.specs.Prelude.{◌≡◌, [], ◌^◌, ◌≤◌, ◌<◌, length, drop, IfOk};
 ghost use Rattle.instance.specs.Header.{max_relations};
 ghost use Rattle.card.specs.Format.{read_arities, read_head};
-ghost use Rattle.decode.specs.Measure.{no_arities, opened_arities, no_head, opened_head};
+ghost use Rattle.decode.specs.Measure.{opened_arities, opened_head};
 
-use calculus::answer::Answer;
-use calculus::refusal::{BAD_ARITY, BAD_RELATION_COUNT, CUT_SHORT};
-use instance::header::{COLUMNS, RELATIONS};
-use parse::number::{byte, number};
-
-#[derive(Clone, Copy)]
-pub struct Arities {
-    pub answer: Answer,
-    pub arities: [u32; 8],
-}
+use calculus::refusal::Refusal;
+use instance::header::{is_arity, is_count};
+use parse::number::{byte_if_any, number};
 
 #[derive(Clone, Copy)]
 pub struct Head {
-    // the number of rows, or the refusal
-    pub answer: Answer,
     pub relations: u32,
+    // a relation's number of columns; 0 for a relation that does not exist
     pub arities: [u32; 8],
+    pub rows: u32,
 }
 
-fn no_arities(why: u32) -> Arities
-    ensures { result ≡ no_arities why }
-{
-    Arities {
-        answer: Answer::Refused(why),
-        arities: [0u32; 8],
-    }
-}
-
-fn no_head(why: u32) -> Head
-    ensures { result ≡ no_head why }
-{
-    Head {
-        answer: Answer::Refused(why),
-        relations: 0,
-        arities: [0u32; 8],
-    }
-}
-
-fn read_arities(card: &[u8], relations: usize) -> Arities
+fn read_arities(card: &[u8], relations: usize) -> Result<[u32; 8], Refusal>
     requires few { relations ≤ max_relations }
     requires opened { 1 ≤ length card.now }
     ensures { result ≡ opened_arities [] (read_arities relations (drop 1 card.now)) }
 {
     let mut arities = [0u32; 8];
-    let mut i = 0;
-    while i < relations {
-        if card.len() - 1 <= i {
-            return no_arities(CUT_SHORT);
+    for i in 0..relations {
+        let arity = byte_if_any(card, i + 1)?;
+        if !is_arity(arity) {
+            return Err(Refusal::BadArity);
         }
-        let a = byte(card, i + 1);
-        if a < 1 {
-            return no_arities(BAD_ARITY);
-        }
-        if COLUMNS < a {
-            return no_arities(BAD_ARITY);
-        }
-        arities[i] = a;
-        i += 1;
+        arities[i] = arity;
     }
-    Arities {
-        answer: Answer::Done(0),
-        arities,
-    }
+    Ok(arities)
 }
 
-pub fn read_head(card: &[u8]) -> Head
+pub fn read_head(card: &[u8]) -> Result<Head, Refusal>
     ensures head { result ≡ opened_head (read_head card.now) }
-    ensures counted { (n : ℕ) → result.answer ≡ Done n → n < 256 ^ 2 }
+    ensures counted { IfOk result (λ head. head.rows < 256 ^ 2) }
 {
-    if card.len() < 1 {
-        return no_head(CUT_SHORT);
+    let relations = byte_if_any(card, 0)?;
+    if !is_count(relations) {
+        return Err(Refusal::BadRelationCount);
     }
-    let relations = byte(card, 0);
-    if relations < 1 {
-        return no_head(BAD_RELATION_COUNT);
-    }
-    if RELATIONS < relations {
-        return no_head(BAD_RELATION_COUNT);
-    }
-    let read = read_arities(card, relations as usize);
-    let arities = read.arities;
-    let checked = read.answer;
-    let Answer::Done(_) = checked else {
-        return Head {
-            answer: checked,
-            relations: 0,
-            arities: [0u32; 8],
-        };
-    };
+    let arities = read_arities(card, relations as usize)?;
     let at = relations as usize + 1;
     if card.len() - at < 2 {
-        return no_head(CUT_SHORT);
+        return Err(Refusal::CutShort);
     }
-    let count = number(card, at, 2);
-    Head {
-        answer: Answer::Done(count),
+    let rows = number(card, at, 2);
+    Ok(Head {
         relations,
         arities,
-    }
+        rows,
+    })
 }

@@ -4,19 +4,18 @@ ghost use Rattle.instance.specs.Header.{arities_well_formed, max_relations};
 ghost use Rattle.card.specs.Format.{read_record, read_records};
 ghost use Rattle.decode.specs.Measure.{read_written, measured_fields, measured_record, TellsRecord, measured_from, TellsRecords};
 
+use super::head::Head;
 use calculus::answer::Answer;
 use calculus::cell::{CONSTANTS, is_cell};
-use calculus::refusal::{BIT_BEYOND_ARITY, CUT_SHORT, NO_SUCH_RELATION, NOT_A_CELL};
-use parse::number::{byte, number};
+use calculus::refusal::Refusal;
+use parse::number::{byte_if_any, number};
 
+// What one record has: its columns, how many of them are written, and the highest null in these.
 #[derive(Clone, Copy)]
-pub enum Measured {
-    Record {
-        arity: u32,
-        written: u32,
-        highest: u32,
-    },
-    Refused(u32),
+pub struct Measured {
+    pub arity: u32,
+    pub written: u32,
+    pub highest: u32,
 }
 
 // What all records need, and where the last one ends.
@@ -28,107 +27,72 @@ pub struct Total {
     pub end: usize,
 }
 
-#[derive(Clone, Copy)]
-pub enum Needed {
-    Records(Total),
-    Refused(u32),
-}
-
 // The highest null in the given number of written fields, 0 if there is none.
 fn measure_fields(bytes: &[u8], written: u32) -> Answer
     ensures { result ≡ measured_fields (read_written written bytes.now) }
 {
     let mut highest: u32 = 0;
-    let mut left = written;
-    let mut at = 0;
-    while 0 < left {
+    for i in 0..written as usize {
+        let at = 3 * i;
         if bytes.len() - at < 3 {
-            return Answer::Refused(CUT_SHORT);
+            return Err(Refusal::CutShort);
         }
         let cell = number(bytes, at, 3);
         if !is_cell(cell) {
-            return Answer::Refused(NOT_A_CELL);
+            return Err(Refusal::NotACell);
         }
-        if CONSTANTS + highest < cell {
-            highest = cell - CONSTANTS;
-        }
-        at += 3;
-        left -= 1;
+        highest = highest.max(cell.saturating_sub(CONSTANTS));
     }
-    Answer::Done(highest)
+    Ok(highest)
 }
 
 // Measures one record, at the start of the bytes.
-fn measure_record(bytes: &[u8], relations: u32, arities: &[u32; 8]) -> Measured
-    requires few { relations ≤ max_relations }
-    requires formed { arities_well_formed relations arities.now ≡ true }
-    ensures answer { result ≡ measured_record (read_record relations arities.now bytes.now) }
-    ensures told { TellsRecord result (read_record relations arities.now bytes.now) }
+fn measure_record(bytes: &[u8], head: &Head) -> Result<Measured, Refusal>
+    requires few { head.now.relations ≤ max_relations }
+    requires formed { arities_well_formed head.now.relations head.now.arities ≡ true }
+    ensures answer { result ≡ measured_record (read_record head.now.relations head.now.arities bytes.now) }
+    ensures told { TellsRecord result (read_record head.now.relations head.now.arities bytes.now) }
 {
-    if bytes.len() < 1 {
-        return Measured::Refused(CUT_SHORT);
+    let relation = byte_if_any(bytes, 0)?;
+    if head.relations <= relation {
+        return Err(Refusal::NoSuchRelation);
     }
-    let relation = byte(bytes, 0);
-    if relations <= relation {
-        return Measured::Refused(NO_SUCH_RELATION);
+    let map = byte_if_any(bytes, 1)?;
+    let arity = head.arities[relation as usize];
+    if map.leading_zeros() < 32 - arity {
+        return Err(Refusal::BitBeyondArity);
     }
-    if bytes.len() < 2 {
-        return Measured::Refused(CUT_SHORT);
-    }
-    let map = byte(bytes, 1);
-    let arity = arities[relation as usize];
-    if u32::leading_zeros(map) < 32 - arity {
-        return Measured::Refused(BIT_BEYOND_ARITY);
-    }
-    let written = u32::count_ones(map);
-    match measure_fields(&bytes[2..], written) {
-        Answer::Done(highest) => Measured::Record {
-            arity,
-            written,
-            highest,
-        },
-        Answer::Refused(why) => Measured::Refused(why),
-    }
+    let written = map.count_ones();
+    let highest = measure_fields(&bytes[2..], written)?;
+    Ok(Measured {
+        arity,
+        written,
+        highest,
+    })
 }
 
-// Measures `count` records, from index `start` of the card.
-pub fn measure(card: &[u8], start: usize, relations: u32, arities: &[u32; 8], count: u32) -> Needed
+// Measures the records, from index `start` of the card.
+pub fn measure(card: &[u8], start: usize, head: &Head) -> Result<Total, Refusal>
     requires within { start ≤ length card.now }
-    requires few { relations ≤ max_relations }
-    requires formed { arities_well_formed relations arities.now ≡ true }
-    requires counted { count < 256 ^ 2 }
-    ensures answer { result ≡ measured_from card.now start relations arities.now count }
-    ensures told { TellsRecords result (length card.now) (read_records relations arities.now count (drop start card.now)) }
+    requires few { head.now.relations ≤ max_relations }
+    requires formed { arities_well_formed head.now.relations head.now.arities ≡ true }
+    requires counted { head.now.rows < 256 ^ 2 }
+    ensures answer { result ≡ measured_from card.now start head.now.relations head.now.arities head.now.rows }
+    ensures told { TellsRecords result (length card.now)
+        (read_records head.now.relations head.now.arities head.now.rows (drop start card.now)) }
 {
-    let mut words: u32 = 0;
-    let mut blanks: u32 = 0;
-    let mut top: u32 = 0;
-    let mut at = start;
-    let mut left = count;
-    while 0 < left {
-        match measure_record(&card[at..], relations, arities) {
-            Measured::Record {
-                arity,
-                written,
-                highest,
-            } => {
-                words += 1 + arity;
-                blanks += arity - written;
-                if top < highest {
-                    top = highest;
-                }
-                at += 2 + 3 * written as usize;
-            }
-            Measured::Refused(why) => {
-                return Needed::Refused(why);
-            }
-        }
-        left -= 1;
+    let mut total = Total {
+        words: 0,
+        blanks: 0,
+        highest: 0,
+        end: start,
+    };
+    for _row in 0..head.rows {
+        let measured = measure_record(&card[total.end..], head)?;
+        total.words += 1 + measured.arity;
+        total.blanks += measured.arity - measured.written;
+        total.highest = total.highest.max(measured.highest);
+        total.end += 2 + 3 * measured.written as usize;
     }
-    Needed::Records(Total {
-        words,
-        blanks,
-        highest: top,
-        end: at,
-    })
+    Ok(total)
 }

@@ -9,6 +9,7 @@ ghost use Rattle.parse.specs.Parse.{is_read, got};
 ghost use Rattle.card.specs.Format.{read_fields};
 ghost use Rattle.decode.specs.Write.{WriteRows, rows_read, words_read};
 
+use super::head::Head;
 use calculus::cell::CONSTANTS;
 use parse::number::{byte, number};
 
@@ -24,60 +25,49 @@ fn write_row(part: &mut [u32], relation: u32, arity: usize, map: u32, fields: &[
     let mut bits = map;
     let mut null = next;
     let mut at = 0;
-    let mut column = 0;
-    while column < arity {
+    for cell in part[1..1 + arity].iter_mut() {
         if bits % 2 == 1 {
-            part[column + 1] = number(fields, at, 3);
+            *cell = number(fields, at, 3);
             at += 3;
         } else {
-            part[column + 1] = CONSTANTS + null;
+            *cell = CONSTANTS + null;
             null += 1;
         }
         bits /= 2;
-        column += 1;
     }
 }
 
-// Writes `count` rows from the first word of `instance`, and returns how many of them each relation has; the first pass
-// has checked the records.
-pub fn write_rows(
-    instance: &mut [u32],
-    card: &[u8],
-    relations: u32,
-    arities: &[u32; 8],
-    count: u32,
-    next: u32,
-) -> [u32; 8]
-    requires { WriteRows instance.old card.now relations arities.now count next }
-    ensures counts { result ≡ row_counts (rows_read relations arities.now count next
-        (drop (relations + 3) card.now)) }
-    ensures words { instance.new ≡ overwrite (words_read relations arities.now count next
-        (drop (relations + 3) card.now)) instance.old }
+// Writes the rows from the first word of `instance`, and returns how many of them each relation has; the first pass has
+// checked the records.
+pub fn write_rows(instance: &mut [u32], card: &[u8], head: &Head, next: u32) -> [u32; 8]
+    requires { WriteRows instance.old card.now head.now.relations head.now.arities head.now.rows next }
+    ensures counts { result ≡ row_counts (rows_read head.now.relations head.now.arities head.now.rows next
+        (drop (head.now.relations + 3) card.now)) }
+    ensures words { instance.new ≡ overwrite (words_read head.now.relations head.now.arities head.now.rows next
+        (drop (head.now.relations + 3) card.now)) instance.old }
 {
     let mut counts = [0u32; 8];
     let mut used = 0;
     let mut null = next;
-    let mut at = relations as usize + 3;
-    let mut left = count;
-    while 0 < left {
+    let mut at = head.relations as usize + 3;
+    for _row in 0..head.rows {
         let relation = byte(card, at);
         counts[relation as usize] += 1;
         let map = byte(card, at + 1);
-        let arity = arities[relation as usize] as usize;
-        let written = u32::count_ones(map);
+        let arity = head.arities[relation as usize];
+        let written = map.count_ones();
         let first = at + 2;
         write_row(
             &mut instance[used..],
             relation,
-            arity,
+            arity as usize,
             map,
             &card[first..],
             null,
         );
-        used += 1 + arity;
-        null += arity as u32 - written;
+        used += 1 + arity as usize;
+        null += arity - written;
         at = first + 3 * written as usize;
-        left -= 1;
     }
     counts
 }

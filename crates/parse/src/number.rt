@@ -1,15 +1,31 @@
 // Numbers in bytes, high byte first.
-ghost use Rattle.std.specs.Prelude.{◌≡◌, true, ◌+◌, ◌^◌, ◌≤◌, ◌<◌, length, drop, get_or};
+ghost use Rattle.std.specs.Prelude.{◌≡◌, true, ◌+◌, ◌^◌, ◌≤◌, ◌<◌, length, drop, get_or, MatchResult};
+ghost use Rattle.calculus.specs.declared.refusal.Refusal.TheVariants.{CutShort};
 ghost use Rattle.calculus.specs.Overwrite.{overwrite};
 ghost use Rattle.calculus.specs.Reading.{read};
 ghost use Rattle.parse.specs.Parse.{is_read};
 ghost use Rattle.parse.specs.Number.{read_number, read_numbers, numbers_of};
 
+use calculus::refusal::Refusal;
+
+// The byte at index `at`.
 pub fn byte(bytes: &[u8], at: usize) -> u32
     requires { at < length bytes.now }
     ensures { (result ≡ get_or bytes.now at 0) × (result < 256) }
 {
     u32::from(bytes[at])
+}
+
+// The same for bytes that may end before the index.
+pub fn byte_if_any(bytes: &[u8], at: usize) -> Result<u32, Refusal>
+    ensures { MatchResult result
+        (λ byte. (at < length bytes.now) × (byte ≡ get_or bytes.now at 0) × (byte < 256))
+        (λ why. (length bytes.now ≤ at) × (why ≡ CutShort)) }
+{
+    bytes
+        .get(at)
+        .map(|byte| u32::from(*byte))
+        .ok_or(Refusal::CutShort)
 }
 
 // The number in `width` bytes from index `at`.

@@ -1,76 +1,67 @@
 -- `decode::measure::measure` meets its contract. The loop's invariant: the answer for all records is the answer for those that are left, with what was
 -- counted so far added. Assumes nothing.
-use Prim.Native.Nat.{◌-◌, max}
+use Prim.Native.Nat.{ℕ, ◌+◌, ◌-◌}
 use mathlib.Core.Path.{◌≡◌, sym, ◌∙◌}
+use mathlib.Core.List.{List}
+use native.Mathlib.Nat.{sub-zero}
 use native.Mathlib.Omega.{arith}
-use Rattle.decode.proofs.Told.{records-told}
 use lib.ListN.{length, take, drop}
+use Rattle.std.specs.Prelude.{Result}
+use Rattle.std.proofs.lemmas.Result.{err_from_is_err_and}
+use Rattle.calculus.specs.declared.refusal.Refusal.{Refusal}
 use Rattle.card.specs.Format.{read_record}
-use Rattle.decode.specs.Measure.{measured_record}
 use Rattle.instance.proofs.Parts.{part_to_end}
+use Rattle.decode.specs.declared.measure.Measured.{Measured}
+use Rattle.decode.specs.Measure.{measured_record}
+use Rattle.decode.proofs.Told.{records-told}
 use Rattle.decode.proofs.Measuring.{Turn, next-turn, measuring_starts, measuring_refused, measuring_ends}
 use Rattle.decode.proofs.measure.measure.Goals as goal
-use Rattle.decode.proofs.measure.measure.Goals.{In-Record, else-top-highest, then-top-highest}
-use Rattle.decode.specs.declared.measure.Measured.{Measured}
-use Prim.Native.Nat.{ℕ}
-use mathlib.Core.List.{List}
+use Rattle.decode.proofs.measure.measure.Goals.{In_ok-measured}
 
 by_answer_told : {A B : Type 0} → A × B → record { answer : A; told : B }
 by_answer_told p = record { answer = p.0; told = p.1 }
 
-pub loop-left-init : goal.loop-left-init
-loop-left-init c = measuring_starts _ _ _ _ _ c.requires.within
+pub loop-row-init : goal.loop-row-init
+loop-row-init c = rw (sub-zero c.args.head.now.rows) (measuring_starts _ _ _ _ _ c.requires.within)
 
 -- the result for the record at index `at`
-measured_here : (card : List ℕ) (at n : ℕ) (ars : List ℕ) (r : Measured) → r ≡ measured_record (read_record n ars (take (length card - at) (drop at card)))
-    → r ≡ measured_record (read_record n ars (drop at card))
-measured_here card at n ars r known = known ∙ rw (part_to_end card at)
+measured_here : (card : List ℕ) (at n : ℕ) (ars : List ℕ) (r : Result Measured Refusal) → r ≡ measured_record (read_record n ars (take (length card - at) (drop at card)))
+    → measured_record (read_record n ars (drop at card)) ≡ r
+measured_here card at n ars r known = sym (known ∙ rw (part_to_end card at))
 
-module _ (c : In-Record) where
+module _ (c : In_ok-measured) where
   here :
       let args = c.args in
-      let l = c.loop-left in
-      Turn args.card.now args.start args.relations args.arities.now args.count l.words l.blanks l.top l.at l.left
-      c.in-Record.arity c.in-Record.written c.in-Record.highest
+      let l = c.loop-row in
+      Turn args.card.now args.start args.head.now.relations args.head.now.arities args.head.now.rows l.total.words l.total.blanks l.total.highest l.total.end
+      (args.head.now.rows - l._row) c.in_ok-measured.measured.arity c.in_ok-measured.measured.written c.in_ok-measured.measured.highest
   here =
-      next-turn _ _ _ _ _ _ _ _ _ _ c.loop-left.invariant c.loop-left-test.true _ _ _ c.requires.formed
-      (sym (measured_here c.args.card.now c.loop-left.at _ _ _ c.measure_record.ensures.answer) ∙ c.in-Record.is)
+      next-turn _ _ _ _ _ _ _ _ _ _ c.loop-row.invariant (omega arith) _ _ _ c.requires.formed
+      (measured_here c.args.card.now c.loop-row.total.end _ _ _ c.measure_record.ensures.answer ∙ c.in_ok-measured.was)
 
-pub overflow_add-words : goal.overflow_add-words
-overflow_add-words c = omega (arith, (here (goal.at.overflow_add-words c).In-Record).narrow)
+pub overflow_add-total : goal.overflow_add-total
+overflow_add-total c = omega (arith, (here (goal.at.overflow_add-total c).In_ok-measured).narrow)
 
-pub overflow_add-words-in-Record : goal.overflow_add-words-in-Record
-overflow_add-words-in-Record c = omega (arith, (here (goal.at.overflow_add-words-in-Record c).In-Record).words_fit, c.requires.counted)
+pub overflow_add-total-in-loop-row : goal.overflow_add-total-in-loop-row
+overflow_add-total-in-loop-row c = omega (arith, (here (goal.at.overflow_add-total-in-loop-row c).In_ok-measured).words_fit, c.requires.counted)
 
-pub overflow_sub-blanks : goal.overflow_sub-blanks
-overflow_sub-blanks c = (here (goal.at.overflow_sub-blanks c).In-Record).fewer
+pub overflow_sub-total : goal.overflow_sub-total
+overflow_sub-total c = (here (goal.at.overflow_sub-total c).In_ok-measured).fewer
 
-pub overflow_add-blanks : goal.overflow_add-blanks
-overflow_add-blanks c = omega (arith, (here (goal.at.overflow_add-blanks c).In-Record).blanks_fit, c.requires.counted)
+pub overflow_add-total-in-loop-row-2 : goal.overflow_add-total-in-loop-row-2
+overflow_add-total-in-loop-row-2 c = omega (arith, (here (goal.at.overflow_add-total-in-loop-row-2 c).In_ok-measured).blanks_fit, c.requires.counted)
 
-pub overflow_cast-at : goal.overflow_cast-at
-overflow_cast-at c = omega (arith, (here (goal.at.overflow_cast-at c).In-Record).narrow, (here (goal.at.overflow_cast-at c).In-Record).fewer)
+pub returns-in_err-measured : goal.returns-in_err-measured
+returns-in_err-measured c =
+    let p = err_from_is_err_and c.from_residual.result c.from_residual.ensures.1 in
+    rw (p.1, p.2) (by_answer_told (records-told _ _
+    (sym (measuring_refused _ _ _ _ _ _ _ _ _ _ c.loop-row.invariant (omega arith) _
+    (measured_here c.args.card.now c.loop-row.total.end _ _ _ c.measure_record.ensures.answer ∙ c.in_err-measured.was)))))
 
-pub overflow_mul-at : goal.overflow_mul-at
-overflow_mul-at c = omega (arith, (here (goal.at.overflow_mul-at c).In-Record).narrow, (here (goal.at.overflow_mul-at c).In-Record).fewer)
-
-pub overflow_add-at : goal.overflow_add-at
-overflow_add-at c = omega (arith, (here (goal.at.overflow_add-at c).In-Record).narrow, (here (goal.at.overflow_add-at c).In-Record).fewer)
-
-pub overflow_add-at-in-Record : goal.overflow_add-at-in-Record
-overflow_add-at-in-Record c = omega (arith, (here (goal.at.overflow_add-at-in-Record c).In-Record).in_card)
-
-pub returns-in-Refused : goal.returns-in-Refused
-returns-in-Refused c =
-    by_answer_told (records-told _ _
-    (sym (measuring_refused _ _ _ _ _ _ _ _ _ _ c.loop-left.invariant c.loop-left-test.true _ (sym (measured_here c.args.card.now c.loop-left.at _ _ _ c.measure_record.ensures.answer) ∙ c.in-Refused.is))))
-
-pub loop-left-preserved : goal.loop-left-preserved
-loop-left-preserved c =
-    let top : c.if-top-highest.top ≡ max c.loop-left.top c.in-Record.highest =
-    (elim c.if-top-highest.branch [ then-top-highest w ↦ omega arith | else-top-highest w ↦ omega arith ]) in
-    rw top (here (goal.at.loop-left-preserved c).In-Record).then
+pub loop-row-preserved : goal.loop-row-preserved
+loop-row-preserved c =
+    let left : c.args.head.now.rows - c.loop-row._row - 1 ≡ c.args.head.now.rows - (c.loop-row._row + 1) = omega arith in
+    rw (c.max.ensures, ← left) (here (goal.at.loop-row-preserved c).In_ok-measured).then
 
 pub returns : goal.returns
-returns c =
-    by_answer_told (records-told _ _ (sym (measuring_ends _ _ _ _ _ _ _ _ _ _ c.loop-left.invariant c.loop-left-test.false)))
+returns c = by_answer_told (records-told _ _ (sym (measuring_ends _ _ _ _ _ _ _ _ _ _ c.loop-row.invariant (omega arith))))

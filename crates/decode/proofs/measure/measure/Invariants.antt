@@ -1,9 +1,7 @@
+use Prim.Native.Nat.{◌-◌}
 use Rattle.decode.proofs.Measuring.{Measuring}
 use Rattle.decode.proofs.measure.measure.Given as goal
 
-abbrev pub invariant-loop-left : goal.invariant-loop-left
-invariant-loop-left l =
-    Measuring l.card l.start l.relations l.arities l.count l.words l.blanks l.top l.at l.left
-
-abbrev pub decreases-loop-left : goal.decreases-loop-left
-decreases-loop-left l = l.left
+abbrev pub invariant-loop-row : goal.invariant-loop-row
+invariant-loop-row l =
+    Measuring l.card l.start l.head.relations l.head.arities l.head.rows l.total.words l.total.blanks l.total.highest l.total.end (l.head.rows - l._row)
