@@ -6,7 +6,6 @@ use mathlib.Core.List.{List, [], ◌∷◌}
 use native.Mathlib.Nat.{zero-add}
 use native.Mathlib.Omega.{arith}
 use lib.ListN.{length, get_or, set, get_or-eq_default}
-use lib.Dec.{eqb}
 use lib.Seq.{set-set, set-get_or}
 use Rattle.calculus.specs.declared.truth.Truth.{Truth}
 use Rattle.calculus.specs.Kleene.{Junction, join, unit, negate}
@@ -19,6 +18,7 @@ use Rattle.instance.proofs.Rows.{headed}
 use Rattle.query.specs.Check.{is_term}
 use Rattle.instance.specs.InstanceWellFormed.{InstanceOf}
 use Rattle.instance.specs.Rows.{rows_from}
+use Rattle.known.specs.declared.Known.{Known}
 use Rattle.known.specs.Known.{count_in}
 use Rattle.query.specs.Words.{Kind, kinds, row_stands, equals, no_such_kind, negates, joins, ranges, kind_of, word_at, node_count}
 use Rattle.query.specs.Tree.{formula_by, formula_at, term_of, terms_at}
@@ -26,42 +26,24 @@ use Rattle.query.specs.Passed.{NodeBy}
 use Rattle.evaluate.specs.declared.evaluated.Evaluated.{Evaluated}
 use Rattle.evaluate.specs.declared.evaluated.Evaluated.TheVariants.{Verdict, Spent}
 use Rattle.evaluate.specs.Within.{within}
-use Rattle.evaluate.specs.Ready.{Ready, outcome_at, RightIn, junction_of}
+use Rattle.evaluate.specs.Ready.{Ready, outcome_at, RightIn}
 use Rattle.evaluate.proofs.Budget.{spent, verdict, was_spent, was_verdict}
 use Rattle.evaluate.proofs.Steps.{sofar, unit_left, join-same, join_assoc, over-start, start, next-spent, next_low, next_settled, next_more, end, last_spent, last_verdict}
 
--- The kinds by their numbers: 4 and 5 join two children, 6 and 7 range over values, and none is above 7.
-pub joins_by : (w : ℕ) → 1 ≤ w → w < 6 → (w ≡ 1 → ⊥) → (w ≡ 2 → ⊥) → (w ≡ 3 → ⊥) → kind_of w ≡ joins (junction_of (eqb w 4))
+-- there are no kinds but 1 to 7
+pub no_kind : (w : ℕ) → (1 ≤ w → 8 ≤ w) → kind_of w ≡ no_such_kind
 unfolding kind_of
-joins_by zero h l a b c = absurd (omega arith)
-joins_by (suc zero) h l a b c = absurd (a refl)
-joins_by (suc (suc zero)) h l a b c = absurd (b refl)
-joins_by (suc (suc (suc zero))) h l a b c = absurd (c refl)
-joins_by (suc (suc (suc (suc zero)))) h l a b c = refl
-joins_by (suc (suc (suc (suc (suc zero))))) h l a b c = refl
-joins_by (suc (suc (suc (suc (suc (suc w)))))) h l a b c = absurd (omega arith)
-
-pub ranges_by : (w : ℕ) → 6 ≤ w → w < 8 → kind_of w ≡ ranges (junction_of (eqb w 7))
-unfolding kind_of
-ranges_by w h l = go (w - 6) refl
-  where
-    go : (d : ℕ) → w - 6 ≡ d → kind_of w ≡ ranges (junction_of (eqb w 7))
-    go zero e = let is : w ≡ 6 = omega arith in rw is
-    go (suc zero) e = let is : w ≡ 7 = omega arith in rw is
-    go (suc (suc d)) e = absurd (omega arith)
-
-pub none_above : (w : ℕ) → 8 ≤ w → kind_of w ≡ no_such_kind
-unfolding kind_of
-none_above w h = get_or-eq_default kinds no_such_kind h
+no_kind zero h = refl
+no_kind (suc w) h = get_or-eq_default kinds no_such_kind (h (omega arith))
 
 -- what a well-formed node says of its children, by its kind
 pub well_formed_by :
-    (ars ws qs table : List ℕ) (i : ℕ) (kind : Kind) (r : Ready ars ws qs table) → i < node_count qs → kind_of (word_at qs i 0) ≡ kind →
+    (ars ws qs : List ℕ) (table : Known) (i : ℕ) (kind : Kind) (r : Ready ars ws qs table) → i < node_count qs → kind_of (word_at qs i 0) ≡ kind →
     NodeBy r.given.relations ars qs i kind
 well_formed_by ars ws qs table i kind r known is = subst (NodeBy r.given.relations ars qs i) is (r.nodes i known)
 
 -- what an atom's node says: its relation, the number of rows of that relation, and its arity
-pub record AtomWellFormed (ars ws qs table : List ℕ) (i : ℕ) : Type 0 where
+pub record AtomWellFormed (ars ws qs : List ℕ) (table : Known) (i : ℕ) : Type 0 where
   pub given : InstanceOf ars ws
   pub relation : word_at qs i 1 < given.relations
   pub eight : word_at qs i 1 < max_relations
@@ -70,7 +52,7 @@ pub record AtomWellFormed (ars ws qs table : List ℕ) (i : ℕ) : Type 0 where
   pub terms : (j : ℕ) → j < arity_of ars (word_at qs i 1) → is_term (word_at qs i (2 + j)) ≡ true
 
 pub atom-well-formed :
-    (ars ws qs table : List ℕ) (i : ℕ) → Ready ars ws qs table → i < node_count qs → kind_of (word_at qs i 0) ≡ row_stands → AtomWellFormed ars ws qs table i
+    (ars ws qs : List ℕ) (table : Known) (i : ℕ) → Ready ars ws qs table → i < node_count qs → kind_of (word_at qs i 0) ≡ row_stands → AtomWellFormed ars ws qs table i
 atom-well-formed ars ws qs table i r known is =
     let by = well_formed_by ars ws qs table i row_stands r known is in
     let head = headed r.given.relations ars r.given.well_formed.header in

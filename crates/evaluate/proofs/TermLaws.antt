@@ -17,7 +17,7 @@ use Rattle.query.specs.Words.{word_at}
 use Rattle.query.specs.Tree.{variable_base, term_of, terms_at}
 use Rattle.query.specs.Check.{is_term}
 use Rattle.calculus.proofs.Bools.{and_parts}
-use Rattle.calculus.proofs.Padded.{padded_more, padded-length, padded_front}
+use Rattle.calculus.proofs.Padded.{padded_more, padded_front}
 
 pub below_base : (w : ℕ) → w < variable_base → term_of w ≡ const w
 unfolding term_of
@@ -60,10 +60,7 @@ row_more qs i e row j v room so_far is =
     sym (values_more e (terms_at qs i 2 j) (term_of (word_at qs i (2 + j)))) ∙ ap (values e) (sym (terms_more qs i 2 j)) ∙
     ap (λ (n : ℕ). values e (terms_at qs i 2 n)) (sym (add-one j)))
 
--- the row that a node asks about has six words, and begins with the values of its terms
+-- the row that a node asks about begins with the values of its terms
 module _ (qs : List ℕ) (i : ℕ) (e row : List ℕ) (arity : ℕ) (is : row ≡ padded max_columns (values e (terms_at qs i 2 arity))) where
-  pub row_six : arity ≤ max_columns → length row ≡ max_columns
-  row_six narrow = ap length is ∙ padded-length max_columns (values e (terms_at qs i 2 arity)) (omega (arith, terms-long qs i 2 arity e))
-
   pub row_front : take arity row ≡ values e (terms_at qs i 2 arity)
   row_front = ap (take arity) is ∙ padded_front max_columns arity (values e (terms_at qs i 2 arity)) (terms-long qs i 2 arity e)

@@ -1,2 +1,4 @@
+pub mod Junction
 pub mod Within
 pub mod Ready
+pub mod Asking

@@ -3,5 +3,6 @@
 #![tactic(auto)]
 
 pub mod evaluated;
+pub mod junction;
 pub mod nodes;
 mod terms;

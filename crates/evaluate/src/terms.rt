@@ -1,7 +1,7 @@
 // Terms, and the verdict of an equality.
-ghost use Rattle.std.specs.Prelude.{◌≡◌, true, ◌+◌, ◌<◌, length};
+ghost use Rattle.std.specs.Prelude.{◌≡◌, true, ◌<◌};
 ghost use Rattle.calculus.specs.Padded.{padded};
-ghost use Rattle.calculus.specs.Formula.{value, values, variables};
+ghost use Rattle.calculus.specs.Formula.{value, values};
 ghost use Rattle.instance.specs.Header.{max_columns};
 ghost use Rattle.calculus.specs.Closed.{equality as equalityOf};
 ghost use Rattle.query.specs.Words.{node_count, node_words, word_at};
@@ -20,10 +20,7 @@ pub fn same(a: u32, b: u32) -> Truth
     if a == b {
         return Truth::True;
     }
-    if CONSTANTS <= a {
-        return Truth::Unknown;
-    }
-    if CONSTANTS <= b {
+    if CONSTANTS <= a || CONSTANTS <= b {
         return Truth::Unknown;
     }
     Truth::False
@@ -32,7 +29,7 @@ pub fn same(a: u32, b: u32) -> Truth
 // The value of the term in word j of a node.
 pub fn term(query: &[u32], node: usize, j: usize, env: &[u32; 16]) -> u32
     requires node_bound { (node < node_count query.now) × (j < node_words) }
-    requires j_value { (is_term (word_at query.now node j) ≡ true) × (length env.now ≡ variables) }
+    requires j_value { is_term (word_at query.now node j) ≡ true }
     ensures { result ≡ value env.now (term_of (word_at query.now node j)) }
 {
     let w = query[node * NODE_WORDS + j];
@@ -45,14 +42,12 @@ pub fn term(query: &[u32], node: usize, j: usize, env: &[u32; 16]) -> u32
 
 // The values of a node's terms, padded with 0; an atom's terms begin at word 2.
 pub fn asked_row(query: &[u32], node: usize, arity: usize, env: &[u32; 16]) -> [u32; 6]
-    requires { TermsWellFormed query.now node arity env.now }
+    requires { TermsWellFormed query.now node arity }
     ensures { result ≡ padded max_columns (values env.now (terms_at query.now node 2 arity)) }
 {
     let mut row = [0u32; 6];
-    let mut j = 0;
-    while j < arity {
+    for j in 0..arity {
         row[j] = term(query, node, 2 + j, env);
-        j += 1;
     }
     row
 }

@@ -1,4 +1,3 @@
-use Prim.Native.Nat.{◌≤◌, ◌-◌}
 use mathlib.Core.Path.{◌≡◌}
 use Rattle.calculus.specs.Padded.{padded}
 use Rattle.calculus.specs.Formula.{values}
@@ -7,7 +6,4 @@ use Rattle.query.specs.Tree.{terms_at}
 use Rattle.evaluate.proofs.terms.asked_row.Given as goal
 
 abbrev pub invariant-loop-j : goal.invariant-loop-j
-invariant-loop-j l = (l.j ≤ l.arity) × (l.row ≡ padded max_columns (values l.env (terms_at l.query l.node 2 l.j)))
-
-abbrev pub decreases-loop-j : goal.decreases-loop-j
-decreases-loop-j l = l.arity - l.j
+invariant-loop-j l = l.row ≡ padded max_columns (values l.env (terms_at l.query l.node 2 l.j))

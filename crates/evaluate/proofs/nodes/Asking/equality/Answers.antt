@@ -1,4 +1,4 @@
--- `evaluate::nodes::equality` meets its contract: an equality costs 1. Assumes nothing.
+-- `evaluate::nodes::Asking::equality` meets its contract: an equality costs 1. Assumes nothing.
 use mathlib.Core.Path.{sym, ap, ◌∙◌, ◌≡◌}
 use native.Mathlib.Omega.{arith}
 use Prim.Native.Nat.{ℕ, ◌<◌}
@@ -10,15 +10,15 @@ use Rattle.evaluate.proofs.Budget.{spent, verdict}
 use Rattle.evaluate.proofs.Children.{equal-right}
 use Rattle.calculus.specs.Formula.{value}
 use Rattle.query.specs.Tree.{term_of}
-use Rattle.evaluate.proofs.nodes.equality.Goals as goal
-use Rattle.evaluate.proofs.nodes.equality.Goals.{Start}
+use Rattle.evaluate.proofs.nodes.Asking.equality.Goals as goal
+use Rattle.evaluate.proofs.nodes.Asking.equality.Goals.{Start}
 
 -- the node is an equality
 module _ (s : Start) where
-  abbrev known : s.args.node < node_count s.args.query.now
-  known = s.requires.node_bound.0
+  abbrev known : s.args.node < node_count s.args.self.now.query.now
+  known = s.requires.node_bound
 
-  abbrev is : kind_of (word_at s.args.query.now s.args.node 0) ≡ equals
+  abbrev is : kind_of (word_at s.args.self.now.query.now s.args.node 0) ≡ equals
   is = s.requires.node_value_2
 
 pub returns-then-budget-lt1 : goal.returns-then-budget-lt1
@@ -32,22 +32,22 @@ pub term-a-requires : goal.term-a-requires
 term-a-requires c =
     let s = (goal.at.term-a-requires c).Start in record {
       node_bound = (known s, omega arith);
-      j_value = (c.requires.node_value.0, c.requires.node_bound.1);
+      j_value = c.requires.node_value.0;
     }
 
 pub term-b-requires : goal.term-b-requires
 term-b-requires c =
     let s = (goal.at.term-b-requires c).Start in record {
       node_bound = (known s, omega arith);
-      j_value = (c.requires.node_value.1, c.requires.node_bound.1);
+      j_value = c.requires.node_value.1;
     }
 
 pub returns : goal.returns
 returns c =
     record {
       right = (let s = (goal.at.returns c).Start in
-          let a = value c.args.env.now (term_of (word_at c.args.query.now c.args.node 1)) in
-          let b = value c.args.env.now (term_of (word_at c.args.query.now c.args.node 2)) in
+          let a = value c.args.env.now (term_of (word_at c.args.self.now.query.now c.args.node 1)) in
+          let b = value c.args.env.now (term_of (word_at c.args.self.now.query.now c.args.node 2)) in
           let says = c.same.ensures ∙ ap (λ (x : ℕ). equality x c.term-b.result) c.term-a.ensures ∙ ap (equality _) c.term-b.ensures in
           λ S ars same k h.
           ap (λ (x : Truth). Verdict x 1) (says ∙ ap (λ (f : ℕ → ℕ → Truth). f a b) (sym same)) ∙

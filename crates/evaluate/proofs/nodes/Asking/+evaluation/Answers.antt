@@ -1,27 +1,29 @@
 -- The mutually recursive functions of evaluation meet their contracts: each call is on the same node or on a child. Assumes nothing.
-use Prim.Native.Nat.{ℕ, ◌+◌, ◌-◌, ◌<◌, ◌≤◌}
-use mathlib.Core.Path.{◌≡◌, sym, ap, ◌∙◌}
+use Prim.Native.Nat.{ℕ, ◌+◌, ◌-◌, ◌<◌}
+use mathlib.Core.Path.{◌≡◌, refl, sym, ap, ap₂, ◌∙◌}
 use native.Mathlib.Omega.{arith}
 use mathlib.Core.List.{List, ◌∷◌, ◌++◌}
 use lib.ListN.{length, get_or, set, drop, length-append}
 use lib.Seq.{set-get_or, get_or-take, length-take-le}
+use Rattle.known.specs.declared.Known.{Known}
 use Rattle.known.specs.Known.{arities_in, places_in, unpassed}
 use Rattle.known.proofs.Walking.{unpassed-end, unpassed-here, unpassed_gap}
 use Rattle.query.specs.Passed.{NodeBy}
 use Rattle.query.specs.Words.{no_such_kind, negates, joins, ranges, kind_of, word_at, equals}
 use Rattle.evaluate.specs.declared.evaluated.Evaluated.{Evaluated}
-use Rattle.evaluate.specs.Ready.{walked_words, Right, junction_of}
-use Rattle.evaluate.proofs.Children.{joins_by, ranges_by, none_above, well_formed_by, negated_spent, negated_verdict, both_left-spent, both_settled, both_low, both_right-spent, both_verdict, right-low, set_again, set_back, walk_starts, walk_ends, walk_spent, walk_settled, walk_more, walk_passes}
-use Rattle.evaluate.proofs.nodes.+both_evaluate_negated_walk.Goals as goal
-use Rattle.evaluate.proofs.nodes.+both_evaluate_negated_walk.Goals.{both-After-evaluate, walk-After-evaluate}
+use Rattle.evaluate.specs.Ready.{walked_words, Right}
+use Rattle.evaluate.specs.Junction.{junction_of}
+use Rattle.evaluate.proofs.Children.{no_kind, well_formed_by, negated_spent, negated_verdict, both_left-spent, both_settled, both_low, both_right-spent, both_verdict, right-low, set_again, set_back, walk_starts, walk_ends, walk_spent, walk_settled, walk_more, walk_passes}
+use Rattle.evaluate.proofs.nodes.Asking.+evaluation.Goals as goal
+use Rattle.evaluate.proofs.nodes.Asking.+evaluation.Goals.{both-After-evaluate, walk-After-evaluate}
 
 -- what is known of the two children of a node that joins them, and the left child's answer, as the answer for the node that word 1 names
 module _ (t : ℕ) (e : both-After-evaluate t) where
-  both_down : NodeBy e.requires.evaluable.ready.given.relations (arities_in e.args.known.now) e.args.query.now e.args.node (joins (junction_of e.args.every))
-  both_down = well_formed_by _ _ _ _ _ (joins (junction_of e.args.every)) e.requires.evaluable.ready e.requires.evaluable.known e.requires.node_value
+  both_down : NodeBy e.requires.evaluable.ready.given.relations (arities_in e.args.self.now.known.now) e.args.self.now.query.now e.args.node (joins (junction_of e.args.junction))
+  both_down = well_formed_by _ _ _ _ _ (joins (junction_of e.args.junction)) e.requires.evaluable.ready e.requires.evaluable.known e.requires.node_value
 
   left_told : (r : Evaluated) → e.evaluate.result ≡ r
-      → Right (arities_in e.args.known.now) e.args.words.now e.args.query.now (word_at e.args.query.now e.args.node 1) e.args.env.now e.args.budget r
+      → Right (arities_in e.args.self.now.known.now) e.args.self.now.words.now e.args.self.now.query.now (word_at e.args.self.now.query.now e.args.node 1) e.args.env.now e.args.budget r
   left_told r is = rw (e.word-left.ensures, is) at e.evaluate.ensures.right
 
 pub both-returns-in_default-clause-right : goal.both-returns-in_default-clause-right
@@ -93,28 +95,25 @@ unfolding kind_of
 evaluate-negated-requires t c = (omega arith, (c.requires, ap kind_of (sym c.word-kind.ensures ∙ c.in-3.is)))
 
 pub evaluate-both-requires : goal.evaluate-both-requires
-evaluate-both-requires t c =
-    let above : 4 ≤ c.word-kind.result = omega arith in
-    let below : c.word-kind.result < 6 = omega arith in
-    let is = joins_by c.word-kind.result (omega arith) below (λ e. omega (arith, e)) (λ e. omega (arith, e)) (λ e. omega (arith, e)) in
-    (omega arith, (c.requires, ap kind_of (sym c.word-kind.ensures) ∙ is))
+unfolding kind_of
+evaluate-both-requires t c = (omega arith, (c.requires, ap kind_of (sym c.word-kind.ensures ∙ c.in-4.is)))
+
+pub evaluate-both-requires-in-5 : goal.evaluate-both-requires-in-5
+unfolding kind_of
+evaluate-both-requires-in-5 t c = (omega arith, (c.requires, ap kind_of (sym c.word-kind.ensures ∙ c.in-5.is)))
 
 pub evaluate-walk-requires : goal.evaluate-walk-requires
-evaluate-walk-requires t c =
-    let above : 6 ≤ c.word-kind.result = omega arith in
-    let below : c.word-kind.result < 8 = omega arith in
-    (omega arith, (c.requires, ap kind_of (sym c.word-kind.ensures) ∙ ranges_by c.word-kind.result above below))
+unfolding kind_of
+evaluate-walk-requires t c = (omega arith, (c.requires, ap kind_of (sym c.word-kind.ensures ∙ c.in-6.is)))
+
+pub evaluate-walk-requires-in-7 : goal.evaluate-walk-requires-in-7
+unfolding kind_of
+evaluate-walk-requires-in-7 t c = (omega arith, (c.requires, ap kind_of (sym c.word-kind.ensures ∙ c.in-7.is)))
 
 pub evaluate-returns-in_default-clause-right : goal.evaluate-returns-in_default-clause-right
-unfolding kind_of
 evaluate-returns-in_default-clause-right t c =
-    let none : c.word-kind.result ≡ 0 = omega arith in
-    absurd (well_formed_by _ _ _ _ _ no_such_kind c.requires.ready c.requires.known (ap kind_of (sym c.word-kind.ensures ∙ none)))
-
-pub evaluate-returns-in_default-2-clause-right : goal.evaluate-returns-in_default-2-clause-right
-evaluate-returns-in_default-2-clause-right t c =
-    let high : 8 ≤ c.word-kind.result = omega arith in
-    absurd (well_formed_by _ _ _ _ _ no_such_kind c.requires.ready c.requires.known (ap kind_of (sym c.word-kind.ensures) ∙ none_above c.word-kind.result high))
+    let none = no_kind c.word-kind.result (λ l. omega (arith, l)) in
+    absurd (well_formed_by _ _ _ _ _ no_such_kind c.requires.ready c.requires.known (ap kind_of (sym c.word-kind.ensures) ∙ none))
 
 pub negated-returns-in_default-clause-right : goal.negated-returns-in_default-clause-right
 negated-returns-in_default-clause-right t c =
@@ -135,13 +134,13 @@ module _ (t : ℕ) (e : walk-After-evaluate t) where
   env₀ = e.args.env.now
 
   abbrev qs : List ℕ
-  qs = e.args.query.now
+  qs = e.args.self.now.query.now
 
-  abbrev known : List ℕ
-  known = e.args.known.now
+  abbrev known : Known
+  known = e.args.self.now.known.now
 
   abbrev all : List ℕ
-  all = walked_words known e.args.values.now qs
+  all = walked_words known e.args.self.now.values.now qs
 
   -- the variable of the node
   abbrev variable : ℕ
@@ -151,56 +150,64 @@ module _ (t : ℕ) (e : walk-After-evaluate t) where
   i = e.loop-i.i
 
   abbrev value : ℕ
-  value = get_or (e.args.values.now ++ qs) i 0
+  value = get_or (e.args.self.now.values.now ++ qs) i 0
 
   -- what is known of the child of a node that ranges over values
-  walk_down : NodeBy e.requires.evaluable.ready.given.relations (arities_in known) qs e.args.node (ranges (junction_of e.args.every))
-  walk_down = well_formed_by _ _ _ _ _ (ranges (junction_of e.args.every)) e.requires.evaluable.ready e.requires.evaluable.known e.requires.node_value
+  walk_down : NodeBy e.requires.evaluable.ready.given.relations (arities_in known) qs e.args.node (ranges (junction_of e.args.junction))
+  walk_down = well_formed_by _ _ _ _ _ (ranges (junction_of e.args.junction)) e.requires.evaluable.ready e.requires.evaluable.known e.requires.node_value
 
   walk_long : length all ≡ places_in known
   walk_long =
-      length-take-le (places_in known) (e.args.values.now ++ qs)
-      (omega (arith, e.requires.evaluable.ranged.places, length-append e.args.values.now qs))
+      length-take-le (places_in known) (e.args.self.now.values.now ++ qs)
+      (omega (arith, e.requires.evaluable.ranged.places, length-append e.args.self.now.values.now qs))
 
   -- a place of the walk is left
   low : i < places_in known
-  low = omega (arith, e.loop-i-test.true, e.places_in-places.ensures)
+  low = omega (arith, e.loop-i-test.true, e.places.ensures)
+
+  -- its index, and the cell that it had
+  abbrev place : ℕ
+  place = e.word-variable.result
+
+  abbrev old : ℕ
+  old = get_or env₀ place 0
+
+  again : set e.loop-i.env place e.value_at.result ≡ set env₀ place e.value_at.result
+  again = set_again env₀ e.loop-i.env place old e.value_at.result e.loop-i.invariant.1
 
   -- the assignment under which the child was evaluated
-  here : e.assign.new.env ≡ set env₀ variable value
-  here =
-      e.assign.ensures ∙ ap (set e.loop-i.env variable) e.value_at.ensures ∙
-      set_again _ e.loop-i.env _ _ _ e.loop-i.invariant.1
+  here : set e.loop-i.env place e.value_at.result ≡ set env₀ variable value
+  here = again ∙ ap₂ (set env₀) e.word-variable.ensures e.value_at.ensures
 
   -- the value is the next one that the walk does not pass over
   next : unpassed known i (drop i all) ≡ value ∷ unpassed known (i + 1) (drop (i + 1) all)
   next =
       unpassed-here known all i (omega (arith, low, walk_long)) (sym e.passed.ensures ∙ e.if-passed.false) ∙
-      ap (λ (v : ℕ). v ∷ unpassed known (i + 1) (drop (i + 1) all)) (get_or-take (places_in known) (e.args.values.now ++ qs) i 0 low)
+      ap (λ (v : ℕ). v ∷ unpassed known (i + 1) (drop (i + 1) all)) (get_or-take (places_in known) (e.args.self.now.values.now ++ qs) i 0 low)
 
   -- putting the old cell back restores the assignment
-  back : set e.evaluate.new.env variable e.assigned-old.result ≡ env₀
+  back : set e.evaluate.new.env place old ≡ env₀
   back =
-      ap (λ (l : List ℕ). set l variable e.assigned-old.result) (e.evaluate.ensures.kept ∙ here) ∙
-      set_back _ e.loop-i.env _ _ _ e.loop-i.invariant.1 e.assigned-old.ensures
+      ap (λ (l : List ℕ). set l place old) (e.evaluate.ensures.kept ∙ again) ∙
+      set_back env₀ e.loop-i.env place old e.value_at.result e.loop-i.invariant.1 refl
 
   -- the child's answer, as the answer for the node that word 2 names, within what is left of the budget
   child_told : (r : Evaluated) → e.evaluate.result ≡ r
-      → Right (arities_in known) e.args.words.now qs (word_at qs e.args.node 2) (set env₀ variable value) (e.args.budget - e.loop-i.cost) r
+      → Right (arities_in known) e.args.self.now.words.now qs (word_at qs e.args.node 2) (set env₀ variable value) (e.args.budget - e.loop-i.cost) r
   child_told r is = rw (e.word.ensures, is, here) at e.evaluate.ensures.right
 
 pub walk-loop-i-init : goal.walk-loop-i-init
 walk-loop-i-init t c =
     let ev = c.requires.evaluable in
-    let down = well_formed_by _ _ _ _ _ (ranges (junction_of c.args.every)) ev.ready ev.known c.requires.node_value in (
+    let down = well_formed_by _ _ _ _ _ (ranges (junction_of c.args.junction)) ev.ready ev.known c.requires.node_value in (
       rw c.unit-truth.ensures (walk_starts _ _ _ _ ev.known _ c.requires.node_value down.1.0 _ _ _ (ev.ranged.walked _ _ ev.known c.requires.node_value)),
-      ap (set c.args.env.now _) c.assigned-old.ensures ∙ set-get_or _ _ 0,
+      set-get_or _ _ 0,
     )
 
 pub walk-loop-i-preserved-then-passed : goal.walk-loop-i-preserved-then-passed
 walk-loop-i-preserved-then-passed t c =
     let ev = c.requires.evaluable in
-    let down = well_formed_by _ _ _ _ _ (ranges (junction_of c.args.every)) ev.ready ev.known c.requires.node_value in (
+    let down = well_formed_by _ _ _ _ _ (ranges (junction_of c.args.junction)) ev.ready ev.known c.requires.node_value in (
       walk_passes _ _ _ _ ev.known _ c.requires.node_value down.1.0 _ _ _ _ _ c.loop-i.invariant.0 _
           (unpassed_gap _ _ _ _ c.gap-i.ensures.gap.all),
       c.loop-i.invariant.1,
@@ -209,7 +216,7 @@ walk-loop-i-preserved-then-passed t c =
 pub walk-returns-in_default : goal.walk-returns-in_default
 walk-returns-in_default t c =
     let e = (goal.at.walk-returns-in_default t c).After-evaluate in record {
-      kept = c.assign-in_default.ensures ∙ back t e;
+      kept = back t e;
       right =
           walk_spent _ _ _ _ c.requires.evaluable.known _ c.requires.node_value (walk_down t e).1.0 _ _ _ _ _
           c.loop-i.invariant.0 _ _ (next t e)
@@ -224,7 +231,7 @@ walk-overflow_add-cost t c =
 pub walk-returns-then-settles : goal.walk-returns-then-settles
 walk-returns-then-settles t c =
     let e = (goal.at.walk-returns-then-settles t c).After-evaluate in record {
-      kept = c.assign-then-settles.ensures ∙ back t e;
+      kept = back t e;
       right =
           rw c.join-truth.ensures
           (walk_settled _ _ _ _ c.requires.evaluable.known _ c.requires.node_value (walk_down t e).1.0 _ _ _ _ _
@@ -247,13 +254,13 @@ walk-loop-i-preserved t c =
 pub walk-returns : goal.walk-returns
 walk-returns t c =
     let ev = c.requires.evaluable in
-    let down = well_formed_by _ _ _ _ _ (ranges (junction_of c.args.every)) ev.ready ev.known c.requires.node_value in
-    let long : length (walked_words c.args.known.now c.args.values.now c.args.query.now) ≡ places_in c.args.known.now =
-    length-take-le (places_in c.args.known.now) (c.args.values.now ++ c.args.query.now)
-    (omega (arith, ev.ranged.places, length-append c.args.values.now c.args.query.now))
+    let down = well_formed_by _ _ _ _ _ (ranges (junction_of c.args.junction)) ev.ready ev.known c.requires.node_value in
+    let long : length (walked_words c.args.self.now.known.now c.args.self.now.values.now c.args.self.now.query.now) ≡ places_in c.args.self.now.known.now =
+    length-take-le (places_in c.args.self.now.known.now) (c.args.self.now.values.now ++ c.args.self.now.query.now)
+    (omega (arith, ev.ranged.places, length-append c.args.self.now.values.now c.args.self.now.query.now))
     in record {
-      kept = c.assign-2.ensures ∙ c.loop-i.invariant.1;
+      kept = c.loop-i.invariant.1;
       right =
           walk_ends _ _ _ _ ev.known _ c.requires.node_value down.1.0 _ _ _ _ _ c.loop-i.invariant.0
-          (unpassed-end _ _ _ (omega (arith, c.loop-i-test.false, c.places_in-places.ensures, long)));
+          (unpassed-end _ _ _ (omega (arith, c.loop-i-test.false, c.places.ensures, long)));
     }
