@@ -7,6 +7,7 @@ use native.Mathlib.Omega.{arith}
 use borrow.Author.Tests.{le-leb, lt-leb}
 use lib.ListN.{length}
 use Rattle.calculus.specs.declared.truth.Truth.{Truth}
+use Rattle.calculus.specs.declared.refusal.Refusal.{Refusal}
 use Rattle.calculus.specs.declared.refusal.Refusal.TheVariants.{OutputTooShort}
 use Rattle.calculus.specs.Eval.{Outcome}
 use Rattle.calculus.specs.Model.{Fill, after_fills, run}
@@ -22,10 +23,8 @@ use Rattle.answer.specs.Ask.{ask}
 use Rattle.answer.specs.Ways.{lent_by, left_by}
 use Rattle.answer.proofs.Told.{Of, tells_verdict, ask_outcome}
 use Rattle.answer.proofs.RerunLaws.{verdict-asked, not_refused, demand_three}
-use Rattle.rerun.specs.declared.reran.Reran.{Reran}
-use Rattle.rerun.specs.declared.reran.Reran.TheVariants.{Refused}
 use Rattle.rerun.specs.Fills.{Filled, filled_with, fill_leaves, fills_told, accounts_told, fed_all, stored}
-use Rattle.rerun.specs.Rerun.{both_runs, first_of, second_of, Given, wanted, start, end, model_words, run_a, run_b, has_answers, begun, reran}
+use Rattle.rerun.specs.Rerun.{Answers, both_runs, first_of, second_of, Given, wanted, start, end, model_words, run_a, run_b, has_answers, begun, reran}
 use Rattle.rerun.specs.Rerun.{reran_words, reran_candidate, reran_answers, reran_log, reran_used, reran_buffer, reran_buffer2, Claim, TellsRuns, Reruns}
 use Rattle.rerun.proofs.ModelLaws.{Kept, fed-run, model-kept, words-kept}
 
@@ -38,13 +37,13 @@ second_both t n (Ok v) = refl
 second_both t n (Err r) = refl
 
 -- a verdict in a rerun's answer is that of the run's outcome
-first_of_lem : {o : Outcome} (b : Bool) (p q : Asked) → Of o p → Of o (first_of (cond b (both_runs p q) (Refused OutputTooShort)))
+first_of_lem : {o : Outcome} (b : Bool) (p q : Asked) → Of o p → Of o (first_of (cond b (both_runs p q) (Err OutputTooShort)))
 first_of_lem true (Ok v) (Ok w) of t n e = of t n e
 first_of_lem true (Ok v) (Err r) of t n e = of t n e
 first_of_lem true (Err r) q of t n e = absurd (not_refused e)
 first_of_lem false p q of t n e = absurd (not_refused e)
 
-second_of_lem : {o : Outcome} (b : Bool) (p q : Asked) → Of o q → Of o (second_of (cond b (both_runs p q) (Refused OutputTooShort)))
+second_of_lem : {o : Outcome} (b : Bool) (p q : Asked) → Of o q → Of o (second_of (cond b (both_runs p q) (Err OutputTooShort)))
 second_of_lem true (Ok v) (Ok w) of t n e = of t n e
 second_of_lem true (Ok v) (Err r) of t n e = absurd (not_refused e)
 second_of_lem true (Err r) q of t n e = absurd (not_refused e)
@@ -52,7 +51,7 @@ second_of_lem false p q of t n e = absurd (not_refused e)
 
 module _ (g : Given) (ws : List ℕ) where
   -- if the answer is the definition's, it has the outcomes of both runs
-  told : {r : Reran} → r ≡ reran g ws → TellsRuns g ws r
+  told : {r : Answers} → r ≡ reran g ws → TellsRuns g ws r
   unfolding reran
   told e = record {
     first = tells_verdict _ (ap first_of e) (first_of_lem (has_answers g ws) (run_a g ws) (run_b g ws) (ask_outcome g.header ws g.query g.candidate (lent_by g.way g.buffer) g.budget));
@@ -60,7 +59,7 @@ module _ (g : Given) (ws : List ℕ) where
   }
 
   pub no_place : length g.answers < length g.fills →
-      Reruns g ws (Refused OutputTooShort) ws g.candidate g.buffer g.answers g.log g.used g.buffer2
+      Reruns g ws (Err OutputTooShort) ws g.candidate g.buffer g.answers g.log g.used g.buffer2
   unfolding begun reran reran_words reran_candidate reran_answers reran_log reran_used reran_buffer reran_buffer2
   no_place l =
       let e = lt-leb (length g.fills) (length g.answers) l in
@@ -78,9 +77,9 @@ module _ (g : Given) (ws : List ℕ) where
       }
 
   pub refused :
-      length g.fills ≤ length g.answers → (r : ℕ) → Err r ≡ run_a g ws →
+      length g.fills ≤ length g.answers → (r : Refusal) → Err r ≡ run_a g ws →
       (buffer : List ℕ) → buffer ≡ left_by g.way g.header ws g.query g.candidate g.buffer →
-      Reruns g ws (Refused r) ws g.candidate buffer g.answers g.log g.used g.buffer2
+      Reruns g ws (Err r) ws g.candidate buffer g.answers g.log g.used g.buffer2
   unfolding begun reran reran_words reran_candidate reran_answers reran_log reran_used reran_buffer reran_buffer2
   refused l r e buffer is-listed =
       let p = le-leb (length g.fills) (length g.answers) l in

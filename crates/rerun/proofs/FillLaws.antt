@@ -16,7 +16,8 @@ use Rattle.instance.specs.Run.{fill_answer}
 use Rattle.instance.proofs.Accepted.{substitute-accepted}
 use Rattle.instance.proofs.Fills.{held-words}
 use Rattle.instance.proofs.Sound.{sound_gives}
-use Rattle.rerun.specs.Fills.{Wanted, wanted, wanted_of, Filled, filled_with, fill_told, fill_leaves, answer_words, fills_told, concatenated, stored}
+use Rattle.rerun.specs.declared.fills.Wanted.{Wanted}
+use Rattle.rerun.specs.Fills.{wanted, wanted_of, Filled, filled_with, fill_told, fill_leaves, answer_words, fills_told, concatenated, stored}
 
 -- a fill counts at most as many cells as an instance has words
 pub count-few : (h : Header) (f : Fill) (ws : List ℕ) (k : ℕ) → fill_answer h f ws ≡ Ok k → k ≤ max_words

@@ -16,7 +16,8 @@ use Rattle.instance.specs.declared.header.Header.{Header}
 use Rattle.instance.specs.Rows.{words_of}
 use Rattle.instance.specs.Sound.{sound, rows}
 use Rattle.instance.proofs.Run.{Follows, follows-answer, follows_next, follows-words}
-use Rattle.rerun.specs.Fills.{Wanted, fed, log_left, used_left, Filled, fill_told, fill_leaves, Account, account_told, account_next, fed_all, answer_words, fills_told, accounts_told}
+use Rattle.rerun.specs.declared.fills.Wanted.{Wanted}
+use Rattle.rerun.specs.Fills.{fed, log_left, used_left, Filled, fill_told, fill_leaves, Account, account_told, account_next, fed_all, answer_words, fills_told, accounts_told}
 
 -- the model after the fills is the model that is fed them
 pub fed-run : (ws : List Wanted) (a : Account) → (after_fills account_next ws a).model ≡ run (fed_all ws a) a.model

@@ -20,7 +20,8 @@ use Rattle.query.specs.Named.{query_of}
 use Rattle.answer.specs.Numbers.{TellsVerdict}
 use Rattle.answer.specs.Rerun.{Rerun}
 use Rattle.rerun.specs.declared.reran.Reran.{Reran}
-use Rattle.rerun.specs.Fills.{Wanted, wanted_of, Account, account_next, accounts_told, fed_all, stored}
+use Rattle.rerun.specs.declared.fills.Wanted.{Wanted}
+use Rattle.rerun.specs.Fills.{wanted_of, Account, account_next, accounts_told, fed_all, stored}
 use Rattle.calculus.specs.Demand.{demand}
 
 -- run A's verdict and run B's answer, or a refusal before the fills
