@@ -4,30 +4,27 @@ use mathlib.Core.Path.{◌≡◌, refl, sym, ap, ◌∙◌}
 use mathlib.Core.Bool.{Bool, true, false, ◌||◌}
 use mathlib.Core.List.{List}
 use native.Mathlib.Omega.{arith}
-use borrow.Author.Tests.{eqb-true, eqb-false}
+use borrow.Author.Tests.{eqb-true, eqb-false, ne_eqb}
 use lib.Dec.{eqb}
 use Rattle.calculus.specs.Kleene.{Junction}
 use Rattle.calculus.proofs.Bools.{false_not_true}
 use Rattle.query.specs.Words.{ranges, kind_of, word_at}
-use Rattle.evaluate.proofs.Children.{ranges_by, none_above}
 use Rattle.answer.specs.Ranging.{is_range, ranges_among}
 
 -- the kinds 6 and 7 range over values, and no other
-pub range-kind : (w : ℕ) → 6 ≤ w → w ≤ 7 → is_range (kind_of w) ≡ true
-range-kind w low high = ap is_range (ranges_by w low (omega arith))
-
-pub low-kind : (w : ℕ) → w < 6 → is_range (kind_of w) ≡ false
+pub range-kind : (w : ℕ) → is_range (kind_of w) ≡ (eqb w 6 || eqb w 7)
 unfolding kind_of
-low-kind zero l = refl
-low-kind (suc zero) l = refl
-low-kind (suc (suc zero)) l = refl
-low-kind (suc (suc (suc zero))) l = refl
-low-kind (suc (suc (suc (suc zero)))) l = refl
-low-kind (suc (suc (suc (suc (suc zero))))) l = refl
-low-kind (suc (suc (suc (suc (suc (suc w)))))) l = absurd (omega arith)
-
-pub high-kind : (w : ℕ) → 7 < w → is_range (kind_of w) ≡ false
-high-kind w l = ap is_range (none_above w (omega arith))
+range-kind zero = refl
+range-kind (suc zero) = refl
+range-kind (suc (suc zero)) = refl
+range-kind (suc (suc (suc zero))) = refl
+range-kind (suc (suc (suc (suc zero)))) = refl
+range-kind (suc (suc (suc (suc (suc zero))))) = refl
+range-kind (suc (suc (suc (suc (suc (suc zero)))))) = refl
+range-kind (suc (suc (suc (suc (suc (suc (suc zero))))))) = refl
+range-kind (suc (suc (suc (suc (suc (suc (suc (suc w)))))))) =
+    let n = suc (suc (suc (suc (suc (suc (suc (suc w))))))) in
+    rw (ne_eqb n 6 (λ e. omega arith), ne_eqb n 7 (λ e. omega arith))
 
 module _ (qs : List ℕ) where
   pub ranges_more : (k : ℕ) → is_range (kind_of (word_at qs k 0)) ≡ false → ranges_among qs k ≡ false → ranges_among qs (suc k) ≡ false

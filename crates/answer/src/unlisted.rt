@@ -33,7 +33,8 @@ fn ranging(query: &[u32]) -> bool
     ensures { result ≡ ranges_among query.now (node_count query.now) }
 {
     for node in 0..query.len() / NODE_WORDS {
-        if (SOME..=EVERY).contains(&query[node * NODE_WORDS]) {
+        let kind = query[node * NODE_WORDS];
+        if kind == SOME || kind == EVERY {
             return true;
         }
     }

@@ -33,7 +33,7 @@ pub returns-in_err-check : goal.returns-in_err-check
 returns-in_err-check c =
     let e = is_sound (goal.at.returns-in_err-check c).In_ok-rows in
     let l = sym c.right_length.ensures ∙ c.if-not-right_length.false in
-    let p = err_from_is_err_and c.from_residual.result c.from_residual.ensures.1 in
+    let p = err_from_is_err_and c.from_residual-in_err-check.result c.from_residual-in_err-check.ensures.1 in
     rw (p.1, p.2) (sym (check_refused _ _ _ _ e l _ (sym c.check.ensures ∙ c.in_err-check.was)))
 
 pub returns : goal.returns
