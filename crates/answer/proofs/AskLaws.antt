@@ -2,17 +2,16 @@
 use Prim.Native.Nat.{ℕ, ◌+◌, ◌≤◌, ◌<◌}
 use mathlib.Core.Path.{◌≡◌, refl, sym, ap, subst, ◌∙◌}
 use mathlib.Core.Bool.{Bool, true, false}
-use mathlib.Core.List.{List, [], ◌∷◌, ◌++◌, append_assoc}
+use mathlib.Core.List.{List, ◌++◌}
 use native.Mathlib.Omega.{arith}
-use lib.ListN.{length, get_or, drop, take, replicate, length-append}
-use lib.Seq.{take_at, take_all, get_or-take}
+use lib.ListN.{length, get_or, drop, take, length-append}
+use lib.Seq.{take_at, take_all}
 use borrow.Author.Tests.{le-leb, lt-leb}
 use Rattle.calculus.specs.Answer.{Answer}
-use Rattle.std.specs.Prelude.{Ok, Err}
+use Rattle.std.specs.Prelude.{Err}
 use Rattle.calculus.specs.declared.refusal.Refusal.{Refusal}
 use Rattle.calculus.specs.Answer.{after}
 use Rattle.calculus.specs.declared.refusal.Refusal.TheVariants.{BufferTooShort}
-use Rattle.calculus.specs.Row.{Row}
 use Rattle.calculus.specs.Domain.{range_over}
 use Rattle.calculus.specs.Model.{outcome_of}
 use Rattle.calculus.specs.Eval.{Outcome, eval}
@@ -28,7 +27,7 @@ use Rattle.query.specs.Tree.{formula_of}
 use Rattle.query.specs.Named.{named_in, query_of, HasTerms}
 use Rattle.query.proofs.Passed.{few-cells, count-within, node-well_formed}
 use Rattle.instance.specs.RowCounts.{row_counts}
-use Rattle.instance.proofs.RowCounts.{row-count_at, row_counts-size}
+use Rattle.instance.proofs.RowCounts.{row-count_at}
 use Rattle.known.specs.declared.Known.{Known}
 use Rattle.known.specs.Known.{arities_in, places_in, flag_at, unpassed, SameBesides}
 use Rattle.known.proofs.Walking.{unpassed-all}

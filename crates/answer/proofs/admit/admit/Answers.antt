@@ -1,11 +1,10 @@
 -- `answer::admit::admit` meets its contract: the scan, the length and the check give the refusals. Assumes nothing.
 use mathlib.Core.Path.{◌≡◌, sym, ap, ◌∙◌}
-use mathlib.Core.Bool.{true, false}
-use Rattle.std.specs.Prelude.{Ok, Err}
+use mathlib.Core.Bool.{true}
+use Rattle.std.specs.Prelude.{Ok}
 use Rattle.std.proofs.lemmas.Result.{err_from_is_err_and}
-use Rattle.instance.specs.Sound.{sound, scanned}
+use Rattle.instance.specs.Sound.{sound}
 use Rattle.instance.proofs.Sound.{scanned-sound, scanned-rows, sound_gives}
-use Rattle.query.specs.Words.{right_length}
 use Rattle.answer.proofs.Admitted.{unsound_refused, length_refused, check_refused, check_passed}
 use Rattle.answer.proofs.admit.admit.Goals as goal
 use Rattle.answer.proofs.admit.admit.Goals.{In_ok-rows}

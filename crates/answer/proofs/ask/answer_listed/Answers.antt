@@ -1,10 +1,7 @@
 -- `answer::ask::answer_listed` meets its contract: the instance is described, and the list is walked with no flag. Assumes nothing.
-use Prim.Native.Nat.{ℕ, ◌≤◌}
-use mathlib.Core.Path.{◌≡◌, refl, sym, ap}
+use mathlib.Core.Path.{sym, ap}
 use native.Mathlib.Omega.{arith}
-use mathlib.Core.List.{List}
 use lib.ListN.{length}
-use Rattle.instance.specs.declared.header.Header.{Header}
 use Rattle.instance.specs.Sound.{rows}
 use Rattle.instance.proofs.Sound.{sound_gives}
 use Rattle.known.specs.declared.Known.{Known}
@@ -38,8 +35,8 @@ answer_top-requires c =
     let unflagged = no_flags k.result (ap (λ (t : Known). t.flags) k.ensures) in
     let few = range-few h ws qs cs count passes in
     let e = evaluable h ws qs cs count passes k.result c.args.values.now (told (goal.at.answer_top-requires c).After-new-known)
-        (listed-ranged h ws qs k.result c.args.values.now (ap places_in k.ensures) unflagged
-        (omega (arith, ap length c.requires.values_value, few)) c.requires.values_value) in
+    (listed-ranged h ws qs k.result c.args.values.now (ap places_in k.ensures) unflagged
+    (omega (arith, ap length c.requires.values_value, few)) c.requires.values_value) in
     record { ready = e.0; query_nonzero = e.1 }
 
 pub returns : goal.returns

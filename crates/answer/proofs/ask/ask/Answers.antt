@@ -1,26 +1,23 @@
 -- `answer::ask::ask` meets its contract: if nothing is refused, the values are listed and the top node is evaluated.
 -- Assumes nothing.
 use Prim.Native.Nat.{ℕ, ◌+◌, ◌-◌, ◌≤◌}
-use mathlib.Core.Path.{◌≡◌, sym, ap, ◌∙◌}
-use mathlib.Core.List.{List, ◌++◌}
+use mathlib.Core.Path.{◌≡◌, sym, ◌∙◌}
+use mathlib.Core.List.{List}
 use native.Mathlib.Omega.{arith}
 use borrow.Author.Rules.{rules}
-use lib.ListN.{length, take, length-append}
-use lib.Seq.{length-take-le}
-use Rattle.std.specs.Prelude.{Ok, Err}
+use lib.ListN.{length, length-append}
+use Rattle.std.specs.Prelude.{Err}
 use Rattle.std.proofs.lemmas.Result.{err_from_is_err_and}
 use Rattle.calculus.specs.declared.refusal.Refusal.{Refusal}
 use Rattle.calculus.specs.Model.{outcome_of}
 use Rattle.calculus.specs.Row.{cells_of}
-use Rattle.calculus.specs.Domain.{range_over}
 use Rattle.instance.specs.Header.{max_relations}
 use Rattle.instance.specs.declared.header.Header.{Header}
-use Rattle.instance.specs.Rows.{rows_from}
 use Rattle.instance.specs.Run.{model_of}
 use Rattle.instance.specs.Sound.{rows}
 use Rattle.instance.proofs.Sound.{Sound, sound_gives}
 use Rattle.query.specs.Named.{named_in, query_of, HasTerms}
-use Rattle.answer.specs.Ask.{admitted, needed, most_needed, askable, ask, asked_buffer, list}
+use Rattle.answer.specs.Ask.{needed, most_needed, askable, ask, asked_buffer, list}
 use Rattle.answer.specs.Admitted.{Admitted}
 use Rattle.answer.specs.Numbers.{TellsVerdict}
 use Rattle.answer.specs.Asked.{Asked}
@@ -42,10 +39,10 @@ module _ (h : Header) (ws qs cs lent : List ℕ) (budget : ℕ) where
   told p q = record { answer = p; buffer = q; told = ask-told h ws qs cs (list lent) budget p }
 
   refused-told : (r : Refusal) → askable h ws qs cs (list lent) ≡ Err r → record {
-        answer : Err r ≡ ask h ws qs cs (list lent) budget;
-        buffer : lent ≡ asked_buffer h ws qs cs lent;
-        told : TellsVerdict (Err r) (ask h ws qs cs (list lent) budget) (outcome_of (model_of h ws cs) (query_of h.arities qs));
-      }
+    answer : Err r ≡ ask h ws qs cs (list lent) budget;
+    buffer : lent ≡ asked_buffer h ws qs cs lent;
+    told : TellsVerdict (Err r) (ask h ws qs cs (list lent) budget) (outcome_of (model_of h ws cs) (query_of h.arities qs));
+  }
   refused-told r e = told (refused-asked h ws qs cs (list lent) budget r e) (refused-buffer h ws qs cs lent r e)
 
 -- the question is admitted
