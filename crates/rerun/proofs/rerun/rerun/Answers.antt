@@ -3,6 +3,7 @@ use Prim.Native.Nat.{ℕ}
 use mathlib.Core.Path.{sym, ◌∙◌}
 use mathlib.Core.List.{List}
 use native.Mathlib.Omega.{arith}
+use Rattle.std.proofs.lemmas.Result.{err_from_is_err_and}
 use Rattle.rerun.specs.Rerun.{Given, given}
 use Rattle.rerun.proofs.Endings.{no_place, refused, few-cells, both_asked}
 use Rattle.rerun.proofs.rerun.rerun.Goals as goal
@@ -21,27 +22,22 @@ returns-then-answers-fills c =
     let s = (goal.at.returns-then-answers-fills c).Start in
     no_place (g s) (ws s) c.if-answers-fills.true
 
+pub returns-in_err-first : goal.returns-in_err-first
+returns-in_err-first c =
+    let s = (goal.at.returns-in_err-first c).Start in
+    let p = err_from_is_err_and c.from_residual.result c.from_residual.ensures.1 in
+    rw (p.1, p.2)
+    (refused (g s) (ws s) c.if-answers-fills.false _ (sym c.in_err-first.was ∙ c.ask_by.ensures.answer) _ c.ask_by.ensures.buffer)
+
 pub fill_all-requires : goal.fill_all-requires
 fill_all-requires c =
     let s = (goal.at.fill_all-requires c).Start in
-    let few = few-cells (g s) (ws s) _ _ (sym c.in-Verdict.is ∙ c.ask_by.ensures.answer) in
+    let few = few-cells (g s) (ws s) _ _ (sym c.in_ok-first.was ∙ c.ask_by.ensures.answer) in
     (omega arith, c.if-answers-fills.false)
 
-pub returns-in-Refused : goal.returns-in-Refused
-returns-in-Refused c =
-    let s = (goal.at.returns-in-Refused c).Start in
-    refused (g s) (ws s) c.if-answers-fills.false _ (sym c.in-Refused.is ∙ c.ask_by.ensures.answer) _ c.ask_by.ensures.buffer
-
-pub returns-in-Refused-ask_by : goal.returns-in-Refused-ask_by
-returns-in-Refused-ask_by c =
-    let s = (goal.at.returns-in-Refused-ask_by c).Start in
-    both_asked (g s) (ws s) c.if-answers-fills.false _ _ (sym c.in-Verdict.is ∙ c.ask_by.ensures.answer)
+pub returns : goal.returns
+returns c =
+    let s = (goal.at.returns c).Start in
+    both_asked (g s) (ws s) c.if-answers-fills.false _ _ (sym c.in_ok-first.was ∙ c.ask_by.ensures.answer)
     _ _ _ _ _ _ _ _ c.ask_by.ensures.buffer c.fill_all.ensures.left c.fill_all.ensures.answers
-    (sym c.in-Refused-ask_by.is ∙ c.ask_by-in-Verdict.ensures.answer) c.ask_by-in-Verdict.ensures.buffer
-
-pub returns-in-Verdict-ask_by : goal.returns-in-Verdict-ask_by
-returns-in-Verdict-ask_by c =
-    let s = (goal.at.returns-in-Verdict-ask_by c).Start in
-    both_asked (g s) (ws s) c.if-answers-fills.false _ _ (sym c.in-Verdict.is ∙ c.ask_by.ensures.answer)
-    _ _ _ _ _ _ _ _ c.ask_by.ensures.buffer c.fill_all.ensures.left c.fill_all.ensures.answers
-    (sym c.in-Verdict-ask_by.is ∙ c.ask_by-in-Verdict.ensures.answer) c.ask_by-in-Verdict.ensures.buffer
+    c.ask_by-second.ensures.answer c.ask_by-second.ensures.buffer
