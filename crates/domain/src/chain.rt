@@ -12,7 +12,8 @@ use calculus::cell::CONSTANTS;
 use query::inked::terms_of;
 use query::words::NODE_WORDS;
 
-// Each word packs a value (low 20 bits) and a link (high 12 bits): cells are below 2^20, and a link is at most 4,095.
+// Each word packs a value (low 20 bits) and a link (high 12 bits), so that the list needs no memory besides the lent buffer: cells are below 2^20, and a link is at
+// most 4,095.
 const LINK_UNIT: u32 = 1_048_576;
 
 // Whether a cell is among the first `head` values of a list, found along the chain of its bucket.

@@ -60,7 +60,7 @@ impl Asking<'_> {
         let covered = budget - 1;
         let relation = self.word(node, 1);
         let rows = self.known.count(relation);
-        let arity = self.known.arity(relation) as usize;
+        let arity = self.known.arity(relation);
         let row = asked_row(self.query, node, arity, env);
         if covered < rows {
             let front = stands(self.words, self.known, relation as u32, covered, &row);

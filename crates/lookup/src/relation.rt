@@ -10,7 +10,7 @@ ghost use Rattle.known.specs.Known.{arities_in};
 ghost use Rattle.lookup.specs.Passing.{RowsLeft};
 ghost use Rattle.lookup.specs.Place.{cells_at};
 
-use super::probe::{next_probe, probe_at};
+use super::probe::Probe;
 use super::row::{Match, alike, compare};
 use super::rows::next_near;
 use calculus::truth::Truth;
@@ -45,9 +45,9 @@ pub fn stands(words: &[u32], known: &Known, relation: u32, most: u32, row: &[u32
     ensures verdict { MeansStands (take most (tuples relation (rows_from (arities_in known.now) 0 words.now))) (take (arity_of (arities_in known.now) relation) row.now) result.truth }
     ensures charge { MeansExamined (take most (tuples relation (rows_from (arities_in known.now) 0 words.now))) (take (arity_of (arities_in known.now) relation) row.now) result.rows }
 {
-    let arity = known.arity(relation as usize) as usize;
+    let arity = known.arity(relation as usize);
     let asked = &row[..arity];
-    let mut probe = probe_at(asked, 0, false);
+    let mut probe = Probe::new(asked, 0, false);
     let mut possible = false;
     let mut more = most;
     let mut i = 0;
@@ -78,7 +78,7 @@ pub fn stands(words: &[u32], known: &Known, relation: u32, most: u32, row: &[u32
                 Match::Unifies => possible = true,
                 Match::Apart => {}
             }
-            probe = next_probe(words, near.place, asked, probe, earlier, possible);
+            probe = probe.next(words, near.place, asked, earlier, possible);
             more -= 1;
             i = near.place + 1 + arity;
         }

@@ -33,7 +33,7 @@ fn next_row(words: &[u32], known: &Known, relation: u32, place: usize) -> usize
     while w != relation {
         if w != other {
             other = w;
-            step = 1 + known.arity(w as usize) as usize;
+            step = 1 + known.arity(w as usize);
         }
         i += step;
         w = words[i];
@@ -63,7 +63,7 @@ pub fn next_near(
     ensures here { 0 < result.more → get_or words.now result.place 0 ≡ relation }
     ensures place { result.place ≡ place + words_passed (told_apart column asked limit) relation most (rows_from (arities_in known.now) 0 (drop place words.now)) }
 {
-    let step = 1 + known.arity(relation as usize) as usize;
+    let step = 1 + known.arity(relation as usize);
     let mut i = place;
     for passed in 0..most {
         i = next_row(words, known, relation, i);

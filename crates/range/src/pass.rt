@@ -25,7 +25,8 @@ pub fn stood(known: &Known, first: usize, words: &[u32], cell: u32) -> bool
     false
 }
 
-// Whether a cell stood before a place. The head that the cell shares with others often tells; only if another cell has it are the words scanned.
+// Whether a cell stood before a place. The head that the cell shares with others often tells; only if another cell has it are the words scanned. A head is 0 and no
+// None if no cell has it yet, so that it takes 16 bits.
 pub fn stood_earlier(words: &[u32], known: &Known, place: usize, cell: u32, head: usize) -> bool
     requires place_in { (place ≤ length words.now) × (length words.now ≤ max_words) }
     requires head { Head words.now (stood_before known.now words.now place) place cell head }
