@@ -2,7 +2,8 @@
 ghost use Rattle.std.specs.Prelude.{◌≡◌};
 ghost use Rattle.domain.specs.Bucket.{bucket_of};
 
-// A cell's bucket is the upper 10 of the lower 32 bits of its product with this number, so that evenly spaced values spread.
+// A cell's bucket is the upper 10 of the lower 32 bits of its product with this number, so that evenly spaced values
+// spread.
 const SPREAD: u32 = 2_654_435_761;
 
 pub fn bucket_of(cell: u32) -> usize

@@ -1,4 +1,5 @@
-// A list of values while it is being built: a hash table whose chains run through the list. At most 980 cells share a bucket, so no chain is longer.
+// A list of values while it is being built: a hash table whose chains run through the list. At most 980 cells share a
+// bucket, so no chain is longer.
 ghost use Rattle.std.specs.Prelude.{◌≡◌, ◌≤◌, ◌<◌, ◌+◌, map, replicate, [], ◌∷◌, length, true};
 ghost use Rattle.instance.specs.Header.{max_words};
 ghost use Rattle.calculus.specs.Listed.{listed};
@@ -12,8 +13,8 @@ use calculus::cell::CONSTANTS;
 use query::inked::terms_of;
 use query::words::NODE_WORDS;
 
-// Each word packs a value (low 20 bits) and a link (high 12 bits), so that the list needs no memory besides the lent buffer: cells are below 2^20, and a link is at
-// most 4,095.
+// Each word packs a value (low 20 bits) and a link (high 12 bits), so that the list needs no memory besides the lent
+// buffer: cells are below 2^20, and a link is at most 4,095.
 const LINK_UNIT: u32 = 1_048_576;
 
 // Whether a cell is among the first `head` values of a list, found along the chain of its bucket.
@@ -33,7 +34,8 @@ fn find(list: &[u32], head: usize, cell: u32) -> bool
     false
 }
 
-// How many values stand at the start of a list, and where the chain of each bucket starts: the place of its latest value, counted from 1, or 0 if it has none.
+// How many values stand at the start of a list, and where the chain of each bucket starts: the place of its latest
+// value, counted from 1, or 0 if it has none.
 #[derive(Drop)]
 pub struct Chains {
     pub count: usize,
@@ -52,7 +54,8 @@ impl Chains {
 
     // Adds a cell after a list's values if it is not among them.
     fn add_value(&mut self, list: &mut [u32], cell: u32)
-        requires { (self.old.count < length list.old) × (self.old.count < max_words) × (cell < link_unit) × Chained self.old.heads list.old self.old.count }
+        requires { (self.old.count < length list.old) × (self.old.count < max_words) × (cell < link_unit)
+            × Chained self.old.heads list.old self.old.count }
         ensures chained { Chained self.new.heads list.new self.new.count }
         ensures added { Added list.old self.old.count (cell ∷ []) list.new self.new.count }
     {
@@ -68,7 +71,9 @@ impl Chains {
 
     // Adds cells after a list's values, each if it is not listed yet.
     pub fn add_cells(&mut self, list: &mut [u32], cells: &[u32])
-        requires { (self.old.count + length cells.now ≤ length list.old) × (self.old.count + length cells.now ≤ max_words) × (are_cells cells.now ≡ true) × Chained self.old.heads list.old self.old.count }
+        requires { (self.old.count + length cells.now ≤ length list.old)
+            × (self.old.count + length cells.now ≤ max_words) × (are_cells cells.now ≡ true)
+            × Chained self.old.heads list.old self.old.count }
         ensures chained { Chained self.new.heads list.new self.new.count }
         ensures added { Added list.old self.old.count cells.now list.new self.new.count }
     {
@@ -80,7 +85,8 @@ impl Chains {
     // Adds the constants among words after a list's values, each if it is not listed yet.
     fn add_constants(&mut self, list: &mut [u32], words: &[u32])
         requires { (self.old.count + length (constants_among words.now) ≤ length list.old)
-            × (self.old.count + length (constants_among words.now) ≤ max_words) × Chained self.old.heads list.old self.old.count }
+            × (self.old.count + length (constants_among words.now) ≤ max_words)
+            × Chained self.old.heads list.old self.old.count }
         ensures chained { Chained self.new.heads list.new self.new.count }
         ensures added { Added list.old self.old.count (constants_among words.now) list.new self.new.count }
     {

@@ -20,7 +20,8 @@ mod chain;
 
 // Lists the values of the cells at the start of a buffer, row by row; the rest of the buffer stays.
 fn list_cells(words: &[u32], arities: &[u32; 8], buffer: &mut [u32], chains: &mut Chains)
-    requires instance_of { InstanceOf arities.now words.now × Chained chains.old.heads buffer.old chains.old.count × (chains.old.count ≡ 0) }
+    requires instance_of { InstanceOf arities.now words.now
+        × Chained chains.old.heads buffer.old chains.old.count × (chains.old.count ≡ 0) }
     requires words_in_bounds { length (cells_of (rows_from arities.now 0 words.now)) ≤ length buffer.old }
     ensures chained { Chained chains.new.heads buffer.new chains.new.count }
     ensures added { Added buffer.old 0

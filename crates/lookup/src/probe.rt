@@ -45,8 +45,9 @@ impl Probe {
         }
     }
 
-    // The probe after the row at a place, which had to be compared; `earlier` tells what was possible before it. A column that fails too often gives way to
-    // the next, and the last to the first. Which column it is changes no answer, so the choice is not promised.
+    // The probe after the row at a place, which had to be compared; `earlier` tells what was possible before it. A
+    // column that fails too often gives way to the next, and the last to the first. Which column it is changes no
+    // answer, so the choice is not promised.
     pub fn next(
         self,
         words: &[u32],
