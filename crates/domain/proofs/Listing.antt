@@ -10,7 +10,7 @@ use Rattle.calculus.specs.Overwrite.{overwrite}
 use Rattle.calculus.proofs.Listing.{listing-distinct}
 use Rattle.query.specs.Named.{constants_among}
 use Rattle.query.proofs.KindTerms.{among_append}
-use Rattle.domain.specs.Chains.{word_value, values_of, Chained, Added}
+use Rattle.domain.specs.Chains.{word_value, values_of, Added}
 use Rattle.domain.proofs.Chains.{added_then, added_none}
 
 -- ---- the constants among words, and the inked terms of nodes
@@ -22,12 +22,6 @@ module _ (ws : List ℕ) (i : ℕ) where
 
   pub among_room : length (constants_among (take i ws)) + length (constants_among (drop i ws)) ≡ length (constants_among ws)
   among_room = sym (length-append (constants_among (take i ws)) (constants_among (drop i ws))) ∙ ap length (sym among_split)
-
--- what holds of equal lists
-pub same-added :
-    {list l heads h before cs : List ℕ} {n count k : ℕ} → list ≡ l → heads ≡ h → count ≡ k → Chained h l k → Added before n cs l k →
-    Chained heads list count × Added before n cs list count
-same-added p q r c a = rw (p, q, r) (c, a)
 
 -- the terms `all`, of which some are added after n values, and `rest` is still to come
 pub record Naming (all before : List ℕ) (n : ℕ) (buffer : List ℕ) (m : ℕ) (rest : List ℕ) : Type 0 where

@@ -13,34 +13,28 @@ ghost use Rattle.instance.specs.Header.{max_words};
 ghost use Rattle.query.specs.Named.{named_in, HasTerms};
 ghost use Rattle.domain.specs.Chains.{Chained, Added};
 
-use chain::{add_cells, add_named, unlink};
+use chain::{Chains, unlink};
 
 pub mod bucket;
 mod chain;
 
-// Lists the values of the cells at the start of a buffer, row by row, and returns their number; the rest of the buffer
-// stays.
-fn list_cells(
-    words: &[u32],
-    arities: &[u32; 8],
-    buffer: &mut [u32],
-    heads: &mut [u16; 1024],
-) -> usize
-    requires instance_of { InstanceOf arities.now words.now × Chained heads.old buffer.old 0 }
+// Lists the values of the cells at the start of a buffer, row by row; the rest of the buffer stays.
+fn list_cells(words: &[u32], arities: &[u32; 8], buffer: &mut [u32], chains: &mut Chains)
+    requires instance_of { InstanceOf arities.now words.now
+        × Chained chains.old.heads buffer.old chains.old.count × (chains.old.count ≡ 0) }
     requires words_in_bounds { length (cells_of (rows_from arities.now 0 words.now)) ≤ length buffer.old }
-    ensures chained { Chained heads.new buffer.new result }
+    ensures chained { Chained chains.new.heads buffer.new chains.new.count }
     ensures added { Added buffer.old 0
-        (cells_of (rows_from arities.now 0 words.now)) buffer.new result }
+        (cells_of (rows_from arities.now 0 words.now)) buffer.new chains.new.count }
 {
-    let mut n = 0;
     let mut i = 0;
+    // A `while`: the step is the row's length, which no range has.
     while i < words.len() {
         let first = i + 1;
         let next = first + arities[words[i] as usize] as usize;
-        n = add_cells(buffer, heads, n, &words[first..next]);
+        chains.add_cells(buffer, &words[first..next]);
         i = next;
     }
-    n
 }
 
 // Lists the range at the start of a buffer, and returns the number of its values; the rest of the buffer stays.
@@ -56,9 +50,9 @@ pub fn list_range(words: &[u32], query: &[u32], arities: &[u32; 8], buffer: &mut
         (range_over (named_in arities.now query.now)
         (rows_from arities.now 0 words.now)) buffer.old }
 {
-    let mut heads = [0u16; 1024];
-    let cells = list_cells(words, arities, buffer, &mut heads);
-    let n = add_named(buffer, &mut heads, cells, query, arities);
-    unlink(&mut buffer[..n]);
-    n
+    let mut chains = Chains::new();
+    list_cells(words, arities, buffer, &mut chains);
+    chains.add_named(buffer, query, arities);
+    unlink(&mut buffer[..chains.count]);
+    chains.count
 }

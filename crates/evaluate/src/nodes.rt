@@ -1,4 +1,5 @@
-// Evaluation of a question's nodes. The stack grows only with the question's depth, since the walk over values is a loop.
+// Evaluation of a question's nodes. The stack grows only with the question's depth, since the walk over values is a
+// loop.
 ghost use Rattle.std.specs.Prelude.{◌≡◌, ◌<◌, ◌+◌, ℕ, length, get_or, List, ◌++◌, true};
 ghost use Rattle.calculus.specs.Eval.{Structure};
 ghost use Rattle.known.specs.Known.{arities_in};
@@ -60,7 +61,7 @@ impl Asking<'_> {
         let covered = budget - 1;
         let relation = self.word(node, 1);
         let rows = self.known.count(relation);
-        let arity = self.known.arity(relation) as usize;
+        let arity = self.known.arity(relation);
         let row = asked_row(self.query, node, arity, env);
         if covered < rows {
             let front = stands(self.words, self.known, relation as u32, covered, &row);
@@ -79,9 +80,11 @@ impl Asking<'_> {
     // Evaluates an equality.
     fn equality(&self, node: usize, env: &[u32; 16], budget: u32) -> Evaluated
         requires node_bound { node < node_count self.now.query.now }
-        requires node_value { (is_term (word_at self.now.query.now node 1) ≡ true) × (is_term (word_at self.now.query.now node 2) ≡ true) }
+        requires node_value { (is_term (word_at self.now.query.now node 1) ≡ true)
+            × (is_term (word_at self.now.query.now node 2) ≡ true) }
         requires node_value_2 { kind_of (word_at self.now.query.now node 0) ≡ equals }
-        ensures right { (S : Structure) (ars : List ℕ) → S.equals ≡ equalityOf → RightIn S ars self.now.query.now node env.now budget result }
+        ensures right { (S : Structure) (ars : List ℕ) → S.equals ≡ equalityOf
+            → RightIn S ars self.now.query.now node env.now budget result }
     {
         if budget < 1 {
             return Evaluated::Spent;

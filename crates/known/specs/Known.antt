@@ -36,7 +36,8 @@ unfoldable pub unpassed : Known → ℕ → List ℕ → List ℕ
 unpassed known p [] = []
 unpassed known p (w ∷ ws) = cond (flag_at known p) (unpassed known (suc p) ws) (w ∷ unpassed known (suc p) ws)
 
--- how many flags stand one after another from place p on, as far as its word goes: as many as the word's complement has zeros there
+-- how many flags stand one after another from place p on, as far as its word goes: as many as the word's complement
+-- has zeros there
 abbrev pub gap_at : Known → ℕ → ℕ
 gap_at known p = count_trailing_zeros 32 (4294967295 - get_or known.flags (p / 32) 0 / 2 ^ (p % 32))
 

@@ -44,11 +44,11 @@ impl Known {
         self.counts[relation]
     }
 
-    pub fn arity(&self, relation: usize) -> u32
+    pub fn arity(&self, relation: usize) -> usize
         requires { relation < max_relations }
         ensures { result ≡ arity_of (arities_in self.now) relation }
     {
-        self.arities[relation]
+        self.arities[relation] as usize
     }
 
     // How many places a quantifier walks.

@@ -10,4 +10,6 @@ through bs c = fold (λ x b. bind b.null b.cell x) c bs
 
 -- what makes two different cells equal: the first is replaced if it is a null, otherwise the second if it is one
 abbrev pub binding_of : ℕ → ℕ → Option Binding
-binding_of x y = cond (ltb x constants) (cond (ltb y constants) None (Some (record { null = y; cell = x }))) (Some (record { null = x; cell = y }))
+binding_of x y =
+    cond (ltb x constants) (cond (ltb y constants) None (Some (record { null = y; cell = x })))
+    (Some (record { null = x; cell = y }))

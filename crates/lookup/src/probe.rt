@@ -32,45 +32,47 @@ fn limit(possible: bool, cell: u32) -> u32
     0
 }
 
-// A probe of a column, which has not failed yet.
-pub fn probe_at(row: &[u32], column: usize, possible: bool) -> Probe
-    requires { column < length row.now }
-    ensures { result ≡ probe_at possible row.now column }
-{
-    let low = limit(possible, row[column]);
-    Probe {
-        column,
-        low,
-        failed: 0,
+impl Probe {
+    // A probe of a column, which has not failed yet.
+    pub fn new(row: &[u32], column: usize, possible: bool) -> Probe
+        requires { column < length row.now }
+        ensures { result ≡ probe_at possible row.now column }
+    {
+        Probe {
+            column,
+            low: limit(possible, row[column]),
+            failed: 0,
+        }
     }
-}
 
-// The probe after the row at a place, which had to be compared; `earlier` tells what was possible before it. A column that fails too often gives way to the
-// next, and the last to the first. Which column it is changes no answer, so the choice is not promised.
-pub fn next_probe(
-    words: &[u32],
-    place: usize,
-    row: &[u32],
-    probe: Probe,
-    earlier: bool,
-    possible: bool,
-) -> Probe
-    requires { (place + (1 + length row.now) ≤ length words.now) × Probes earlier row.now probe }
-    ensures { Probes possible row.now result }
-{
-    if possible != earlier {
-        return probe_at(row, probe.column, possible);
+    // The probe after the row at a place, which had to be compared; `earlier` tells what was possible before it. A
+    // column that fails too often gives way to the next, and the last to the first. Which column it is changes no
+    // answer, so the choice is not promised.
+    pub fn next(
+        self,
+        words: &[u32],
+        place: usize,
+        row: &[u32],
+        earlier: bool,
+        possible: bool,
+    ) -> Probe
+        requires { (place + (1 + length row.now) ≤ length words.now) × Probes earlier row.now self }
+        ensures { Probes possible row.now result }
+    {
+        if possible != earlier {
+            return Probe::new(row, self.column, possible);
+        }
+        if words[place + 1 + self.column] != row[self.column] {
+            return self;
+        }
+        if self.failed < FAILS {
+            let failed = self.failed + 1;
+            return Probe { failed, ..self };
+        }
+        let next = self.column + 1;
+        if next == row.len() {
+            return Probe::new(row, 0, possible);
+        }
+        Probe::new(row, next, possible)
     }
-    if words[place + 1 + probe.column] != row[probe.column] {
-        return probe;
-    }
-    if probe.failed < FAILS {
-        let failed = probe.failed + 1;
-        return Probe { failed, ..probe };
-    }
-    let next = probe.column + 1;
-    if next == row.len() {
-        return probe_at(row, 0, possible);
-    }
-    probe_at(row, next, possible)
 }

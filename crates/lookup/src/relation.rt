@@ -10,7 +10,7 @@ ghost use Rattle.known.specs.Known.{arities_in};
 ghost use Rattle.lookup.specs.Passing.{RowsLeft};
 ghost use Rattle.lookup.specs.Place.{cells_at};
 
-use super::probe::{next_probe, probe_at};
+use super::probe::Probe;
 use super::row::{Match, alike, compare};
 use super::rows::next_near;
 use calculus::truth::Truth;
@@ -23,7 +23,8 @@ pub struct Examined {
     pub rows: u32,
 }
 
-// How the row at a place compares with an asked row, if it matters: once an earlier row has unified, only identity does.
+// How the row at a place compares with an asked row, if it matters: once an earlier row has unified, only identity
+// does.
 fn compare_after(words: &[u32], place: usize, row: &[u32], possible: bool) -> Match
     requires { (place + (1 + length row.now) ≤ length words.now) × (length row.now ≤ max_columns) }
     ensures { result ≡ match_after possible row.now (cells_at words.now place (length row.now)) }
@@ -37,17 +38,24 @@ fn compare_after(words: &[u32], place: usize, row: &[u32], possible: bool) -> Ma
     compare(words, place, row)
 }
 
-// What the first `most` rows of the relation say. An identical row ends the pass, and so does the last of those rows. A row that only unifies does not:
-// a later one may be identical. A row is not compared if a probe of one column tells enough.
+// What the first `most` rows of the relation say. An identical row ends the pass, and so does the last of those rows. A
+// row that only unifies does not: a later one may be identical. A row is not compared if a probe of one column tells
+// enough.
 pub fn stands(words: &[u32], known: &Known, relation: u32, most: u32, row: &[u32; 6]) -> Examined
     requires { RowsLeft (arities_in known.now) words.now relation 0 most }
-    ensures answer { result ≡ examined_of (take most (tuples relation (rows_from (arities_in known.now) 0 words.now))) (take (arity_of (arities_in known.now) relation) row.now) }
-    ensures verdict { MeansStands (take most (tuples relation (rows_from (arities_in known.now) 0 words.now))) (take (arity_of (arities_in known.now) relation) row.now) result.truth }
-    ensures charge { MeansExamined (take most (tuples relation (rows_from (arities_in known.now) 0 words.now))) (take (arity_of (arities_in known.now) relation) row.now) result.rows }
+    ensures answer { result ≡ examined_of
+        (take most (tuples relation (rows_from (arities_in known.now) 0 words.now)))
+        (take (arity_of (arities_in known.now) relation) row.now) }
+    ensures verdict { MeansStands
+        (take most (tuples relation (rows_from (arities_in known.now) 0 words.now)))
+        (take (arity_of (arities_in known.now) relation) row.now) result.truth }
+    ensures charge { MeansExamined
+        (take most (tuples relation (rows_from (arities_in known.now) 0 words.now)))
+        (take (arity_of (arities_in known.now) relation) row.now) result.rows }
 {
-    let arity = known.arity(relation as usize) as usize;
+    let arity = known.arity(relation as usize);
     let asked = &row[..arity];
-    let mut probe = probe_at(asked, 0, false);
+    let mut probe = Probe::new(asked, 0, false);
     let mut possible = false;
     let mut more = most;
     let mut i = 0;
@@ -78,7 +86,7 @@ pub fn stands(words: &[u32], known: &Known, relation: u32, most: u32, row: &[u32
                 Match::Unifies => possible = true,
                 Match::Apart => {}
             }
-            probe = next_probe(words, near.place, asked, probe, earlier, possible);
+            probe = probe.next(words, near.place, asked, earlier, possible);
             more -= 1;
             i = near.place + 1 + arity;
         }

@@ -105,7 +105,8 @@ pub fn alike(words: &[u32], place: usize, row: &[u32]) -> usize
     row.len()
 }
 
-// How an asked row compares with the row at a place. Nulls are bound only from the first column that differs, so rows of constants need no bindings.
+// How an asked row compares with the row at a place. Nulls are bound only from the first column that differs, so rows
+// of constants need no bindings.
 pub fn compare(words: &[u32], place: usize, row: &[u32]) -> Match
     requires { (place + (1 + length row.now) ≤ length words.now) × (length row.now ≤ max_columns) }
     ensures answer { result ≡ compared_at words.now place row.now }

@@ -8,22 +8,25 @@ ghost use Rattle.lookup.specs.Passing.{RowsLeft, told_apart, passing, words_pass
 
 use known::Known;
 
-// The place of a row, and how many rows of its relation are left from there on. With no row left it is the place after the last that was passed over, so this
-// is no Option.
+// The place of a row, and how many rows of its relation are left from there on. With no row left it is the place after
+// the last that was passed over, so this is no Option.
 #[derive(Clone, Copy)]
 pub struct Near {
     pub place: usize,
     pub more: u32,
 }
 
-// The place of the relation's next row. While rows of another relation follow one another, their length is not looked up again: that look-up would have
-// to end before the next word can be read. Such rows are passed over two at a time.
+// The place of the relation's next row. While rows of another relation follow one another, their length is not looked
+// up again: that look-up would have to end before the next word can be read. Such rows are passed over two at a time.
 fn next_row(words: &[u32], known: &Known, relation: u32, place: usize) -> usize
     requires { RowsLeft (arities_in known.now) words.now relation place 1 }
     ensures here { get_or words.now result 0 ≡ relation }
-    ensures rows { tuples relation (rows_from (arities_in known.now) 0 (drop result words.now)) ≡ tuples relation (rows_from (arities_in known.now) 0 (drop place words.now)) }
+    ensures rows { tuples relation (rows_from (arities_in known.now) 0 (drop result words.now))
+        ≡ tuples relation (rows_from (arities_in known.now) 0 (drop place words.now)) }
     ensures left { RowsLeft (arities_in known.now) words.now relation result 1 }
-    ensures place { (test : List ℕ → Bool) (n : ℕ) → result + words_passed test relation (suc n) (rows_from (arities_in known.now) 0 (drop result words.now)) ≡ place + words_passed test relation (suc n) (rows_from (arities_in known.now) 0 (drop place words.now)) }
+    ensures place { (test : List ℕ → Bool) (n : ℕ)
+        → result + words_passed test relation (suc n) (rows_from (arities_in known.now) 0 (drop result words.now))
+        ≡ place + words_passed test relation (suc n) (rows_from (arities_in known.now) 0 (drop place words.now)) }
 {
     let mut other = relation;
     let mut step = 0;
@@ -33,7 +36,7 @@ fn next_row(words: &[u32], known: &Known, relation: u32, place: usize) -> usize
     while w != relation {
         if w != other {
             other = w;
-            step = 1 + known.arity(w as usize) as usize;
+            step = 1 + known.arity(w as usize);
         }
         i += step;
         w = words[i];
@@ -45,8 +48,8 @@ fn next_row(words: &[u32], known: &Known, relation: u32, place: usize) -> usize
     i
 }
 
-// The next of the relation's `most` rows whose cell in the column is the asked one, or is not below `limit`. The rows before it are passed over in a
-// loop that does nothing else. If all are, none is left.
+// The next of the relation's `most` rows whose cell in the column is the asked one, or is not below `limit`. The rows
+// before it are passed over in a loop that does nothing else. If all are, none is left.
 pub fn next_near(
     words: &[u32],
     known: &Known,
@@ -57,13 +60,17 @@ pub fn next_near(
     place: usize,
     most: u32,
 ) -> Near
-    requires { RowsLeft (arities_in known.now) words.now relation place most × (column < arity_of (arities_in known.now) relation) }
-    ensures rows { take result.more (tuples relation (rows_from (arities_in known.now) 0 (drop result.place words.now))) ≡ passing (told_apart column asked limit) (take most (tuples relation (rows_from (arities_in known.now) 0 (drop place words.now)))) }
+    requires { RowsLeft (arities_in known.now) words.now relation place most
+        × (column < arity_of (arities_in known.now) relation) }
+    ensures rows { take result.more (tuples relation (rows_from (arities_in known.now) 0 (drop result.place words.now)))
+        ≡ passing (told_apart column asked limit)
+        (take most (tuples relation (rows_from (arities_in known.now) 0 (drop place words.now)))) }
     ensures left { RowsLeft (arities_in known.now) words.now relation result.place result.more }
     ensures here { 0 < result.more → get_or words.now result.place 0 ≡ relation }
-    ensures place { result.place ≡ place + words_passed (told_apart column asked limit) relation most (rows_from (arities_in known.now) 0 (drop place words.now)) }
+    ensures place { result.place ≡ place + words_passed (told_apart column asked limit) relation most
+        (rows_from (arities_in known.now) 0 (drop place words.now)) }
 {
-    let step = 1 + known.arity(relation as usize) as usize;
+    let step = 1 + known.arity(relation as usize);
     let mut i = place;
     for passed in 0..most {
         i = next_row(words, known, relation, i);

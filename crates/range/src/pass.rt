@@ -25,7 +25,8 @@ pub fn stood(known: &Known, first: usize, words: &[u32], cell: u32) -> bool
     false
 }
 
-// Whether a cell stood before a place. The head that the cell shares with others often tells; only if another cell has it are the words scanned.
+// Whether a cell stood before a place. The head that the cell shares with others often tells; only if another cell has
+// it are the words scanned. A head is 0 and no None if no cell has it yet, so that it takes 16 bits.
 pub fn stood_earlier(words: &[u32], known: &Known, place: usize, cell: u32, head: usize) -> bool
     requires place_in { (place ≤ length words.now) × (length words.now ≤ max_words) }
     requires head { Head words.now (stood_before known.now words.now place) place cell head }
@@ -42,9 +43,11 @@ pub fn stood_earlier(words: &[u32], known: &Known, place: usize, cell: u32, head
 
 // Passes over the cell at a place if it stood earlier, and puts its place into the cell's head.
 fn pass_again(words: &[u32], known: &mut Known, heads: &mut [u16; 512], place: usize)
-    requires place_in { (place < length words.now) × (length words.now ≤ max_words) × (flag_at known.old place ≡ false) }
+    requires place_in { (place < length words.now) × (length words.now ≤ max_words)
+        × (flag_at known.old place ≡ false) }
     requires cached_before { Cached heads.old words.now (stood_before known.old words.now place) place }
-    ensures flags { Flagged known.old place (listed (get_or words.now place 0) (stood_before known.old words.now place)) known.new }
+    ensures flags { Flagged known.old place
+        (listed (get_or words.now place 0) (stood_before known.old words.now place)) known.new }
     ensures cached { Cached heads.new words.now (stood_before known.new words.now (place + 1)) (place + 1) }
 {
     let cell = words[place];
@@ -62,7 +65,8 @@ pub fn pass_cells(words: &[u32], known: &mut Known, heads: &mut [u16; 512])
     requires instance_of { InstanceOf (arities_in known.old) words.now × (heads.old ≡ replicate head_count 0) }
     requires no_flags { (p : ℕ) → flag_at known.old p ≡ false }
     ensures kept { SameBesides known.old known.new }
-    ensures flags { (p : ℕ) → flag_at known.new p ≡ get_or (passes (arities_in known.old) [] 0 words.now) p false }
+    ensures flags { (p : ℕ) → flag_at known.new p
+        ≡ get_or (passes (arities_in known.old) [] 0 words.now) p false }
     ensures cached { Cached heads.new words.now
         (unpassed known.new 0 words.now) (length words.now) }
 {

@@ -14,7 +14,7 @@ use Rattle.domain.proofs.list_cells.Goals as goal
 use Rattle.domain.proofs.list_cells.Goals.{After-loop-i, In-loop-i, Start}
 
 pub loop-i-init : goal.loop-i-init
-loop-i-init c = (walk_in _ _ c.requires.instance_of.0, omega arith, c.requires.instance_of.1, naming-starts _ _ 0)
+loop-i-init c = (walk_in _ _ c.requires.instance_of.0, omega arith, c.requires.instance_of.1, rw c.requires.instance_of.2 (naming-starts _ _ 0))
 
 -- the row at index i
 module _ (c : In-loop-i) where
@@ -51,7 +51,7 @@ module _ (c : In-loop-i) where
   abbrev rest : List ℕ
   rest = cells_of (rows_from ars 0 (drop (i + (1 + a)) ws))
 
-  to_come : Naming (cells_of (rows_from ars 0 ws)) start.args.buffer.now 0 c.loop-i.buffer c.loop-i.n (row.cells ++ rest)
+  to_come : Naming (cells_of (rows_from ars 0 ws)) start.args.buffer.now 0 c.loop-i.buffer c.loop-i.chains.count (row.cells ++ rest)
   unfolding cells_of
   to_come = rw here.rows at c.loop-i.invariant.3
 
@@ -73,9 +73,9 @@ overflow_add-next c = omega (arith, (here (goal.at.overflow_add-next c).In-loop-
 pub slice_bounds-add_cells-end : goal.slice_bounds-add_cells-end
 slice_bounds-add_cells-end c = omega (arith, (here (goal.at.slice_bounds-add_cells-end c).In-loop-i).next.within)
 
-pub add_cells-n-requires : goal.add_cells-n-requires
-add_cells-n-requires c =
-    let b = (goal.at.add_cells-n-requires c).In-loop-i in
+pub add_cells-requires : goal.add_cells-requires
+add_cells-requires c =
+    let b = (goal.at.add_cells-requires c).In-loop-i in
     let h = here b in
     rw (row_lent (ws b) (i b) (a b)) (
       omega (arith, naming-room (row b).cells (rest b) (to_come b), (to_come b).added.long, b.requires.words_in_bounds),
@@ -87,14 +87,14 @@ add_cells-n-requires c =
 pub loop-i-preserved : goal.loop-i-preserved
 loop-i-preserved c =
     let b = (goal.at.loop-i-preserved c).In-loop-i in
-    let added = rw (row_lent (ws b) (i b) (a b)) at c.add_cells-n.ensures.added in
-    rw (sum b) ((given b, (here b).next), omega (arith, added.most, (here b).size), c.add_cells-n.ensures.chained, naming-node (row b).cells (rest b) (to_come b) added)
+    let added = rw (row_lent (ws b) (i b) (a b)) at c.add_cells.ensures.added in
+    rw (sum b) ((given b, (here b).next), omega (arith, added.most, (here b).size), c.add_cells.ensures.chained, naming-node (row b).cells (rest b) (to_come b) added)
 
 all_listed :
     (c : After-loop-i) →
     Naming
     (cells_of (rows_from c.args.arities.now 0 c.args.words.now))
-    c.args.buffer.now 0 c.loop-i.buffer c.loop-i.n []
+    c.args.buffer.now 0 c.loop-i.buffer c.loop-i.chains.count []
 unfolding cells_of
 all_listed c =
     let ws = c.args.words.now in

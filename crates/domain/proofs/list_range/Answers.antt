@@ -8,24 +8,25 @@ use lib.Seq.{length-take-le, length_front}
 use Rattle.calculus.specs.Row.{cells_of}
 use Rattle.instance.specs.Rows.{rows_from}
 use Rattle.query.specs.Named.{named_in}
+use Rattle.domain.specs.declared.chain.Chains.{Chains}
 use Rattle.domain.specs.Chains.{word_value, Added}
 use Rattle.domain.proofs.Chains.{chained_starts, added_then}
 use Rattle.domain.proofs.Listing.{added_fits, added_number, added_ends}
 use Rattle.domain.proofs.list_range.Goals as goal
-use Rattle.domain.proofs.list_range.Goals.{After-add_named-n, Start}
+use Rattle.domain.proofs.list_range.Goals.{After-add_named, Start}
 
-pub list_cells-cells-requires : goal.list_cells-cells-requires
-list_cells-cells-requires c =
-    let start = (goal.at.list_cells-cells-requires c).Start in
+pub list_cells-requires : goal.list_cells-requires
+list_cells-requires c =
+    let start = (goal.at.list_cells-requires c).Start in
     let ars = c.args.arities.now in record {
-      instance_of = (c.requires.instance_of.0, chained_starts _);
+      instance_of = (c.requires.instance_of.0, rw c.new-chains.ensures (chained_starts _), ap (λ (k : Chains). k.count) c.new-chains.ensures);
       words_in_bounds = omega (arith, c.requires.query_in_bounds, length-append (cells_of (rows_from ars 0 c.args.words.now)) (named_in ars c.args.query.now));
     }
 
-pub add_named-n-requires : goal.add_named-n-requires
-add_named-n-requires c =
-    let call = c.list_cells-cells in
-    let start = (goal.at.add_named-n-requires c).Start in
+pub add_named-requires : goal.add_named-requires
+add_named-requires c =
+    let call = c.list_cells in
+    let start = (goal.at.add_named-requires c).Start in
     let ars = c.args.arities.now in
     let both = length-append (cells_of (rows_from ars 0 c.args.words.now)) (named_in ars c.args.query.now) in record {
       has_terms = (c.requires.instance_of.1, call.ensures.chained);
@@ -33,34 +34,31 @@ add_named-n-requires c =
     }
 
 -- cells and terms are added
-module _ (c : After-add_named-n) where
-  abbrev start : Start
-  start = c.before.before.before.before.before.before.before.before.before.before.before.before
-
+module _ (c : After-add_named) where
   abbrev all : List ℕ
-  all = cells_of (rows_from start.args.arities.now 0 start.args.words.now) ++ named_in start.args.arities.now start.args.query.now
+  all = cells_of (rows_from c.args.arities.now 0 c.args.words.now) ++ named_in c.args.arities.now c.args.query.now
 
-  added : Added start.args.buffer.now 0 all c.add_named-n.new.list c.add_named-n.result
-  added = added_then c.list_cells-cells.ensures.added c.add_named-n.ensures.added
+  added : Added c.args.buffer.now 0 all c.add_named.new.list c.add_named.new.self.count
+  added = added_then c.list_cells.ensures.added c.add_named.ensures.added
 
-  room : length all ≤ length start.args.buffer.now
-  room = start.requires.query_in_bounds
+  room : length all ≤ length c.args.buffer.now
+  room = c.requires.query_in_bounds
 
 pub slice_bounds-unlink-end : goal.slice_bounds-unlink-end
-slice_bounds-unlink-end c = let b = (goal.at.slice_bounds-unlink-end c).After-add_named-n in added_fits (added b) (room b)
+slice_bounds-unlink-end c = let b = (goal.at.slice_bounds-unlink-end c).After-add_named in added_fits (added b) (room b)
 
 pub slice_bounds-unlink-end-2 : goal.slice_bounds-unlink-end-2
-slice_bounds-unlink-end-2 c = let b = (goal.at.slice_bounds-unlink-end-2 c).After-add_named-n in sym (length-take-le _ _ (added_fits (added b) (room b)))
+slice_bounds-unlink-end-2 c = let b = (goal.at.slice_bounds-unlink-end-2 c).After-add_named in sym (length-take-le _ _ (added_fits (added b) (room b)))
 
 pub shape_of-buffer : goal.shape_of-buffer
 shape_of-buffer c =
-    let b = (goal.at.shape_of-buffer c).After-add_named-n in
-    let l = ap length c.unlink.ensures ∙ length-map (take c.add_named-n.result c.add_named-n.new.list) word_value in
-    length_front c.add_named-n.new.list c.unlink.new.list c.add_named-n.result l ∙ (added b).long
+    let b = (goal.at.shape_of-buffer c).After-add_named in
+    let l = ap length c.unlink.ensures ∙ length-map (take c.add_named.new.self.count c.add_named.new.list) word_value in
+    length_front c.add_named.new.list c.unlink.new.list c.add_named.new.self.count l ∙ (added b).long
 
 pub returns : goal.returns
 returns c =
-    let b = (goal.at.returns c).After-add_named-n in record {
+    let b = (goal.at.returns c).After-add_named in record {
       number = added_number (added b) (room b);
-      values = ap (λ (l : List ℕ). l ++ drop c.add_named-n.result c.add_named-n.new.list) c.unlink.ensures ∙ added_ends (added b) (room b);
+      values = ap (λ (l : List ℕ). l ++ drop c.add_named.new.self.count c.add_named.new.list) c.unlink.ensures ∙ added_ends (added b) (room b);
     }

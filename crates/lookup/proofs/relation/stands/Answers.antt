@@ -80,20 +80,17 @@ module _ (c : After-arity-arity) where
   size : length asked ≡ arity
   size = length-take-le arity called.args.row.now (omega (arith, columns.1))
 
-pub overflow_cast-arity : goal.overflow_cast-arity
-overflow_cast-arity c = omega (arith, (columns c).1)
-
 pub shared_ref_as_front-asked : goal.shared_ref_as_front-asked
 shared_ref_as_front-asked c = (columns (goal.at.shared_ref_as_front-asked c).After-arity-arity).1
 
-pub probe_at-probe-requires : goal.probe_at-probe-requires
-probe_at-probe-requires c = let b = (goal.at.probe_at-probe-requires c).After-arity-arity in omega (arith, size b, (columns b).0)
+pub new-probe-requires : goal.new-probe-requires
+new-probe-requires c = let b = (goal.at.new-probe-requires c).After-arity-arity in omega (arith, size b, (columns b).0)
 
 pub loop-more-init : goal.loop-more-init
 loop-more-init c =
     let b = (goal.at.loop-more-init c).After-arity-arity in (
       b.requires,
-      probe_stands _ _ _ c.probe_at-probe.ensures (omega (arith, size b, (columns b).0)),
+      probe_stands _ _ _ c.new-probe.ensures (omega (arith, size b, (columns b).0)),
       truth-starts _ _,
       omega arith,
       omega arith,
@@ -251,9 +248,9 @@ returns-in-Identical c =
     let some = c.if-more-gt0.true in
     let told = sym c.compare_after.ensures ∙ c.in-Identical.is in by_answer_verdict_charge (means _ _ (is_arity_lem (asks b)) (sym (same b some Identical told)) (omega (arith, counted_same b some Identical told, fewer b, (at b).loop-more.invariant.3)))
 
-pub next_probe-probe-requires : goal.next_probe-probe-requires
-next_probe-probe-requires c =
-    let b = (goal.at.next_probe-probe-requires c).After-next_near-near in (omega (arith, within b c.if-more-gt0.true, size (asks b)), (at b).loop-more.invariant.1)
+pub next-probe-requires : goal.next-probe-requires
+next-probe-requires c =
+    let b = (goal.at.next-probe-requires c).After-next_near-near in (omega (arith, within b c.if-more-gt0.true, size (asks b)), (at b).loop-more.invariant.1)
 
 pub overflow_sub-more : goal.overflow_sub-more
 overflow_sub-more c = omega (arith, c.if-more-gt0.true)
@@ -280,7 +277,7 @@ loop-more-preserved-then-more-gt0 c =
     let j = (goal.at.loop-more-preserved-then-more-gt0 c).Joined-compare_after in
     let told = sym j.before.compare_after.ensures in (
       after (b j) (some j),
-      c.next_probe-probe.ensures,
+      c.next-probe.ensures,
       elim j.match-compare_after.branch [
         | in-Unifies m ↦ rw m.possible-is (same (b j) (some j) Unifies (told ∙ m.in-Unifies.is))
         | in-Apart m ↦ rw m.possible-is (same (b j) (some j) Apart (told ∙ m.in-Apart.is))

@@ -33,14 +33,11 @@ module _ (c : Start) where
   column-low : c.args.column < arity_of (arities_in c.args.known.now) c.args.relation
   column-low = c.requires.1
 
-pub arity-requires : goal.arity-requires
-arity-requires c = relation-low (goal.at.arity-requires c).Start
-
-pub overflow_cast-step : goal.overflow_cast-step
-overflow_cast-step c = omega (arith, c.arity.ensures, narrow (goal.at.overflow_cast-step c).Start)
+pub arity-step-requires : goal.arity-step-requires
+arity-step-requires c = relation-low (goal.at.arity-step-requires c).Start
 
 pub overflow_add-step : goal.overflow_add-step
-overflow_add-step c = omega (arith, c.arity.ensures, narrow (goal.at.overflow_add-step c).Start)
+overflow_add-step c = omega (arith, c.arity-step.ensures, narrow (goal.at.overflow_add-step c).Start)
 
 pub loop-passed-init : goal.loop-passed-init
 loop-passed-init c = rw sub-zero (c.requires.0, refl, refl)
@@ -85,8 +82,8 @@ module _ (c : After-next_row-i) where
   behind = tuples relation (rows_from ars 0 (drop (place + (1 + arity)) ws))
 
   -- the length of a row
-  stepped : 1 + c.arity.result ≡ 1 + arity
-  stepped = ap (λ (k : ℕ). 1 + k) c.arity.ensures
+  stepped : 1 + c.arity-step.result ≡ 1 + arity
+  stepped = ap (λ (k : ℕ). 1 + k) c.arity-step.ensures
 
   some : 0 < more
   some = omega arith

@@ -14,7 +14,7 @@ use Rattle.lookup.specs.Passing.{RowsLeft, words_passed}
 use Rattle.lookup.proofs.Left.{words_left, row-left, other-same, other-left, other-words}
 use Rattle.lookup.proofs.rows.next_row.Goals as goal
 use Rattle.lookup.proofs.rows.next_row.Lts.View.{up-In-loop-w}
-use Rattle.lookup.proofs.rows.next_row.Goals.{After-arity, In-loop-w, Joined-w-other, Start, else-w-other, then-w-other}
+use Rattle.lookup.proofs.rows.next_row.Goals.{After-arity-step, In-loop-w, Joined-w-other, Start, else-w-other, then-w-other}
 
 -- what stays true from index k to index j: the rows left, and where passing over leads
 abbrev Onward : List ℕ → List ℕ → ℕ → ℕ → ℕ → Type 0
@@ -85,19 +85,16 @@ module _ (c : In-loop-w) where
 pub overflow_cast-w : goal.overflow_cast-w
 overflow_cast-w c = omega (arith, few (goal.at.overflow_cast-w c).In-loop-w)
 
-pub arity-requires : goal.arity-requires
-arity-requires c = few (goal.at.arity-requires c).In-loop-w
+pub arity-step-requires : goal.arity-step-requires
+arity-step-requires c = few (goal.at.arity-step-requires c).In-loop-w
 
 -- the row's length was read
-module _ (c : After-arity) where
+module _ (c : After-arity-step) where
   abbrev at_row : In-loop-w
   at_row = (up-In-loop-w _ _ _ _ _ _ c.before.before.before)
 
-  row_ends : i at_row + (1 + c.arity.result) ≤ length (ws at_row)
-  row_ends = omega (arith, (here at_row).next.within, c.arity.ensures, ap (arity_of (ars at_row)) (is at_row))
-
-pub overflow_cast-step : goal.overflow_cast-step
-overflow_cast-step c = omega (arith, row_ends c)
+  row_ends : i at_row + (1 + c.arity-step.result) ≤ length (ws at_row)
+  row_ends = omega (arith, (here at_row).next.within, c.arity-step.ensures, ap (arity_of (ars at_row)) (is at_row))
 
 pub overflow_add-step : goal.overflow_add-step
 overflow_add-step c = omega (arith, row_ends c)
@@ -116,7 +113,7 @@ module _ (c : Joined-w-other) where
   known : (other ≡ w at) × (step ≡ 1 + arity_of (ars at) (w at))
   known =
       (elim c.if-w-other.branch [
-        | then-w-other a ↦ (a.other-is, a.step-is ∙ ap (λ (k : ℕ). 1 + k) a.arity.ensures)
+        | then-w-other a ↦ (a.other-is, a.step-is ∙ ap (λ (k : ℕ). 1 + k) a.arity-step.ensures)
         | else-w-other a ↦ let same : w at ≡ at.loop-w.other = a.if-w-other.false in
             (a.other-is ∙ sym same, a.step-is ∙ at.loop-w.invariant.3 (λ f. at.loop-w-test.true (same ∙ f)) ∙ ap (λ (r : ℕ). 1 + arity_of (ars at) r) (sym same))
       ])

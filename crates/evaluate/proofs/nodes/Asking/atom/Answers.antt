@@ -69,9 +69,6 @@ arity-arity-requires c = omega (arith, c.word-relation.ensures, (node (goal.at.a
 is_arity_lem : (c : After-arity-arity) → c.arity-arity.result ≡ arity_of (arities_in c.args.self.now.known.now) (word_at c.args.self.now.query.now c.args.node 1)
 is_arity_lem c = c.arity-arity.ensures ∙ ap (arity_of (arities_in c.args.self.now.known.now)) c.word-relation.ensures
 
-pub overflow_cast-arity : goal.overflow_cast-arity
-overflow_cast-arity c = omega (arith, is_arity_lem c, (node (goal.at.overflow_cast-arity c).Start).narrow)
-
 pub asked_row-row-requires : goal.asked_row-row-requires
 asked_row-row-requires c =
     let s = (goal.at.asked_row-row-requires c).Start in

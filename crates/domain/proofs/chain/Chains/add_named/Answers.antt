@@ -1,4 +1,4 @@
--- `domain::chain::add_named` meets its contract: the inked terms of the nodes before `node` are added. Assumes nothing.
+-- `domain::chain::Chains::add_named` meets its contract: the inked terms of the nodes before `node` are added. Assumes nothing.
 use Prim.Native.Nat.{ℕ, ◌+◌, ◌-◌, ◌<◌}
 use mathlib.Core.Path.{◌≡◌}
 use mathlib.Core.List.{List, ◌++◌}
@@ -8,25 +8,22 @@ use Rattle.query.specs.Words.{node_count}
 use Rattle.query.specs.Named.{named_from, named_in, terms_of, constants_among}
 use Rattle.query.proofs.KindTerms.{named_rest}
 use Rattle.domain.proofs.Listing.{Naming, naming-starts, naming-room, naming-node, naming-all}
-use Rattle.domain.proofs.chain.add_named.Goals as goal
-use Rattle.domain.proofs.chain.add_named.Goals.{After-terms_of, Start}
+use Rattle.domain.proofs.chain.Chains.add_named.Goals as goal
+use Rattle.domain.proofs.chain.Chains.add_named.Goals.{After-terms_of}
 
 pub loop-node-init : goal.loop-node-init
-loop-node-init c = (omega arith, c.requires.has_terms.1, rw sub-zero (naming-starts _ _ _))
+loop-node-init c = (c.requires.has_terms.1, rw sub-zero (naming-starts _ _ _))
 
 pub terms_of-requires : goal.terms_of-requires
 terms_of-requires c = (c.requires.has_terms.0, omega arith)
 
 -- the terms of the node
 module _ (c : After-terms_of) where
-  abbrev start : Start
-  start = c.before.before.before.before.before.before.before.before
-
   abbrev qs : List ℕ
-  qs = start.args.query.now
+  qs = c.args.query.now
 
   abbrev ars : List ℕ
-  ars = start.args.arities.now
+  ars = c.args.arities.now
 
   abbrev node : ℕ
   node = c.loop-node.node
@@ -40,33 +37,30 @@ module _ (c : After-terms_of) where
   abbrev rest : List ℕ
   rest = named_from ars qs (node + 1) (node_count qs - (node + 1))
 
-  so_far : Naming (named_in ars qs) start.args.list.now start.args.n c.loop-node.list c.loop-node.count (here ++ rest)
-  so_far = rw (named_rest ars qs start.requires.has_terms.0 node below) at c.loop-node.invariant.2
+  so_far : Naming (named_in ars qs) c.args.list.now c.args.self.now.count c.loop-node.list c.loop-node.self.count (here ++ rest)
+  so_far = rw (named_rest ars qs c.requires.has_terms.0 node below) at c.loop-node.invariant.1
 
-pub add_constants-count-requires : goal.add_constants-count-requires
-add_constants-count-requires c =
+pub add_constants-requires : goal.add_constants-requires
+add_constants-requires c =
     let room = naming-room (here c) (rest c) (so_far c) in
     rw c.terms_of.ensures (
-      omega (arith, room, c.requires.query_in_bounds.0, (so_far c).added.long),
+      omega (arith, room, c.requires.query_in_bounds.0),
       omega (arith, room, c.requires.query_in_bounds.1),
-      c.loop-node.invariant.1,
+      c.loop-node.invariant.0,
     )
 
 pub loop-node-preserved : goal.loop-node-preserved
 loop-node-preserved c =
     let b = (goal.at.loop-node-preserved c).After-terms_of in
-    let call = c.add_constants-count in
+    let call = c.add_constants in
     let added = rw c.terms_of.ensures at call.ensures.added in
-    (omega arith, call.ensures.chained, naming-node (here b) (rest b) (so_far b) added)
-
-pub shape_of-list : goal.shape_of-list
-shape_of-list c = c.loop-node.invariant.2.added.long
+    (call.ensures.chained, naming-node (here b) (rest b) (so_far b) added)
 
 pub returns : goal.returns
 unfolding named_from
 returns c =
     let qs = c.args.query.now in
     let e : node_count qs - c.loop-node.node ≡ 0 = omega arith in record {
-      chained = c.loop-node.invariant.1;
-      added = naming-all (rw e at c.loop-node.invariant.2);
+      chained = c.loop-node.invariant.0;
+      added = naming-all (rw e at c.loop-node.invariant.1);
     }

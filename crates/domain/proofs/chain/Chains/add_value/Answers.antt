@@ -1,4 +1,4 @@
--- `domain::chain::add_value` meets its contract: the cell is found in the chain of its bucket, or added to it. Assumes nothing.
+-- `domain::chain::Chains::add_value` meets its contract: the cell is found in the chain of its bucket, or added to it. Assumes nothing.
 use Prim.Native.Nat.{ℕ, ◌+◌, ◌*◌}
 use mathlib.Core.Path.{◌≡◌, sym, ◌∙◌}
 use mathlib.Core.Bool.{false}
@@ -9,8 +9,8 @@ use Rattle.calculus.specs.Listed.{listed}
 use Rattle.domain.specs.Bucket.{bucket_of}
 use Rattle.domain.specs.Chains.{link_unit, values_of, Chain, Chained, Added}
 use Rattle.domain.proofs.Chains.{chained_more, added_new, added_old}
-use Rattle.domain.proofs.chain.add_value.Goals as goal
-use Rattle.domain.proofs.chain.add_value.Goals.{After-bucket_of-bucket, Start}
+use Rattle.domain.proofs.chain.Chains.add_value.Goals as goal
+use Rattle.domain.proofs.chain.Chains.add_value.Goals.{After-bucket_of-bucket, Start}
 
 by_chained_added : {A B : Type 0} → A × B → record { chained : A; added : B }
 by_chained_added p = record { chained = p.0; added = p.1 }
@@ -20,10 +20,10 @@ module _ (c : Start) where
   list = c.args.list.now
 
   abbrev heads : List ℕ
-  heads = c.args.heads.now
+  heads = c.args.self.now.heads
 
   abbrev n : ℕ
-  n = c.args.n
+  n = c.args.self.now.count
 
   abbrev cell : ℕ
   cell = c.args.cell
@@ -58,9 +58,6 @@ returns-then-find c =
       added = added_old (list s) (n s) (cell s) ((found b).same ∙ sym c.find.ensures ∙ c.if-find.true);
     }
 
-pub overflow_cast-list : goal.overflow_cast-list
-overflow_cast-list c = omega (arith, (found (goal.at.overflow_cast-list c).After-bucket_of-bucket).within)
-
 pub overflow_mul-list : goal.overflow_mul-list
 overflow_mul-list c = omega (arith, (found (goal.at.overflow_mul-list c).After-bucket_of-bucket).within)
 
@@ -69,4 +66,5 @@ overflow_add-list c = omega (arith, (found (goal.at.overflow_add-list c).After-b
 
 pub returns : goal.returns
 returns c =
-    let b = (goal.at.returns c).After-bucket_of-bucket in by_chained_added (more (goal.at.returns c).Start c.bucket_of-bucket.result c.bucket_of-bucket.ensures ((found b).same ∙ sym c.find.ensures ∙ c.if-find.false))
+    let b = (goal.at.returns c).After-bucket_of-bucket in
+    rw c.from.ensures (by_chained_added (more (goal.at.returns c).Start c.bucket_of-bucket.result c.bucket_of-bucket.ensures ((found b).same ∙ sym c.find.ensures ∙ c.if-find.false)))

@@ -1,7 +1,0 @@
--- `lookup::probe::probe_at` meets its contract: its limit is the column's. Assumes nothing.
-use Prim.Native.Nat.{ℕ}
-use mathlib.Core.Path.{ap}
-use Rattle.lookup.proofs.probe.probe_at.Goals as goal
-
-pub returns : goal.returns
-returns c = ap (λ (low : ℕ). record { column = c.args.column; low = low; failed = 0 }) c.limit-low.ensures
