@@ -7,6 +7,7 @@ ghost use Rattle.calculus.specs.Overwrite.{overwrite};
 ghost use Rattle.decimal.specs.Decimal.{digits};
 
 // Writes the digits of a number, without leading zeros, and returns how many there are.
+// By hand: there is no heap, and std writes digits to a formatter, which no lent slice is.
 pub fn decimal(out: &mut [u8], n: u32) -> usize
     requires { length (digits n) ≤ length out.old }
     ensures count { result ≡ length (digits n) }

@@ -6,6 +6,7 @@ use Rattle.std.specs.Prelude.{Ok, Err}
 use Rattle.calculus.specs.Demand.{demand}
 use Rattle.calculus.specs.Overwrite.{overwrite}
 use Rattle.calculus.specs.Reading.{read, refused}
+use Rattle.calculus.specs.Refusal.{refusal_number}
 use Rattle.instance.specs.declared.header.Header.{Header}
 use Rattle.instance.specs.Header.{max_words}
 use Rattle.parse.specs.Parse.{Parsed}
@@ -49,7 +50,7 @@ answered input = asked_fields (read_input input)
 
 abbrev pub line_for : Asked → List ℕ
 line_for (Ok v) = verdict_line v.truth v.cost
-line_for (Err r) = refused_line r
+line_for (Err r) = refused_line (refusal_number r)
 
 unfoldable pub line_of : List ℕ → List ℕ
 line_of input = line_for (answered input)

@@ -2,14 +2,12 @@
 -- and the number. A line feed ends it."
 use Rattle.std.specs.Prelude.{ℕ, List, [], ◌∷◌, ◌++◌}
 use Rattle.calculus.specs.declared.truth.Truth.{Truth}
-use Rattle.calculus.specs.declared.truth.Truth.TheVariants.{True, False, Unknown}
+use Rattle.calculus.specs.Kleene.{truth_word}
 use Rattle.decimal.specs.Decimal.{digits}
 
 -- "true", "false" and "unknown", each with its space
 abbrev pub word_of : Truth → List ℕ
-word_of True = 116 ∷ 114 ∷ 117 ∷ 101 ∷ 32 ∷ []
-word_of False = 102 ∷ 97 ∷ 108 ∷ 115 ∷ 101 ∷ 32 ∷ []
-word_of Unknown = 117 ∷ 110 ∷ 107 ∷ 110 ∷ 111 ∷ 119 ∷ 110 ∷ 32 ∷ []
+word_of t = truth_word t ++ 32 ∷ []
 
 -- "refused", with its space
 abbrev pub refused_word : List ℕ

@@ -1,65 +1,44 @@
 // The fields of the input.
-ghost use Rattle.std.specs.Prelude.{◌≡◌};
-ghost use Rattle.line.specs.Fields.{read_input, found_as, FoundIn};
+ghost use Rattle.std.specs.Prelude.{◌≡◌, [], MatchResult};
+ghost use Rattle.calculus.specs.Reading.{read, refused};
+ghost use Rattle.line.specs.Fields.{read_input, fields_in, WholeNumbers};
 
 use super::INPUT;
-use calculus::refusal::{BYTES_LEFT_OVER, CUT_SHORT, INPUT_TOO_LONG};
-use parse::number::number;
+use calculus::refusal::Refusal;
+use parse::front::{read_number, read_part};
 
-// Where the fields are: the card starts at byte 2 and has `size` bytes, the question has `count` words, and the candidate `arity` cells.
+// The parts of the input: the card, the question's words of 4 bytes each, and the candidate's cells of 3 bytes each. The
+// budget is a number already.
 #[derive(Clone, Copy)]
-pub struct Places {
-    pub size: usize,
-    pub words: usize,
-    pub count: usize,
-    pub cells: usize,
-    pub arity: usize,
+pub struct Parts<'a> {
+    pub card: &'a [u8],
+    pub words: &'a [u8],
+    pub cells: &'a [u8],
     pub budget: u32,
 }
 
-#[derive(Clone, Copy)]
-pub enum Found {
-    Fields(Places),
-    Refused(u32),
-}
-
-pub fn find(input: &[u8]) -> Found
-    ensures places { FoundIn input.now result }
-    ensures told { read_input input.now ≡ found_as input.now result }
+pub fn find(input: &[u8]) -> Result<Parts<'_>, Refusal>
+    ensures { MatchResult result
+        (λ parts. (read_input input.now ≡ read (fields_in parts) []) × WholeNumbers parts)
+        (λ why. read_input input.now ≡ refused why) }
 {
     if INPUT < input.len() {
-        return Found::Refused(INPUT_TOO_LONG);
+        return Err(Refusal::InputTooLong);
     }
-    if input.len() < 2 {
-        return Found::Refused(CUT_SHORT);
+    let (size, rest) = read_number(input, 2)?;
+    let (card, rest) = read_part(rest, size as usize)?;
+    let (count, rest) = read_number(rest, 2)?;
+    let (words, rest) = read_part(rest, 4 * count as usize)?;
+    let (arity, rest) = read_number(rest, 1)?;
+    let (cells, rest) = read_part(rest, 3 * arity as usize)?;
+    let (budget, rest) = read_number(rest, 4)?;
+    if !rest.is_empty() {
+        return Err(Refusal::BytesLeftOver);
     }
-    let size = number(input, 0, 2) as usize;
-    let counted = 2 + size;
-    if input.len() < counted + 2 {
-        return Found::Refused(CUT_SHORT);
-    }
-    let count = number(input, counted, 2) as usize;
-    let words = counted + 2;
-    let valued = words + 4 * count;
-    if input.len() < valued + 1 {
-        return Found::Refused(CUT_SHORT);
-    }
-    let arity = number(input, valued, 1) as usize;
-    let cells = valued + 1;
-    let allowed = cells + 3 * arity;
-    if input.len() < allowed + 4 {
-        return Found::Refused(CUT_SHORT);
-    }
-    let budget = number(input, allowed, 4);
-    if allowed + 4 < input.len() {
-        return Found::Refused(BYTES_LEFT_OVER);
-    }
-    Found::Fields(Places {
-        size,
+    Ok(Parts {
+        card,
         words,
-        count,
         cells,
-        arity,
         budget,
     })
 }

@@ -5,7 +5,6 @@
 ghost use Rattle.std.specs.Prelude.{◌≡◌};
 ghost use Rattle.line.specs.Line.{line_length, line_out};
 
-use answer::asked::Asked;
 use asking::answer;
 use text::{write_refused, write_verdict};
 
@@ -28,7 +27,7 @@ pub fn line(input: &[u8], out: &mut [u8]) -> usize
         return 0;
     }
     match answer(input) {
-        Asked::Verdict(truth, cost) => write_verdict(out, truth, cost),
-        Asked::Refused(why) => write_refused(out, why),
+        Ok(verdict) => write_verdict(out, verdict.truth, verdict.cost),
+        Err(why) => write_refused(out, u32::from(why)),
     }
 }

@@ -7,27 +7,17 @@ ghost use Rattle.line.specs.Text.{line_with, verdict_line, refused_line, max_lin
 use calculus::truth::Truth;
 use decimal::decimal;
 
-fn copy(out: &mut [u8], text: &[u8])
-    requires { length text.now ≤ length out.old }
-    ensures { out.new ≡ overwrite text.now out.old }
-{
-    let mut i = 0;
-    while i < text.len() {
-        out[i] = text[i];
-        i += 1;
-    }
-}
-
 // Writes a word, then a number and a line feed, and returns the line's length.
+// By hand: there is no heap, and of a text of fixed size std says only that what is written may be cut.
 fn write_line(out: &mut [u8], word: &[u8], n: u32) -> usize
     requires { length word.now + (max_digits + 1) ≤ length out.old }
     ensures length { result ≡ length (line_with word.now n) }
     ensures bytes { out.new ≡ overwrite (line_with word.now n) out.old }
 {
-    copy(out, word);
     let at = word.len();
+    out[..at].copy_from_slice(word);
     let end = at + decimal(&mut out[at..], n);
-    out[end] = 10;
+    out[end] = b'\n';
     end + 1
 }
 

@@ -2,4 +2,5 @@
 
 #![tactic(auto)]
 
+pub mod front;
 pub mod number;

@@ -1,131 +1,102 @@
--- `line::fields::find` meets its contract: each number is read after the field before it, and gives the size of the next field.
--- Assumes nothing.
-use Prim.Native.Nat.{ℕ, ◌+◌, ◌*◌}
-use mathlib.Core.Path.{◌≡◌}
-use mathlib.Core.List.{List}
+-- `line::fields::find` meets its contract: each field that is read leaves the other fields to read. Assumes nothing.
+use Prim.Native.Nat.{◌/◌}
+use mathlib.Core.Path.{◌≡◌, sym, ◌∙◌}
 use native.Mathlib.Omega.{arith}
-use lib.ListN.{take, drop, length-drop}
-use Rattle.calculus.specs.Reading.{read}
-use Rattle.parse.specs.Number.{numbers_of}
-use Rattle.parse.proofs.Numbers.{numbers-whole}
-use Rattle.line.specs.Fields.{read_input, wholly}
-use Rattle.line.proofs.Finding.{from_card, from_words, from_cells, too_long, cut_size, to_card, cut_card, to_words, cut_words, to_cells, cut_cells, to_end, left_over, read_whole}
+use lib.ListN.{length}
+use Rattle.std.proofs.lemmas.Result.{err_from_is_err_and}
+use Rattle.parse.proofs.Numbers.{takes_numbers, takes_bytes}
+use Rattle.line.proofs.Finding.{too_long, begins, numbers_read, stops, cut, after_size, after_card, after_count, after_words, after_arity, after_cells, after_budget, left_over, ends}
 use Rattle.line.proofs.fields.find.Goals as goal
-use Rattle.line.proofs.fields.find.Lts.View.{up-After-number-size, up-After-number-count, up-After-number-arity}
-use Rattle.line.proofs.fields.find.Goals.{After-number-arity, After-number-budget, After-number-count, After-number-size, Start}
-
--- what the input is read as, once each number is read
-module _ (c : After-number-size) where
-  abbrev start : Start
-  start = c.before.before.before.before.before
-
-  abbrev input : List ℕ
-  input = start.args.input.now
-
-  abbrev size : ℕ
-  size = c.number-size.result
-
-  to_size : read_input input ≡ wholly (from_card size (drop 2 input))
-  to_size = to_card input c.if-input-gt-INPUT.false c.number-size.ensures.read
-
-module _ (c : After-number-count) where
-  abbrev sized : After-number-size
-  sized = (up-After-number-size _ _ _ _ c.before.before.before)
-
-  -- where the words start
-  abbrev words : ℕ
-  words = 2 + size sized + 2
-
-  abbrev count : ℕ
-  count = c.number-count.result
-
-  to_count : read_input (input sized) ≡ wholly (from_words (take (size sized) (drop 2 (input sized))) count (drop words (input sized)))
-  to_count = to_words (input sized) 2 (size sized) (to_size sized) (omega arith) c.number-count.ensures.read
-
-module _ (c : After-number-arity) where
-  abbrev counted : After-number-count
-  counted = (up-After-number-count _ _ _ _ c.before.before.before)
-
-  -- where the cells start
-  abbrev cells : ℕ
-  cells = words counted + 4 * count counted + 1
-
-  abbrev arity : ℕ
-  arity = c.number-arity.result
-
-  to-arity :
-      let input = input (sized counted) in
-      read_input input ≡ wholly (from_cells (take (size (sized counted)) (drop 2 input)) (numbers_of 4 (count counted) (drop (words counted) input)) arity (drop cells input))
-  to-arity = to_cells (input (sized counted)) (words counted) _ (count counted) (to_count counted) (omega arith) c.number-arity.ensures.read
-
-module _ (c : After-number-budget) where
-  abbrev valued : After-number-arity
-  valued = (up-After-number-arity _ _ _ _ c.before.before.before)
-
-  abbrev whole : List ℕ
-  whole = input (sized (counted valued))
-
-  to_budget : read_input whole ≡ wholly (read (record {
-    card = take (size (sized (counted valued))) (drop 2 whole);
-    words = numbers_of 4 (count (counted valued)) (drop (words (counted valued)) whole);
-    candidate = numbers_of 3 (arity valued) (drop (cells valued) whole);
-    budget = c.number-budget.result;
-  }) (drop (cells valued + 3 * arity valued + 4) whole))
-  to_budget = to_end whole (cells valued) _ _ (arity valued) (to-arity valued) (omega arith) c.number-budget.ensures.read
 
 pub returns-then-input-gt-INPUT : goal.returns-then-input-gt-INPUT
-returns-then-input-gt-INPUT c =
-    record {
-      places = tt;
-      told = too_long c.args.input.now c.if-input-gt-INPUT.true;
-    }
+returns-then-input-gt-INPUT c = too_long c.args.input.now c.if-input-gt-INPUT.true
 
-pub returns-then-input-lt2 : goal.returns-then-input-lt2
-returns-then-input-lt2 c =
-    record {
-      places = tt;
-      told = cut_size c.args.input.now c.if-input-gt-INPUT.false c.if-input-lt2.true;
-    }
+pub returns-in_err-size : goal.returns-in_err-size
+returns-in_err-size c =
+    let p = err_from_is_err_and c.from_residual.result c.from_residual.ensures.1 in
+    rw (p.1, p.2) (stops _ _ (begins _ c.if-input-gt-INPUT.false) c.in_err-size.ensures.read)
 
-pub returns-then-input-counted : goal.returns-then-input-counted
-returns-then-input-counted c =
-    record {
-      places = tt;
-      told = cut_card (input (goal.at.returns-then-input-counted c).After-number-size) 2 (size (goal.at.returns-then-input-counted c).After-number-size) (to_size (goal.at.returns-then-input-counted c).After-number-size) (omega arith) (omega arith);
-    }
+pub returns-in_err-card : goal.returns-in_err-card
+returns-in_err-card c =
+    let p = err_from_is_err_and c.from_residual-in_err-card.result c.from_residual-in_err-card.ensures.1 in
+    let sized = after_size _ c.if-input-gt-INPUT.false c.in_ok-size.ensures.read in
+    rw (p.1, p.2) (cut _ _ (takes_bytes _) _ sized c.in_err-card.ensures)
 
-pub returns-then-input-valued : goal.returns-then-input-valued
-returns-then-input-valued c =
-    record {
-      places = tt;
-      told = cut_words (input (sized (goal.at.returns-then-input-valued c).After-number-count)) (words (goal.at.returns-then-input-valued c).After-number-count) _ (count (goal.at.returns-then-input-valued c).After-number-count) (to_count (goal.at.returns-then-input-valued c).After-number-count) (omega arith) (omega arith);
-    }
+pub returns-in_err-count : goal.returns-in_err-count
+returns-in_err-count c =
+    let p = err_from_is_err_and c.from_residual-in_err-count.result c.from_residual-in_err-count.ensures.1 in
+    let sized = after_size _ c.if-input-gt-INPUT.false c.in_ok-size.ensures.read in
+    let carded = after_card _ _ _ sized c.in_ok-card.ensures in
+    rw (p.1, p.2) (stops _ _ carded c.in_err-count.ensures.read)
 
-pub returns-then-input-allowed : goal.returns-then-input-allowed
-returns-then-input-allowed c =
-    record {
-      places = tt;
-      told = cut_cells (input (sized (counted (goal.at.returns-then-input-allowed c).After-number-arity))) (cells (goal.at.returns-then-input-allowed c).After-number-arity) _ _ (arity (goal.at.returns-then-input-allowed c).After-number-arity) (to-arity (goal.at.returns-then-input-allowed c).After-number-arity) (omega arith) (omega arith);
-    }
+pub returns-in_err-words : goal.returns-in_err-words
+returns-in_err-words c =
+    let p = err_from_is_err_and c.from_residual-in_err-words.result c.from_residual-in_err-words.ensures.1 in
+    let sized = after_size _ c.if-input-gt-INPUT.false c.in_ok-size.ensures.read in
+    let carded = after_card _ _ _ sized c.in_ok-card.ensures in
+    let counted = after_count _ _ _ carded c.in_ok-count.ensures.read in
+    rw (p.1, p.2) (cut _ _ (takes_numbers 4 _) _ counted c.in_err-words.ensures)
 
-pub returns-then-allowed-input : goal.returns-then-allowed-input
-returns-then-allowed-input c =
-    record {
-      places = tt;
-      told = left_over (whole (goal.at.returns-then-allowed-input c).After-number-budget) _ _ (to_budget (goal.at.returns-then-allowed-input c).After-number-budget) c.if-allowed-input.true;
-    }
+pub returns-in_err-arity : goal.returns-in_err-arity
+returns-in_err-arity c =
+    let p = err_from_is_err_and c.from_residual-in_err-arity.result c.from_residual-in_err-arity.ensures.1 in
+    let sized = after_size _ c.if-input-gt-INPUT.false c.in_ok-size.ensures.read in
+    let carded = after_card _ _ _ sized c.in_ok-card.ensures in
+    let counted = after_count _ _ _ carded c.in_ok-count.ensures.read in
+    let words = numbers_read 4 _ _ c.in_ok-words.ensures in
+    let worded = after_words _ _ _ _ counted words in
+    rw (p.1, p.2) (stops _ _ worded c.in_err-arity.ensures.read)
+
+pub returns-in_err-cells : goal.returns-in_err-cells
+returns-in_err-cells c =
+    let p = err_from_is_err_and c.from_residual-in_err-cells.result c.from_residual-in_err-cells.ensures.1 in
+    let sized = after_size _ c.if-input-gt-INPUT.false c.in_ok-size.ensures.read in
+    let carded = after_card _ _ _ sized c.in_ok-card.ensures in
+    let counted = after_count _ _ _ carded c.in_ok-count.ensures.read in
+    let words = numbers_read 4 _ _ c.in_ok-words.ensures in
+    let worded = after_words _ _ _ _ counted words in
+    let valued = after_arity _ _ _ _ worded c.in_ok-arity.ensures.read in
+    rw (p.1, p.2) (cut _ _ (takes_numbers 3 _) _ valued c.in_err-cells.ensures)
+
+pub returns-in_err-budget : goal.returns-in_err-budget
+returns-in_err-budget c =
+    let p = err_from_is_err_and c.from_residual-in_err-budget.result c.from_residual-in_err-budget.ensures.1 in
+    let sized = after_size _ c.if-input-gt-INPUT.false c.in_ok-size.ensures.read in
+    let carded = after_card _ _ _ sized c.in_ok-card.ensures in
+    let counted = after_count _ _ _ carded c.in_ok-count.ensures.read in
+    let words = numbers_read 4 _ _ c.in_ok-words.ensures in
+    let worded = after_words _ _ _ _ counted words in
+    let valued = after_arity _ _ _ _ worded c.in_ok-arity.ensures.read in
+    let cells = numbers_read 3 _ _ c.in_ok-cells.ensures in
+    let celled = after_cells _ _ _ _ _ valued cells in
+    rw (p.1, p.2) (stops _ _ celled c.in_err-budget.ensures.read)
+
+pub returns-then-not-is_empty : goal.returns-then-not-is_empty
+returns-then-not-is_empty c =
+    let sized = after_size _ c.if-input-gt-INPUT.false c.in_ok-size.ensures.read in
+    let carded = after_card _ _ _ sized c.in_ok-card.ensures in
+    let counted = after_count _ _ _ carded c.in_ok-count.ensures.read in
+    let words = numbers_read 4 _ _ c.in_ok-words.ensures in
+    let worded = after_words _ _ _ _ counted words in
+    let valued = after_arity _ _ _ _ worded c.in_ok-arity.ensures.read in
+    let cells = numbers_read 3 _ _ c.in_ok-cells.ensures in
+    let celled = after_cells _ _ _ _ _ valued cells in
+    let allowed = after_budget _ _ _ _ _ celled c.in_ok-budget.ensures.read in
+    left_over _ _ _ allowed (sym c.is_empty.ensures ∙ c.if-not-is_empty.true)
 
 pub returns : goal.returns
 returns c =
-    let b = (goal.at.returns c).After-number-budget in
-    let v = valued b in record {
-      places = record {
-        card = omega arith;
-        words = omega arith;
-        words_are_read = rw (numbers-whole 4 (count (counted v)) (drop (words (counted v)) (whole b)) (rw length-drop (omega arith)));
-        cells = omega arith;
-        cells_are_read = rw (numbers-whole 3 (arity v) (drop (cells v) (whole b)) (rw length-drop (omega arith)));
-        few = v.number-arity.ensures.small;
-      };
-      told = read_whole (whole b) _ _ (to_budget b) c.if-allowed-input.false;
-    }
+    let sized = after_size _ c.if-input-gt-INPUT.false c.in_ok-size.ensures.read in
+    let carded = after_card _ _ _ sized c.in_ok-card.ensures in
+    let counted = after_count _ _ _ carded c.in_ok-count.ensures.read in
+    let words = numbers_read 4 _ _ c.in_ok-words.ensures in
+    let worded = after_words _ _ _ _ counted words in
+    let valued = after_arity _ _ _ _ worded c.in_ok-arity.ensures.read in
+    let cells = numbers_read 3 _ _ c.in_ok-cells.ensures in
+    let celled = after_cells _ _ _ _ _ valued cells in
+    let allowed = after_budget _ _ _ _ _ celled c.in_ok-budget.ensures.read in
+    let count : length c.in_ok-words.words.now / 4 ≡ c.in_ok-count.count = omega (arith, words.long) in
+    let arity : length c.in_ok-cells.cells.now / 3 ≡ c.in_ok-arity.arity = omega (arith, cells.long) in (
+      rw (count, arity) (ends _ _ _ allowed (sym c.is_empty.ensures ∙ c.if-not-is_empty.false)),
+      record { words = rw count words.whole; cells = rw arity cells.whole; few = rw arity c.in_ok-arity.ensures.small },
+    )
