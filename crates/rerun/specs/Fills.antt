@@ -1,5 +1,5 @@
 -- The fills of a run as words, logged ones and others; what they leave of instance, candidate and log; their answers as words.
-use Rattle.std.specs.Prelude.{ℕ, ◌+◌, Bool, cond, List, [], ◌∷◌, ◌++◌, map, length, ltb}
+use Rattle.std.specs.Prelude.{ℕ, ◌+◌, cond, List, [], ◌∷◌, ◌++◌, map, length, ltb}
 use Rattle.calculus.specs.Answer.{Answer}
 use Rattle.calculus.specs.Answer.{number_of, value_of, after}
 use Rattle.calculus.specs.Cell.{put}
