@@ -19,14 +19,16 @@ pub struct Wanted {
     pub logs: bool,
 }
 
-// The fill that three words ask for: the third is 0 for one that is not logged.
-fn wanted(mark: u32, cell: u32, logs: u32) -> Wanted
-    ensures { result ≡ wanted mark cell logs }
-{
-    Wanted {
-        mark,
-        cell,
-        logs: 0 < logs,
+impl Wanted {
+    // The fill that three words ask for: the third is 0 for one that is not logged.
+    fn of(mark: u32, cell: u32, logs: u32) -> Wanted
+        ensures { result ≡ wanted mark cell logs }
+    {
+        Wanted {
+            mark,
+            cell,
+            logs: 0 < logs,
+        }
     }
 }
 
@@ -102,7 +104,7 @@ pub fn fill_all(
 {
     for k in 0..fills.len() / 3 {
         let i = 3 * k;
-        let next = wanted(fills[i], fills[i + 1], fills[i + 2]);
+        let next = Wanted::of(fills[i], fills[i + 1], fills[i + 2]);
         let answer = fill(header, instance, candidate, log, used, next);
         store(&mut answers[i..], answer, next);
     }
