@@ -2,6 +2,7 @@
 use Prim.Native.Nat.{ℕ}
 use mathlib.Core.Path.{◌≡◌, sym, ◌∙◌}
 use mathlib.Core.List.{List}
+use native.Mathlib.Omega.{arith}
 use borrow.Author.Tests.{leb-true}
 use lib.Dec.{leb}
 use Rattle.std.specs.Prelude.{Ok}
@@ -35,7 +36,7 @@ replace-requires c =
     let b = (goal.at.replace-requires c).In_ok-count in
     let m = c.args.fill.mark in
     let mark = and_parts (leb 1 m) (leb m nulls) (substitute-accepted (h b) (ws b) (f b).log m c.args.fill.cell _ (accepted b)).mark in
-    (leb-true m nulls mark.1, c.requires)
+    (omega (arith, leb-true m nulls mark.1), c.requires)
 
 pub returns-clause-few : goal.returns-clause-few
 returns-clause-few c = let b = (goal.at.returns-clause-few c).In_ok-count in λ k e. count-few (h b) (f b) (ws b) k (accepted b ∙ e)
