@@ -1,8 +1,10 @@
 -- `rerun::rerun::rerun` meets its contract: its three ends are those of the definition. Assumes nothing.
 use Prim.Native.Nat.{ℕ}
-use mathlib.Core.Path.{sym, ◌∙◌}
+use mathlib.Core.Path.{◌≡◌, sym, ◌∙◌}
 use mathlib.Core.List.{List}
 use native.Mathlib.Omega.{arith}
+use borrow.Author.Rules.{rules}
+use Rattle.std.specs.Prelude.{Err}
 use Rattle.rerun.specs.Rerun.{Given, given}
 use Rattle.rerun.proofs.Endings.{no_place, refused, few-cells, both_asked}
 use Rattle.rerun.proofs.rerun.rerun.Goals as goal
@@ -24,24 +26,18 @@ returns-then-answers-fills c =
 pub fill_all-requires : goal.fill_all-requires
 fill_all-requires c =
     let s = (goal.at.fill_all-requires c).Start in
-    let few = few-cells (g s) (ws s) _ _ (sym c.in-Verdict.is ∙ c.ask_by.ensures.answer) in
+    let few = few-cells (g s) (ws s) _ _ (sym c.in_ok-first.was ∙ c.ask_by.ensures.answer) in
     (omega arith, c.if-answers-fills.false)
 
-pub returns-in-Refused : goal.returns-in-Refused
-returns-in-Refused c =
-    let s = (goal.at.returns-in-Refused c).Start in
-    refused (g s) (ws s) c.if-answers-fills.false _ (sym c.in-Refused.is ∙ c.ask_by.ensures.answer) _ c.ask_by.ensures.buffer
+pub returns-in_err-first : goal.returns-in_err-first
+returns-in_err-first c =
+    let s = (goal.at.returns-in_err-first c).Start in
+    let e : c.from_residual.result ≡ Err c.in_err-first.field-0.0 = search rules in
+    rw e (refused (g s) (ws s) c.if-answers-fills.false _ (sym c.in_err-first.was ∙ c.ask_by.ensures.answer) _ c.ask_by.ensures.buffer)
 
-pub returns-in-Refused-ask_by : goal.returns-in-Refused-ask_by
-returns-in-Refused-ask_by c =
-    let s = (goal.at.returns-in-Refused-ask_by c).Start in
-    both_asked (g s) (ws s) c.if-answers-fills.false _ _ (sym c.in-Verdict.is ∙ c.ask_by.ensures.answer)
-    _ _ _ _ _ _ _ _ c.ask_by.ensures.buffer c.fill_all.ensures.left c.fill_all.ensures.answers
-    (sym c.in-Refused-ask_by.is ∙ c.ask_by-in-Verdict.ensures.answer) c.ask_by-in-Verdict.ensures.buffer
-
-pub returns-in-Verdict-ask_by : goal.returns-in-Verdict-ask_by
-returns-in-Verdict-ask_by c =
-    let s = (goal.at.returns-in-Verdict-ask_by c).Start in
-    both_asked (g s) (ws s) c.if-answers-fills.false _ _ (sym c.in-Verdict.is ∙ c.ask_by.ensures.answer)
-    _ _ _ _ _ _ _ _ c.ask_by.ensures.buffer c.fill_all.ensures.left c.fill_all.ensures.answers
-    (sym c.in-Verdict-ask_by.is ∙ c.ask_by-in-Verdict.ensures.answer) c.ask_by-in-Verdict.ensures.buffer
+pub returns : goal.returns
+returns c =
+    let s = (goal.at.returns c).Start in
+    both_asked (g s) (ws s) c.if-answers-fills.false c.in_ok-first.first.truth c.in_ok-first.first.cost (sym c.in_ok-first.was ∙ c.ask_by.ensures.answer)
+    _ _ _ _ _ _ _ _ c.ask_by.ensures.buffer c.fill_all.ensures.left c.fill_all.ensures.answers c.ask_by-second.ensures.answer
+    c.ask_by-second.ensures.buffer
