@@ -14,10 +14,8 @@ use Rattle.answer.specs.declared.way.Way.{Way}
 use Rattle.answer.specs.declared.way.Way.TheVariants.{Listed, Unlisted}
 use Rattle.answer.specs.Ask.{Lent, list, none}
 use Rattle.rerun.specs.Rerun.{given}
-use Rattle.calls.specs.Calls.{Call, asks, counts, encodes, inserts, substitutes, logs, undoes, decodes, reruns}
-use Rattle.calls.specs.Calls.{number}
-use Rattle.calls.specs.Numbers.{insert_numbers, fill_numbers, log_numbers, undo_numbers, write_numbers, read_numbers}
-use Rattle.calls.specs.Numbers.{ask_numbers, unlisted_numbers, numbers}
+use Rattle.calls.specs.Calls.{Call, asks, counts, encodes, inserts, substitutes, logs, undoes, decodes, reruns, number}
+use Rattle.calls.specs.Numbers.{insert_numbers, fill_numbers, log_numbers, undo_numbers, write_numbers, read_numbers, ask_numbers, unlisted_numbers, numbers}
 
 -- the numbers of a call, and calls on the words of the table's plot
 pub record Row : Type 0 where

@@ -4,9 +4,8 @@ use Prim.Native.Nat.{ℕ, ◌<◌}
 use mathlib.Core.Path.{◌≡◌, refl, sym, ap, ◌∙◌, subst}
 use mathlib.Core.Bool.{Bool, true, false, ◌&&◌}
 use mathlib.Core.Logic.{◌↔◌, ⊎_elim}
-use mathlib.Core.List.{List, ◌∷◌, ◌++◌, map, map-map}
+use mathlib.Core.List.{List, ◌∷◌, ◌++◌, map, map-map, Memᴰ}
 use mathlib.Core.List.Memᴰ
-use mathlib.Core.List.{Memᴰ}
 use lib.ListN.{length}
 use Rattle.calculus.specs.declared.truth.Truth.TheVariants.{True}
 use Rattle.calculus.specs.All.{all}

@@ -10,8 +10,7 @@ use lib.ListN.{set}
 use borrow.Author.Tests.{eqb-true, eq-eqb}
 use Rattle.calculus.specs.Row.{Row}
 use Rattle.calculus.specs.Kleene.{Junction, conj, disj}
-use Rattle.calculus.specs.Formula.{Formula, atom, equal, negation, junction, quantified, value, values}
-use Rattle.calculus.specs.Formula.{term_passes, constants_pass}
+use Rattle.calculus.specs.Formula.{Formula, atom, equal, negation, junction, quantified, value, values, term_passes, constants_pass}
 use Rattle.calculus.specs.Closed.{tuples}
 use Rattle.calculus.specs.TwoValued.{join_b, over_b, says}
 use Rattle.calculus.specs.Order.{Fixes}

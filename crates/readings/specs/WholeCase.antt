@@ -1,7 +1,6 @@
 -- Document 01, "The program": the whole case, and reading 6, "The plotask case". The bytes that the program reads are the reading's instance, question,
 -- candidate and budget.
-use Rattle.std.specs.Prelude.{ℕ, ◌≡◌, List, [], ◌∷◌, length, take}
-use Rattle.std.specs.Prelude.{Ok}
+use Rattle.std.specs.Prelude.{ℕ, ◌≡◌, List, [], ◌∷◌, length, take, Ok}
 use Rattle.calculus.specs.Reading.{read}
 use Rattle.card.specs.Decode.{decoded}
 use Rattle.line.specs.Fields.{read_input}

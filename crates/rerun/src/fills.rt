@@ -21,7 +21,7 @@ pub struct Wanted {
 
 impl Wanted {
     // The fill that three words ask for: the third is 0 for one that is not logged.
-    fn new(mark: u32, cell: u32, logs: u32) -> Wanted
+    fn of(mark: u32, cell: u32, logs: u32) -> Wanted
         ensures { result ≡ wanted mark cell logs }
     {
         Wanted {
@@ -104,7 +104,7 @@ pub fn fill_all(
 {
     for k in 0..fills.len() / 3 {
         let i = 3 * k;
-        let next = Wanted::new(fills[i], fills[i + 1], fills[i + 2]);
+        let next = Wanted::of(fills[i], fills[i + 1], fills[i + 2]);
         let answer = fill(header, instance, candidate, log, used, next);
         store(&mut answers[i..], answer, next);
     }

@@ -1,9 +1,10 @@
 -- `rerun::rerun::rerun` meets its contract: its three ends are those of the definition. Assumes nothing.
 use Prim.Native.Nat.{ℕ}
-use mathlib.Core.Path.{sym, ◌∙◌}
+use mathlib.Core.Path.{◌≡◌, sym, ◌∙◌}
 use mathlib.Core.List.{List}
 use native.Mathlib.Omega.{arith}
-use Rattle.std.proofs.lemmas.Result.{err_from_is_err_and}
+use borrow.Author.Rules.{rules}
+use Rattle.std.specs.Prelude.{Err}
 use Rattle.rerun.specs.Rerun.{Given, given}
 use Rattle.rerun.proofs.Endings.{no_place, refused, few-cells, both_asked}
 use Rattle.rerun.proofs.rerun.rerun.Goals as goal
@@ -22,22 +23,21 @@ returns-then-answers-fills c =
     let s = (goal.at.returns-then-answers-fills c).Start in
     no_place (g s) (ws s) c.if-answers-fills.true
 
-pub returns-in_err-first : goal.returns-in_err-first
-returns-in_err-first c =
-    let s = (goal.at.returns-in_err-first c).Start in
-    let p = err_from_is_err_and c.from_residual.result c.from_residual.ensures.1 in
-    rw (p.1, p.2)
-    (refused (g s) (ws s) c.if-answers-fills.false _ (sym c.in_err-first.was ∙ c.ask_by.ensures.answer) _ c.ask_by.ensures.buffer)
-
 pub fill_all-requires : goal.fill_all-requires
 fill_all-requires c =
     let s = (goal.at.fill_all-requires c).Start in
     let few = few-cells (g s) (ws s) _ _ (sym c.in_ok-first.was ∙ c.ask_by.ensures.answer) in
     (omega arith, c.if-answers-fills.false)
 
+pub returns-in_err-first : goal.returns-in_err-first
+returns-in_err-first c =
+    let s = (goal.at.returns-in_err-first c).Start in
+    let e : c.from_residual.result ≡ Err c.in_err-first.field-0.0 = search rules in
+    rw e (refused (g s) (ws s) c.if-answers-fills.false _ (sym c.in_err-first.was ∙ c.ask_by.ensures.answer) _ c.ask_by.ensures.buffer)
+
 pub returns : goal.returns
 returns c =
     let s = (goal.at.returns c).Start in
-    both_asked (g s) (ws s) c.if-answers-fills.false _ _ (sym c.in_ok-first.was ∙ c.ask_by.ensures.answer)
-    _ _ _ _ _ _ _ _ c.ask_by.ensures.buffer c.fill_all.ensures.left c.fill_all.ensures.answers
-    c.ask_by-second.ensures.answer c.ask_by-second.ensures.buffer
+    both_asked (g s) (ws s) c.if-answers-fills.false c.in_ok-first.first.truth c.in_ok-first.first.cost (sym c.in_ok-first.was ∙ c.ask_by.ensures.answer)
+    _ _ _ _ _ _ _ _ c.ask_by.ensures.buffer c.fill_all.ensures.left c.fill_all.ensures.answers c.ask_by-second.ensures.answer
+    c.ask_by-second.ensures.buffer
