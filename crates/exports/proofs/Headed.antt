@@ -10,6 +10,7 @@ use Rattle.calculus.specs.declared.refusal.Refusal.TheVariants.{Unsound}
 use Rattle.instance.specs.declared.header.Header.{Header}
 use Rattle.exports.specs.Words.{header_length, header_of, headed, if_headed}
 use Rattle.calculus.specs.Answer.{number_of, value_of}
+use Rattle.calculus.specs.Refusal.{unsound}
 
 module _ (hs : List ℕ) where
   pub headed_no : (length hs ≡ header_length → ⊥) → (a : Answer) → headed hs a ≡ Err Unsound
@@ -38,10 +39,10 @@ module _ (hs : List ℕ) {A : Type 0} (call : Header → Answer) (leaves : Heade
   abbrev pub Counted : ℕ → A → ℕ → Type 0
   Counted r x n = (r ≡ number_of (headed hs (call (header_of hs)))) × ((x ≡ if_headed hs (leaves (header_of hs)) old) × (n ≡ value_of (headed hs (call (header_of hs))) count))
 
-  pub counted_no : (length hs ≡ header_length → ⊥) → Counted Unsound old count
-  counted_no ne =
+  pub counted_no : {r : ℕ} → r ≡ unsound → (length hs ≡ header_length → ⊥) → Counted r old count
+  counted_no is ne =
       let a = headed_no hs ne (call (header_of hs)) in
-      (sym (ap number_of a), (sym (kept_no hs ne (leaves (header_of hs)) old), sym (ap (λ (x : Answer). value_of x count) a)))
+      (is ∙ sym (ap number_of a), (sym (kept_no hs ne (leaves (header_of hs)) old), sym (ap (λ (x : Answer). value_of x count) a)))
 
   pub counted-yes :
       length hs ≡ header_length → {h : Header} → h ≡ header_of hs → {a : Answer} {x : A} {r n : ℕ} → a ≡ call h → x ≡ leaves h → r ≡ number_of a → n ≡ value_of a count → Counted r x n

@@ -24,6 +24,7 @@ use Rattle.exports.specs.Calls.{log_answer, log_words, log_log, log_used, undo_a
 use Rattle.exports.specs.Steps.{Seen, decodes}
 use Rattle.exports.specs.Numbers.{is_done}
 use Rattle.exports.specs.History.{Step, fills, undoes, inserts, State, step_answer, step_state, seen_of, steps_seen, state_after, step_of, history_seen, events_of, start, state_of, ExportedHistory, HistoryFromCard}
+use Rattle.exports.proofs.Refusals.{refused_by}
 use Rattle.exports.proofs.Headed.{headed_yes, kept_yes}
 use Rattle.exports.proofs.Numbers.{every_return}
 use Rattle.exports.proofs.Kept.{read-sound}
@@ -118,11 +119,6 @@ unfolding history_seen answers_by zipped
 seen_by h ws log [] es = refl
 seen_by h ws log (p ∷ ps) es = ap (λ (xs : List Seen). seen_of p (answer_by h ws log (step_of p) es) ∷ xs) (seen_by h ws log ps (events_after h ws log (step_of p) es))
 
--- the number of a refusal says which it is
-refused_by : (a : Answer) (r : ℕ) → (r ≡ 0 → ⊥) → number_of a ≡ r → a ≡ Err r
-refused_by (Ok n) r some e = absurd (some (sym e))
-refused_by (Err q) r some e = ap Err e
-
 pub exported_history : ExportedHistory
 exported_history hs ws log ps long is_sound =
     let h = header_of hs in
@@ -141,9 +137,9 @@ exported_history hs ws log ps long is_sound =
       seen = ap (steps_seen ps) begins ∙ steps.0 ∙ ap (zipped ps) holds.0 ∙ seen_by h ws log ps [];
       header = ap (λ (x : State). x.header) ends ∙ ap header_words holds.1.header;
       follows = subst (library.Follows h ws log (events_of h ws log ps)) (sym back) holds.1;
-      never_bad = λ p e. never_bad h ws log (map step_of ps) (step_of p) is_sound (sym (answers p) ∙ refused_by (step_answer p (state_after ps (start hs ws log))) BadLog (λ z. omega arith) e);
+      never_bad = λ p e. never_bad h ws log (map step_of ps) (step_of p) is_sound (sym (answers p) ∙ refused_by (step_answer p (state_after ps (start hs ws log))) BadLog e);
       empty = λ count. (
-        λ e. both.0 (sym (answers (undoes count)) ∙ refused_by (step_answer (undoes count) (state_after ps (start hs ws log))) LogEmpty (λ z. omega arith) e),
+        λ e. both.0 (sym (answers (undoes count)) ∙ refused_by (step_answer (undoes count) (state_after ps (start hs ws log))) LogEmpty e),
         λ e. ap number_of (answers (undoes count) ∙ both.1 e),
       );
     }

@@ -19,20 +19,20 @@ use Rattle.exports.proofs.Stored.{Stored, stored}
 
 module _ (hs ws qs candidate : List ℕ) (lent : Lent) (budget truth : ℕ)
     (s : Stored hs ws qs candidate lent budget) where
-  stores : verdict_of (ask_answer hs ws qs candidate lent budget) truth ≡ rank s.verdict
+  stores : verdict_of (ask_answer hs ws qs candidate lent budget) truth ≡ rank s.truth
   stores = ap (λ (a : Asked). verdict_of a truth) s.answers
 
   -- if the stored number is a verdict's, that is the verdict
-  stored_is : (t : Truth) → verdict_of (ask_answer hs ws qs candidate lent budget) truth ≡ rank t → s.verdict ≡ t
-  stored_is t e = rank_is s.verdict t (sym stores ∙ e)
+  stored_is : (t : Truth) → verdict_of (ask_answer hs ws qs candidate lent budget) truth ≡ rank t → s.truth ≡ t
+  stored_is t e = rank_is s.truth t (sym stores ∙ e)
 
-  is-stored : (t : Truth) → s.verdict ≡ t → verdict_of (ask_answer hs ws qs candidate lent budget) truth ≡ rank t
+  is-stored : (t : Truth) → s.truth ≡ t → verdict_of (ask_answer hs ws qs candidate lent budget) truth ≡ rank t
   is-stored t e = stores ∙ ap rank e
 
 pub exported_nothing_missed : ExportedNothingMissed
 exported_nothing_missed hs ws qs candidate lent budget truth plain zero =
     let s = stored hs ws qs candidate lent budget zero in
-    let both = nothing_missed (header_of hs) ws qs candidate lent budget s.verdict s.cost plain s.asks in (
+    let both = nothing_missed (header_of hs) ws qs candidate lent budget s.truth s.cost plain s.asks in (
       (λ k. both.0 (stored_is hs ws qs candidate lent budget truth s True k)),
       (λ all. is-stored hs ws qs candidate lent budget truth s True (both.1 all)),
     )
@@ -40,7 +40,7 @@ exported_nothing_missed hs ws qs candidate lent budget truth plain zero =
 pub exported_false_somehow : ExportedFalseSomehow
 exported_false_somehow hs ws qs candidate lent budget truth plain zero not-true =
     let s = stored hs ws qs candidate lent budget zero in
-    false_somehow (header_of hs) ws qs candidate lent budget s.verdict s.cost plain s.asks
+    false_somehow (header_of hs) ws qs candidate lent budget s.truth s.cost plain s.asks
     (λ k. not-true (is-stored hs ws qs candidate lent budget truth s True k))
 
 pub exported_verdicts_right : ExportedVerdictsRight

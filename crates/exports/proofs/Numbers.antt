@@ -12,7 +12,8 @@ use Rattle.std.specs.Prelude.{Ok, Err}
 use Rattle.calculus.specs.Answer.{number_of, after}
 use Rattle.calculus.proofs.Answers.{number-kept}
 use Rattle.calculus.specs.declared.refusal.Refusal.TheVariants.{Unsound}
-use Rattle.calculus.specs.Refusal.{unsound, budget_spent}
+use Rattle.calculus.specs.Refusal.{refusal_number, unsound, budget_spent}
+use Rattle.calculus.specs.declared.refusal.Refusal.{Refusal}
 use Rattle.calculus.specs.Model.{outcome_of}
 use Rattle.instance.specs.NullCounts.{counted, counted_words}
 use Rattle.undo_log.specs.Log.{logged, logged_log, logged_used, undone, undone_used}
@@ -37,28 +38,25 @@ use Rattle.exports.specs.Calls.{substitute_answer, substitute_words, log_answer,
 use Rattle.exports.specs.Calls.{counts_answer, counts_words, encode_answer, encode_bytes, ask_answer, ask_buffer}
 use Rattle.exports.specs.Steps.{Job, asks, counts, encodes, inserts, substitutes, logs, undoes, decodes, answer_on, number_on, header_left, words_left}
 use Rattle.exports.specs.Numbers.{numbers_of, is_done, list_given, list_left, out_given, out_left, used_given, used_left, EveryReturn, call_of, Occurs}
+use Rattle.exports.proofs.Refusals.{not_zero}
 use Rattle.exports.proofs.Headed.{headed_no, headed_yes}
 use Rattle.exports.proofs.HeaderWords.{Eight, words_size, header_back}
 use Rattle.calculus.specs.Demand.{demand}
 use Rattle.calculus.specs.Listed.{listed}
 use Rattle.calculus.proofs.Listed.{listed-right}
 
--- a refusal is one of these numbers, and not 0
-record Known (ns : List ℕ) (r : ℕ) : Type 0 where
-  tabled : listed r ns ≡ true
-  not_zero : r ≡ 0 → ⊥
-
+-- a refusal has one of these numbers
 AllKnown : List ℕ → Answer → Type 0
-AllKnown ns a = (r : ℕ) → a ≡ Err r → Known ns r
+AllKnown ns a = (r : Refusal) → a ≡ Err r → listed (refusal_number r) ns ≡ true
 
 -- the library's call, which is made if the header slice has the right length
 known : (c : Call) (hs ws ns : List ℕ) → listed unsound ns ≡ true → ((r : ℕ) → listed r (numbers c) ≡ true → listed r ns ≡ true) → AllKnown ns (headed hs (answer_to c ws))
 unfolding AllKnown
 known c hs ws ns first more r = go (eqb (length hs) header_length)
   where
-    go : (b : Bool) → demand b (Err Unsound) (answer_to c ws) ≡ Err r → Known ns r
-    go true e = let k = every_number c ws r e in record { tabled = more r k.tabled; not_zero = k.not_zero }
-    go false e = let q : unsound ≡ r = cc in record { tabled = rw (← q) first; not_zero = λ z. omega arith }
+    go : (b : Bool) → demand b (Err Unsound) (answer_to c ws) ≡ Err r → listed (refusal_number r) ns ≡ true
+    go true e = more (refusal_number r) (every_number c ws r e).tabled
+    go false e = let q : Unsound ≡ r = cc in rw (← q) first
 
 asked-known : (hs ws qs candidate : List ℕ) (lent : Lent) (budget : ℕ) → asked_as (ask_answer hs ws qs candidate lent budget) ≡ headed hs (asked_as (ask (header_of hs) ws qs candidate lent budget))
 unfolding ask_answer
@@ -163,12 +161,11 @@ all_used (decodes card used) hs ws some = number-kept (decode_answer card hs ws)
 tabled-is : (ns : List ℕ) (a : Answer) → AllKnown ns a → listed (number_of a) (0 ∷ ns) ≡ true
 unfolding AllKnown listed
 tabled-is ns (Ok n) t = refl
-tabled-is ns (Err r) t = listed-right r (0 ∷ []) ns (t r refl).tabled
+tabled-is ns (Err r) t = listed-right (refusal_number r) (0 ∷ []) ns (t r refl)
 
-accepted-is : (ns : List ℕ) (a : Answer) → AllKnown ns a → number_of a ≡ 0 → is_done a ≡ true
-unfolding AllKnown
-accepted-is ns (Ok n) t e = refl
-accepted-is ns (Err r) t e = absurd ((t r refl).not_zero e)
+accepted-is : (a : Answer) → number_of a ≡ 0 → is_done a ≡ true
+accepted-is (Ok n) e = refl
+accepted-is (Err r) e = absurd (not_zero r e)
 
 pub every_return : EveryReturn
 every_return j hs ws =
@@ -176,7 +173,7 @@ every_return j hs ws =
     let t = all_known j hs ws in
     record {
       tabled = tabled-is (numbers_of j) a t;
-      accepted = accepted-is (numbers_of j) a t;
+      accepted = accepted-is a;
       refused = all-kept j hs ws;
       used = all_used j hs ws;
       out = all-out j hs ws;

@@ -70,10 +70,10 @@ exported_demand_three p qs candidate lent budget ss lent' budget' truth cost tru
     let s = stored hs ws qs candidate lent budget zero in
     let e = s.answers in
     let d =
-    demand_three (header_of hs) ws qs candidate lent budget (fills_among ss) lent' budget' longer larger s.verdict s.cost
+    demand_three (header_of hs) ws qs candidate lent budget (fills_among ss) lent' budget' longer larger s.truth s.cost
     s.asks
     in
-    let sound = (verdict-asked (header_of hs) ws qs candidate lent budget s.verdict s.cost s.asks).0.is_sound in
+    let sound = (verdict-asked (header_of hs) ws qs candidate lent budget s.truth s.cost s.asks).0.is_sound in
     let left = instance_after_lem hs s.long ss ws quiet in
     let b =
     ap (λ (x : Instance). ask_answer x.header x.words qs (model_after p candidate ss).candidate lent' budget') left ∙

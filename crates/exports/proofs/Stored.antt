@@ -19,6 +19,7 @@ use Rattle.calls.specs.Calls.{asks}
 use Rattle.calls.proofs.Numbers.{every_number}
 use Rattle.exports.specs.Words.{header_length, header_of}
 use Rattle.exports.specs.Calls.{ask_answer}
+use Rattle.exports.proofs.Refusals.{not_zero}
 use Rattle.exports.proofs.Headed.{kept_yes}
 
 module _ (hs ws qs candidate : List ℕ) (lent : Lent) (budget : ℕ) where
@@ -38,22 +39,12 @@ module _ (hs ws qs candidate : List ℕ) (lent : Lent) (budget : ℕ) where
       go true is = eqb-true (length hs) header_length is
       go false is = absurd (not_refused (rw is at e))
 
-  -- a question is not refused with 0
-  not_zero : ask_answer hs ws qs candidate lent budget ≡ Err 0 → ⊥
-  unfolding ask_answer
-  not_zero e = go (eqb (length hs) header_length) refl
-    where
-      go : (b : Bool) → eqb (length hs) header_length ≡ b → ⊥
-      go true is =
-          (every_number (asks (header_of hs) qs candidate lent budget) ws 0 (ap asked_as (rw is at e))).not_zero refl
-      go false is = let z : ◌≡◌ {A = ℕ} 41 0 = cc (rw is at e) in omega arith
-
   pub record Stored : Type 0 where
     pub long : length hs ≡ header_length
-    pub verdict : Truth
+    pub truth : Truth
     pub cost : ℕ
-    pub answers : ask_answer hs ws qs candidate lent budget ≡ verdict verdict cost
-    pub asks : ask (header_of hs) ws qs candidate lent budget ≡ verdict verdict cost
+    pub answers : ask_answer hs ws qs candidate lent budget ≡ verdict truth cost
+    pub asks : ask (header_of hs) ws qs candidate lent budget ≡ verdict truth cost
 
   pub stored : asked_number (ask_answer hs ws qs candidate lent budget) ≡ 0 → Stored
   stored zero = go (ask_answer hs ws qs candidate lent budget) refl
@@ -61,7 +52,5 @@ module _ (hs ws qs candidate : List ℕ) (lent : Lent) (budget : ℕ) where
       go : (a : Asked) → ask_answer hs ws qs candidate lent budget ≡ a → Stored
       go (Ok v) e =
           let long = has-length v.truth v.cost e in
-          record { long = long; verdict = v.truth; cost = v.cost; answers = e; asks = sym (ask-is long) ∙ e }
-      go (Err r) e =
-          let none : r ≡ 0 = sym (ap asked_number e) ∙ zero in
-          absurd (not_zero (e ∙ ap Err none))
+          record { long = long; truth = v.truth; cost = v.cost; answers = e; asks = sym (ask-is long) ∙ e }
+      go (Err r) e = absurd (not_zero r (sym (ap asked_number e) ∙ zero))

@@ -1,6 +1,6 @@
 -- The two calls for a question agree as C sees them. Assumes nothing.
 use Prim.Native.Nat.{ℕ}
-use mathlib.Core.Path.{◌≡◌, refl, ap}
+use mathlib.Core.Path.{◌≡◌, refl, sym, ap}
 use mathlib.Core.Bool.{Bool, true, false, cond}
 use native.Mathlib.Omega.{arith}
 use lib.ListN.{length}
@@ -15,15 +15,13 @@ use Rattle.answer.specs.Numbers.{asked_number, verdict_of, cost_of}
 use Rattle.answer.proofs.Ways.{ways_agree, never_short}
 use Rattle.exports.specs.Words.{header_length, header_of}
 use Rattle.exports.specs.Calls.{ask_answer}
+use Rattle.exports.proofs.Refusals.{not_zero, same_refusal}
 use Rattle.exports.specs.Ways.{ExportedWaysAgree, ExportedNeverShort}
 
 -- the answer of a call that returned 45
 short_by : (a : Asked) → asked_number a ≡ buffer_too_short → a ≡ Err BufferTooShort
-short_by (Ok v) e = absurd (zero_not e)
-  where
-    zero_not : ◌≡◌ {A = ℕ} 0 45 → ⊥
-    zero_not e = omega (arith, e)
-short_by (Err r) e = ap Err e
+short_by (Ok v) e = absurd (not_zero BufferTooShort (sym e))
+short_by (Err r) e = ap Err (same_refusal r BufferTooShort e)
 
 pub exported_ways_agree : ExportedWaysAgree
 unfolding ask_answer

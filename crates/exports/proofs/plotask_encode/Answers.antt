@@ -8,7 +8,7 @@ pub returns-then-header-ne-HEADER : goal.returns-then-header-ne-HEADER
 unfolding encode_answer encode_bytes
 returns-then-header-ne-HEADER c =
     let args = c.args in
-    let refused = counted_no args.header.now (λ h. encoded h args.instance.now args.card.now) (λ h. encoded_bytes h args.instance.now args.card.now) _ args.count.now c.if-header-ne-HEADER.true in record {
+    let refused = counted_no args.header.now (λ h. encoded h args.instance.now args.card.now) (λ h. encoded_bytes h args.instance.now args.card.now) _ args.count.now c.from.ensures c.if-header-ne-HEADER.true in record {
       number = refused.0;
       bytes = refused.1.0;
       count = refused.1.1;
@@ -18,9 +18,9 @@ pub returns : goal.returns
 unfolding encode_answer encode_bytes
 returns c =
     let args = c.args in
-    let made = c.encode-written.ensures in
+    let made = c.encode-answer.ensures in
     let answered = counted-yes args.header.now (λ h. encoded h args.instance.now args.card.now) (λ h. encoded_bytes h args.instance.now args.card.now) _ args.count.now c.if-header-ne-HEADER.false c.read_header.ensures
-    made.answer made.bytes c.number.ensures c.value.ensures in record {
+    made.answer made.bytes c.tell.ensures.number c.tell.ensures.value in record {
       number = answered.0;
       bytes = answered.1.0;
       count = answered.1.1;

@@ -8,7 +8,7 @@ pub returns-then-header-ne-HEADER : goal.returns-then-header-ne-HEADER
 unfolding counts_answer counts_words
 returns-then-header-ne-HEADER c =
     let args = c.args in
-    let refused = counted_no args.header.now (λ h. counted h args.instance.now args.counts.now) (λ h. counted_words h args.instance.now args.counts.now) _ args.count.now c.if-header-ne-HEADER.true in record {
+    let refused = counted_no args.header.now (λ h. counted h args.instance.now args.counts.now) (λ h. counted_words h args.instance.now args.counts.now) _ args.count.now c.from.ensures c.if-header-ne-HEADER.true in record {
       number = refused.0;
       words = refused.1.0;
       count = refused.1.1;
@@ -18,9 +18,9 @@ pub returns : goal.returns
 unfolding counts_answer counts_words
 returns c =
     let args = c.args in
-    let made = c.null_counts-counted.ensures in
+    let made = c.null_counts-answer.ensures in
     let answered = counted-yes args.header.now (λ h. counted h args.instance.now args.counts.now) (λ h. counted_words h args.instance.now args.counts.now) _ args.count.now c.if-header-ne-HEADER.false c.read_header.ensures
-    made.answer made.words c.number.ensures c.value.ensures in record {
+    made.answer made.words c.tell.ensures.number c.tell.ensures.value in record {
       number = answered.0;
       words = answered.1.0;
       count = answered.1.1;

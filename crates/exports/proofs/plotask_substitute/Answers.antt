@@ -9,7 +9,7 @@ pub returns-then-header-ne-HEADER : goal.returns-then-header-ne-HEADER
 unfolding substitute_answer substitute_words
 returns-then-header-ne-HEADER c =
     let args = c.args in
-    let refused = counted_no args.header.now (λ h. substituted h args.instance.now unlogged args.mark args.cell) (λ h. substituted_words h args.instance.now unlogged args.mark args.cell) _ args.count.now c.if-header-ne-HEADER.true in record {
+    let refused = counted_no args.header.now (λ h. substituted h args.instance.now unlogged args.mark args.cell) (λ h. substituted_words h args.instance.now unlogged args.mark args.cell) _ args.count.now c.from.ensures c.if-header-ne-HEADER.true in record {
       number = refused.0;
       words = refused.1.0;
       count = refused.1.1;
@@ -21,7 +21,7 @@ returns c =
     let args = c.args in
     let made = c.substitute-answer.ensures in
     let answered = counted-yes args.header.now (λ h. substituted h args.instance.now unlogged args.mark args.cell) (λ h. substituted_words h args.instance.now unlogged args.mark args.cell) _ args.count.now c.if-header-ne-HEADER.false c.read_header.ensures
-    made.answer made.words c.number.ensures c.value.ensures in record {
+    made.answer made.words c.tell.ensures.number c.tell.ensures.value in record {
       number = answered.0;
       words = answered.1.0;
       count = answered.1.1;

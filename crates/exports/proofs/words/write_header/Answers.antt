@@ -12,48 +12,37 @@ use Rattle.instance.specs.Header.{max_relations}
 use Rattle.exports.specs.Words.{relations_at, arities_at, used_at, row_counts_at, header_words, header_length}
 use Rattle.exports.proofs.HeaderWords.{Eight, words_size, parts_written}
 use Rattle.exports.proofs.words.write_header.Goals as goal
-use Rattle.exports.proofs.words.write_header.Goals.{After-slice_known-2-1, After-slice_known-3-1, Start}
+use Rattle.exports.proofs.words.write_header.Goals.{After-slice_known-2-1, After-slice_known-3-1}
 
 pub put_eight-requires : goal.put_eight-requires
-put_eight-requires c = (simp length-set (omega (arith, c.requires)), search rules)
+put_eight-requires c = simp length-set (omega (arith, c.requires))
 
--- after the arities were written
-module _ (c : After-slice_known-2-1) where
-  abbrev start : Start
-  start = c.before.before.before.before.before.before.before.before
+eight : (c : After-slice_known-2-1) → Eight c.args.header.now
+eight c = record { arities = search rules; counts = search rules }
 
-  abbrev h : Header
-  h = start.args.header
-
-  abbrev ws : List ℕ
-  ws = start.args.words.now
-
-  eight : Eight h
-  eight = record { arities = search rules; counts = search rules }
-
-  long : length c.put_eight.new.words ≡ header_length
-  long =
-      ap length c.put_eight.ensures ∙
-      length-paste (set ws relations_at h.relations) arities_at h.arities max_relations (simp length-set (omega (arith, start.requires))) (le_of_eq (sym eight.arities)) ∙
-      length-set ws relations_at h.relations ∙ start.requires
+-- the arities are written over the same number of words
+long : (c : After-slice_known-2-1) → length c.put_eight.new.words ≡ header_length
+long c =
+    let h = c.args.header.now in
+    let ws = c.args.words.now in
+    ap length c.put_eight.ensures ∙
+    length-paste (set ws relations_at h.relations) arities_at h.arities max_relations (simp length-set (omega (arith, c.requires))) (le_of_eq (sym (eight c).arities)) ∙
+    length-set ws relations_at h.relations ∙ c.requires
 
 pub bounds-words-9 : goal.bounds-words-9
 bounds-words-9 c = omega (arith, long c)
 
 pub put_eight-requires-2 : goal.put_eight-requires-2
-put_eight-requires-2 c = (simp length-set (omega (arith, long (goal.at.put_eight-requires-2 c).After-slice_known-2-1)), search rules)
+put_eight-requires-2 c = simp length-set (omega (arith, long (goal.at.put_eight-requires-2 c).After-slice_known-2-1))
 
--- after the counts were written
-written : (c : After-slice_known-3-1) → c.put_eight-2.new.words ≡ header_words (h c.before.before.before.before.before.before)
+written : (c : After-slice_known-3-1) → c.put_eight-2.new.words ≡ header_words c.args.header.now
 written c =
-    let b = c.before.before.before.before.before.before in
-    c.put_eight-2.ensures ∙ ap (λ (l : List ℕ). paste (set l used_at (h b).used) row_counts_at (h b).counts max_relations) c.put_eight.ensures ∙
-    parts_written (h b) (eight b) (ws b) b.requires
+    let h = c.args.header.now in
+    c.put_eight-2.ensures ∙ ap (λ (l : List ℕ). paste (set l used_at h.used) row_counts_at h.counts max_relations) c.put_eight.ensures ∙
+    parts_written h (eight (goal.at.shape_of-words c).After-slice_known-2-1) c.args.words.now c.requires
 
 pub shape_of-words : goal.shape_of-words
-shape_of-words c =
-    let b = (goal.at.shape_of-words c).After-slice_known-2-1 in
-    ap length (written c) ∙ words_size (h b) (eight b) ∙ sym b.requires
+shape_of-words c = ap length (written c) ∙ words_size _ (eight (goal.at.shape_of-words c).After-slice_known-2-1) ∙ sym c.requires
 
 pub returns : goal.returns
 returns c = written c
