@@ -17,7 +17,7 @@ use Rattle.instance.proofs.Accepted.{substitute-accepted}
 use Rattle.instance.proofs.Fills.{held-words}
 use Rattle.instance.proofs.Sound.{sound_gives}
 use Rattle.rerun.specs.declared.fills.Wanted.{Wanted}
-use Rattle.rerun.specs.Fills.{wanted, wanted_of, Filled, filled_with, fill_told, fill_leaves, answer_words, fills_told, concatenated, stored}
+use Rattle.rerun.specs.Fills.{wanted, wanted_of, Filled, fill_told, fill_leaves, answer_words, fills_told, concatenated, stored}
 
 -- a fill counts at most as many cells as an instance has words
 pub count-few : (h : Header) (f : Fill) (ws : List ℕ) (k : ℕ) → fill_answer h f ws ≡ Ok k → k ≤ max_words
@@ -25,12 +25,6 @@ count-few h f ws k e =
     let a = substitute-accepted h ws f.log f.mark f.cell k e in
     let g = sound_gives h ws a.is_sound in
     omega (arith, a.count, held-words h ws a.is_sound f.mark, count_of_le (null f.mark) (take h.used ws), g.in_use, g.few)
-
--- what fills change, part by part
-pub same-filled :
-    {words words' candidate candidate' log log' : List ℕ} {used used' : ℕ} → words ≡ words' → candidate ≡ candidate' → log ≡ log' → used ≡ used' →
-    filled_with words candidate log used ≡ filled_with words' candidate' log' used'
-same-filled p q r s = rw (p, q, r, s) refl
 
 -- the fill at index i
 abbrev pub wanted_at : List ℕ → ℕ → Wanted
