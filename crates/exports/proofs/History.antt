@@ -24,7 +24,7 @@ use Rattle.exports.specs.Calls.{log_answer, log_words, log_log, log_used, undo_a
 use Rattle.exports.specs.Steps.{Seen, decodes}
 use Rattle.exports.specs.Numbers.{is_done}
 use Rattle.exports.specs.History.{Step, fills, undoes, inserts, State, step_answer, step_state, seen_of, steps_seen, state_after, step_of, history_seen, events_of, start, state_of, ExportedHistory, HistoryFromCard}
-use Rattle.exports.proofs.Refusals.{refused_by}
+use Rattle.calculus.proofs.Refusals.{refused_by}
 use Rattle.exports.proofs.Headed.{headed_yes, kept_yes}
 use Rattle.exports.proofs.Numbers.{every_return}
 use Rattle.exports.proofs.Kept.{read-sound}

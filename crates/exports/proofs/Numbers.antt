@@ -38,7 +38,7 @@ use Rattle.exports.specs.Calls.{substitute_answer, substitute_words, log_answer,
 use Rattle.exports.specs.Calls.{counts_answer, counts_words, encode_answer, encode_bytes, ask_answer, ask_buffer}
 use Rattle.exports.specs.Steps.{Job, asks, counts, encodes, inserts, substitutes, logs, undoes, decodes, answer_on, number_on, header_left, words_left}
 use Rattle.exports.specs.Numbers.{numbers_of, is_done, list_given, list_left, out_given, out_left, used_given, used_left, EveryReturn, call_of, Occurs}
-use Rattle.exports.proofs.Refusals.{not_zero}
+use Rattle.calculus.proofs.Refusals.{not_zero}
 use Rattle.exports.proofs.Headed.{headed_no, headed_yes}
 use Rattle.exports.proofs.HeaderWords.{Eight, words_size, header_back}
 use Rattle.calculus.specs.Demand.{demand}

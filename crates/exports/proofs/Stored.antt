@@ -19,7 +19,7 @@ use Rattle.calls.specs.Calls.{asks}
 use Rattle.calls.proofs.Numbers.{every_number}
 use Rattle.exports.specs.Words.{header_length, header_of}
 use Rattle.exports.specs.Calls.{ask_answer}
-use Rattle.exports.proofs.Refusals.{not_zero}
+use Rattle.calculus.proofs.Refusals.{not_zero}
 use Rattle.exports.proofs.Headed.{kept_yes}
 
 module _ (hs ws qs candidate : List ℕ) (lent : Lent) (budget : ℕ) where

@@ -15,7 +15,7 @@ use Rattle.answer.specs.Numbers.{asked_number, verdict_of, cost_of}
 use Rattle.answer.proofs.Ways.{ways_agree, never_short}
 use Rattle.exports.specs.Words.{header_length, header_of}
 use Rattle.exports.specs.Calls.{ask_answer}
-use Rattle.exports.proofs.Refusals.{not_zero, same_refusal}
+use Rattle.calculus.proofs.Refusals.{not_zero, same_refusal}
 use Rattle.exports.specs.Ways.{ExportedWaysAgree, ExportedNeverShort}
 
 -- the answer of a call that returned 45

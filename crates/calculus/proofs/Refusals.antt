@@ -1,28 +1,26 @@
 -- The number of a refusal says which it is, and no refusal has the number 0. Assumes nothing.
-use Prim.Native.Nat.{ℕ, ◌≤◌}
+use Prim.Native.Nat.{ℕ, ◌-◌, ◌≤◌}
 use mathlib.Core.Path.{◌≡◌, refl, sym, ap, ◌∙◌}
 use mathlib.Core.Bool.{true}
-use mathlib.Core.List.{List, [], ◌∷◌}
+use mathlib.Core.List.{List, [], ◌∷◌, ◌++◌}
 use native.Mathlib.Omega.{arith}
 use borrow.Author.Tests.{leb-true}
 use lib.Dec.{leb}
-use Rattle.std.specs.Prelude.{Result, Ok, Err, get_or}
+use Rattle.std.specs.Prelude.{Result, Ok, Err, get_or, replicate}
 use Rattle.calculus.specs.Answer.{number_of}
 use Rattle.calculus.specs.Refusal.{refusal_number}
 use Rattle.calculus.specs.declared.refusal.Refusal.{Refusal}
 use Rattle.calculus.specs.declared.refusal.Refusal.TheVariants.{InputTooLong, CutShort, BadRelationCount, BadArity, NoSuchRelation, BitBeyondArity, NotACell, NullsExhausted, BytesLeftOver, BadQueryLength, BadNode, BadChild, UnboundVariable, NoSuchQueryRelation, BadCandidate, WrongRowLength, NoSuchNull, Unsound, NoRoom, NullAbsent, OutputTooShort, BufferTooShort, BudgetSpent, LogTooShort, LogEmpty, BadLog}
 
--- the refusals by number; 0 to 9, 19, 20, 28 and 30 to 40 are no refusal's
+-- the refusals by number, from 10 on; `Unsound` where a number is no refusal's
 by_number : List Refusal
 by_number =
-    Unsound ∷ Unsound ∷ Unsound ∷ Unsound ∷ Unsound ∷ Unsound ∷ Unsound ∷ Unsound ∷ Unsound ∷ Unsound ∷
-    InputTooLong ∷ CutShort ∷ BadRelationCount ∷ BadArity ∷ NoSuchRelation ∷ BitBeyondArity ∷ NotACell ∷
-    NullsExhausted ∷ BytesLeftOver ∷ Unsound ∷ Unsound ∷ BadQueryLength ∷ BadNode ∷ BadChild ∷ UnboundVariable ∷
-    NoSuchQueryRelation ∷ BadCandidate ∷ WrongRowLength ∷ Unsound ∷ NoSuchNull ∷ Unsound ∷ Unsound ∷ Unsound ∷
-    Unsound ∷ Unsound ∷ Unsound ∷ Unsound ∷ Unsound ∷ Unsound ∷ Unsound ∷ Unsound ∷ Unsound ∷ NoRoom ∷ NullAbsent ∷
-    OutputTooShort ∷ BufferTooShort ∷ BudgetSpent ∷ LogTooShort ∷ LogEmpty ∷ BadLog ∷ []
+    InputTooLong ∷ CutShort ∷ BadRelationCount ∷ BadArity ∷ NoSuchRelation ∷ BitBeyondArity ∷ NotACell ∷ NullsExhausted ∷ BytesLeftOver
+    ∷ Unsound ∷ Unsound ∷ BadQueryLength ∷ BadNode ∷ BadChild ∷ UnboundVariable ∷ NoSuchQueryRelation ∷ BadCandidate ∷ WrongRowLength
+    ∷ Unsound ∷ NoSuchNull ∷ replicate 11 Unsound
+    ++ Unsound ∷ NoRoom ∷ NullAbsent ∷ OutputTooShort ∷ BufferTooShort ∷ BudgetSpent ∷ LogTooShort ∷ LogEmpty ∷ BadLog ∷ []
 
-numbered : (r : Refusal) → get_or by_number (refusal_number r) Unsound ≡ r
+numbered : (r : Refusal) → get_or by_number (refusal_number r - 10) Unsound ≡ r
 unfolding by_number
 numbered InputTooLong = refl
 numbered CutShort = refl
@@ -52,7 +50,7 @@ numbered LogEmpty = refl
 numbered BadLog = refl
 
 pub same_refusal : (q r : Refusal) → refusal_number q ≡ refusal_number r → q ≡ r
-same_refusal q r e = sym (numbered q) ∙ ap (λ (n : ℕ). get_or by_number n Unsound) e ∙ numbered r
+same_refusal q r e = sym (numbered q) ∙ ap (λ (n : ℕ). get_or by_number (n - 10) Unsound) e ∙ numbered r
 
 at_least_10 : (r : Refusal) → leb 10 (refusal_number r) ≡ true
 at_least_10 InputTooLong = refl
