@@ -2,21 +2,20 @@
 use Prim.Native.Nat.{ℕ, suc, ◌+◌, ◌-◌, ◌/◌, ◌%◌, ◌≤◌, ◌<◌}
 use mathlib.Core.Path.{◌≡◌, refl, sym, ap, ◌∙◌}
 use mathlib.Core.Bool.{true}
-use mathlib.Core.List.{List, [], ◌∷◌, append-nil}
+use mathlib.Core.List.{List, [], ◌∷◌}
 use native.Mathlib.Nat.{sub-zero}
 use native.Mathlib.Numerals.{add-one}
 use native.Mathlib.Omega.{arith}
-use borrow.Rule.Slice.PartMut.{put_mid}
-use lib.ListN.{length, take, drop, set, length-take, length-drop, drop_of_length-le}
+use lib.ListN.{length, drop, set, length-drop}
 use lib.Dec.{eqb}
-use lib.Seq.{drop-drop}
+use lib.Seq.{drop-drop, drop-set-lt}
 use borrow.Author.Tests.{eq-eqb, ne_eqb}
 use Rattle.calculus.specs.Cell.{null}
 use Rattle.calculus.specs.Overwrite.{overwrite}
 use Rattle.calculus.specs.Reading.{read, refused}
 use Rattle.calculus.proofs.Bools.{false_not_true}
 use Rattle.calculus.proofs.Reading.{then_read}
-use Rattle.calculus.proofs.Stores.{Written, written_begin, written_store, written_finish}
+use Rattle.calculus.proofs.Stores.{Written, written_begin, written_store, written_anew, written_finish}
 use Rattle.instance.specs.Blanks.{Field, written, blank, numbered}
 use Rattle.instance.proofs.Blanks.{numbered-length}
 use Rattle.parse.specs.Parse.{Parsed, is_read, got}
@@ -82,22 +81,24 @@ module _ (k bits m : ℕ) (bs : List ℕ) (h : all_read (suc k) bits bs) where
 
 -- ---- a row that is being written
 
--- `start` has the words that the row's cells are written over
-module _ (start : List ℕ) (arity map : ℕ) (fields : List ℕ) (next : ℕ) where
-  abbrev row_cells : List ℕ
-  row_cells = cells_read_in next arity map fields
+module _ (start : List ℕ) (relation arity map : ℕ) (fields : List ℕ) (next : ℕ) where
+  abbrev row : List ℕ
+  row = relation ∷ cells_read_in next arity map fields
 
-  -- the first `column` cells of the row are written, and those of the other columns are still to be read
-  pub record WritingRow (cells : List ℕ) (bits free at column : ℕ) : Type 0 where
+  -- the first `column` columns of the row are in the part, and the cells of the others are still to be read
+  pub record WritingRow (part : List ℕ) (bits free at column : ℕ) : Type 0 where
     pub within : column ≤ arity
     pub small : free ≤ next + column
     pub reads : all_read (arity - column) bits (drop at fields)
-    pub stored : Written row_cells (cells_read_in free (arity - column) bits (drop at fields)) start cells column
+    pub stored : Written row (cells_read_in free (arity - column) bits (drop at fields)) start part (column + 1)
 
-  module _ (cells : List ℕ) (bits free at column : ℕ) (w : WritingRow cells bits free at column) where
+  module _ (part : List ℕ) (bits free at column : ℕ) (w : WritingRow part bits free at column) where
     module _ (more : column < arity) where
       left : arity - column ≡ suc (arity - (column + 1))
       left = omega arith
+
+      pub row_room : column + 1 < length part
+      row_room = omega (arith, w.stored.same, w.stored.room, cells-long free (arity - column) bits (drop at fields) w.reads)
 
       -- the next column is written in the card
       here : bits % 2 ≡ 1 → WrittenColumn (arity - (column + 1)) bits free (drop at fields) (rw left at w.reads)
@@ -107,7 +108,7 @@ module _ (start : List ℕ) (arity map : ℕ) (fields : List ℕ) (next : ℕ) w
       field_room odd = omega (arith, (here odd).long, length-drop at fields)
 
       pub written_step : bits % 2 ≡ 1 → {c : ℕ} {rest : List ℕ} → read_number 3 (drop at fields) ≡ read c rest
-          → WritingRow (set cells column c) (bits / 2) free (at + 3) (column + 1)
+          → WritingRow (set part (column + 1) c) (bits / 2) free (at + 3) (column + 1)
       written_step odd {c} number =
           let col = here odd in
           let same : col.cell ≡ c = cc col.number in
@@ -116,11 +117,11 @@ module _ (start : List ℕ) (arity map : ℕ) (fields : List ℕ) (next : ℕ) w
             within = omega arith;
             small = omega (arith, w.small);
             reads = rw drop-drop at col.reads;
-            stored = written_store (column + 1) refl stored;
+            stored = written_store (column + 1 + 1) refl stored;
           }
 
       -- the next column is blank
-      pub blank_step : (bits % 2 ≡ 1 → ⊥) → WritingRow (set cells column (null free)) (bits / 2) (free + 1) at (column + 1)
+      pub blank_step : (bits % 2 ≡ 1 → ⊥) → WritingRow (set part (column + 1) (null free)) (bits / 2) (free + 1) at (column + 1)
       blank_step even =
           let col = blank-column (arity - (column + 1)) bits free (drop at fields) (rw left at w.reads) even in
           let stored = rw (left, col.cells, ← add-one free) at w.stored in
@@ -128,37 +129,27 @@ module _ (start : List ℕ) (arity map : ℕ) (fields : List ℕ) (next : ℕ) w
             within = omega arith;
             small = omega (arith, w.small);
             reads = col.reads;
-            stored = written_store (column + 1) refl stored;
+            stored = written_store (column + 1 + 1) refl stored;
           }
 
-    row_ends : arity ≤ column → cells ≡ overwrite row_cells start
+    pub row_ends : arity ≤ column → part ≡ overwrite row start
     unfolding read_fields numbered
     row_ends done =
         let none : arity - column ≡ 0 = omega arith in
         written_finish (rw none at w.stored)
 
-pub row-starts : (start : List ℕ) (arity map : ℕ) (fields : List ℕ) (next : ℕ) → arity ≤ length start → all_read arity map fields →
-    WritingRow start arity map fields next start map next 0 0
-row-starts start arity map fields next room reads =
+-- the relation is stored first
+pub row-starts :
+    (part : List ℕ) (relation arity map : ℕ) (fields : List ℕ) (next : ℕ) → 1 + arity ≤ length part → all_read arity map fields →
+    WritingRow (set part 0 relation) relation arity map fields next (set part 0 relation) map next 0 0
+row-starts part relation arity map fields next room reads =
     let long = cells-long next arity map fields reads in
     record {
       within = omega arith;
       small = omega arith;
       reads = rw sub-zero reads;
-      stored = rw sub-zero (written_begin (cells_read_in next arity map fields) start (omega arith));
+      stored = rw sub-zero (written_anew (written_store 1 refl (written_begin (relation ∷ cells_read_in next arity map fields) part (omega arith))));
     }
 
--- the relation, then the cells, then the words of the part that keep their content
-pub row-whole : (part : List ℕ) (relation arity map : ℕ) (fields : List ℕ) (next : ℕ) (cells : List ℕ) (bits free at column : ℕ)
-    → all_read arity map fields → 1 + arity ≤ length part → arity ≤ column
-    → WritingRow (take (1 + arity - 1) (drop 1 (set part 0 relation))) arity map fields next cells bits free at column
-    → put_mid 1 (1 + arity - 1) (set part 0 relation) cells ≡ overwrite (relation ∷ cells_read_in next arity map fields) part
-row-whole [] relation arity map fields next cells bits free at column reads room done w = absurd (omega arith)
-row-whole (v ∷ rest) relation arity map fields next cells bits free at column reads room done w =
-    let long = cells-long next arity map fields reads in
-    let size : 1 + arity - 1 ≡ arity = omega arith in
-    let none : drop arity (take arity rest) ≡ [] = drop_of_length-le (take arity rest) (omega (arith, length-take arity rest)) in
-    let written : WritingRow (take arity rest) arity map fields next cells bits free at column = rw size at w in
-    let is : cells ≡ cells_read_in next arity map fields =
-    row_ends (take arity rest) arity map fields next cells bits free at column written done ∙ rw (long, none) (append-nil (cells_read_in next arity map fields)) in
-    rw (is, size, long)
+pub row-whole : (part : List ℕ) (relation : ℕ) (cells : List ℕ) → overwrite (relation ∷ cells) (set part 0 relation) ≡ overwrite (relation ∷ cells) part
+row-whole part relation cells = rw (drop-set-lt (suc (length cells)) part 0 relation (omega arith))

@@ -25,12 +25,13 @@ fn write_row(part: &mut [u32], relation: u32, arity: usize, map: u32, fields: &[
     let mut bits = map;
     let mut null = next;
     let mut at = 0;
-    for cell in part[1..1 + arity].iter_mut() {
+    // By index: an iterator over the row's cells is slower by measurement.
+    for column in 0..arity {
         if bits % 2 == 1 {
-            *cell = number(fields, at, 3);
+            part[column + 1] = number(fields, at, 3);
             at += 3;
         } else {
-            *cell = CONSTANTS + null;
+            part[column + 1] = CONSTANTS + null;
             null += 1;
         }
         bits /= 2;

@@ -12,6 +12,7 @@ fn read_full<R: Read>(from: &mut R, buffer: &mut [u8]) -> usize
     ensures { result ≤ length buffer.new }
 {
     let mut done = 0;
+    // A `while`: a read may give fewer bytes than there is room for, so no range has its steps.
     while done < buffer.len() {
         match from.read(&mut buffer[done..]) {
             Ok(n) if n > 0 => done += n,

@@ -1,5 +1,5 @@
 -- `line::line` meets its contract: it writes the line of the answer. Assumes nothing.
-use mathlib.Core.Path.{◌≡◌, sym, ap, ◌∙◌}
+use mathlib.Core.Path.{sym, ◌∙◌}
 use Rattle.line.proofs.Answering.{no_line, one_line}
 use Rattle.line.proofs.line.Goals as goal
 

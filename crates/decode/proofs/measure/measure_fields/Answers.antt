@@ -12,6 +12,7 @@ use Rattle.parse.specs.Parse.{read_each}
 use Rattle.decode.specs.Measure.{read_written, measured_fields}
 use Rattle.decode.proofs.Fields.{raised_none, fields_more, fields-short, fields_bad}
 use Rattle.decode.proofs.measure.measure_fields.Goals as goal
+use Rattle.decode.proofs.measure.measure_fields.Goals.{else-highest-cell, then-highest-cell}
 
 pub loop-i-init : goal.loop-i-init
 loop-i-init c = (omega arith, omega arith, rw (sub-zero c.args.written) (sym (raised_none (measured_fields (read_written c.args.written c.args.bytes.now)))))
@@ -32,7 +33,7 @@ loop-i-preserved c =
     let l = c.loop-i in
     let field = c.number-cell in
     let cell : is_cell field.result ≡ true = sym c.is_cell.ensures ∙ c.if-not-is_cell.false in
-    let top : c.max-highest.result ≡ max l.highest (mark_of field.result) = omega arith in
+    let top : c.if-highest-cell.highest ≡ max l.highest (mark_of field.result) = (elim c.if-highest-cell.branch [ then-highest-cell w ↦ omega arith | else-highest-cell w ↦ omega arith ]) in
     let left : c.args.written - l.i - 1 ≡ c.args.written - (l.i + 1) = omega arith in
     let next : 3 * l.i + 3 ≡ 3 * (l.i + 1) = omega arith in (
       omega arith,

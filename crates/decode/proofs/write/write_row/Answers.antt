@@ -1,39 +1,51 @@
--- `decode::write::write_row` meets its contract. The loop's invariant: the cells written so far and the cells still to be read together are the row's.
--- Assumes nothing.
-use Prim.Native.Nat.{ℕ, ◌+◌, ◌-◌, ◌≤◌, ◌<◌}
-use mathlib.Core.Path.{◌≡◌}
-use mathlib.Core.List.{List}
+-- `decode::write::write_row` meets its contract. The loop's invariant: the words written so far and the cells still to be read together are the row,
+-- and the other words of the part keep their content. Assumes nothing.
+use Prim.Native.Nat.{◌+◌, ◌%◌, ◌≤◌, ◌<◌}
+use mathlib.Core.Path.{◌≡◌, ◌∙◌}
 use native.Mathlib.Omega.{arith}
-use lib.ListN.{length, take, drop, set, length-take, length-drop, length-set}
-use Rattle.decode.proofs.Written.{row-starts, field_room, written_step, blank_step, row-whole}
+use lib.ListN.{length, length-set}
+use Rattle.decode.proofs.Written.{cells_read_in, row-starts, row_room, field_room, written_step, blank_step, row_ends, row-whole}
 use Rattle.decode.proofs.write.write_row.Goals as goal
-use Rattle.decode.proofs.write.write_row.Goals.{else-bits-eq1, then-bits-eq1}
+use Rattle.decode.proofs.write.write_row.Goals.{In-loop-column, else-bits-eq1, then-bits-eq1}
 
--- as many words are lent for the cells as the row has columns
-lent : (part : List ℕ) (relation arity : ℕ) → 1 + arity ≤ length part → length (take (1 + arity - 1) (drop 1 (set part 0 relation))) ≡ arity
-lent part relation arity room = simp (length-take, length-drop, length-set) (omega arith)
+-- what is known in an iteration of the loop
+module _ (c : In-loop-column) where
+  room : c.loop-column.column + 1 < length c.loop-column.part
+  room = row_room _ _ _ _ _ _ _ _ _ _ _ c.loop-column.invariant c.loop-column-test.true
 
-pub loop-cell-init : goal.loop-cell-init
-loop-cell-init c =
-    row-starts _ _ _ _ _ (omega (arith, lent c.args.part.now c.args.relation c.args.arity c.requires.arity_in_bounds)) c.requires.fields_value
+  -- if the column's bit is set, its field is within the bytes
+  in_bytes : c.loop-column.bits % 2 ≡ 1 → c.loop-column.at + 3 ≤ length c.args.fields.now
+  in_bytes = field_room _ _ _ _ _ _ _ _ _ _ _ c.loop-column.invariant c.loop-column-test.true
 
-pub number-requires-clause-within : goal.number-requires-clause-within
-number-requires-clause-within c =
-    field_room _ _ _ _ _ _ _ _ _ _ c.loop-cell.invariant (omega (arith, lent c.args.part.now c.args.relation c.args.arity c.requires.arity_in_bounds)) c.if-bits-eq1.true
+pub loop-column-init : goal.loop-column-init
+loop-column-init c = row-starts c.args.part.now _ _ _ _ _ c.requires.arity_in_bounds c.requires.fields_value
+
+pub number-requires : goal.number-requires
+number-requires c =
+    record {
+      narrow = omega arith;
+      within = in_bytes (goal.at.number-requires c).In-loop-column c.if-bits-eq1.true;
+    }
+
+pub bounds-part-column : goal.bounds-part-column
+bounds-part-column c = room (goal.at.bounds-part-column c).In-loop-column
 
 pub overflow_add-at : goal.overflow_add-at
-overflow_add-at c =
-    omega (arith, field_room _ _ _ _ _ _ _ _ _ _ c.loop-cell.invariant (omega (arith, lent c.args.part.now c.args.relation c.args.arity c.requires.arity_in_bounds)) c.if-bits-eq1.true)
+overflow_add-at c = omega (arith, in_bytes (goal.at.overflow_add-at c).In-loop-column c.if-bits-eq1.true)
 
-pub loop-cell-preserved : goal.loop-cell-preserved
-loop-cell-preserved c =
-    let more : c.loop-cell.cell-index < c.args.arity = omega (arith, lent c.args.part.now c.args.relation c.args.arity c.requires.arity_in_bounds) in
-    (elim c.if-bits-eq1.branch [
-      | then-bits-eq1 w ↦ rw (w.cell-items-is, w.null-is, w.at-is) (written_step _ _ _ _ _ _ _ _ _ _ c.loop-cell.invariant more w.if-bits-eq1.true w.number.ensures.read)
-      | else-bits-eq1 w ↦ rw (w.cell-items-is, w.null-is, w.at-is) (blank_step _ _ _ _ _ _ _ _ _ _ c.loop-cell.invariant more w.if-bits-eq1.false)
-    ])
+pub bounds-part-column-else-bits-eq1 : goal.bounds-part-column-else-bits-eq1
+bounds-part-column-else-bits-eq1 c = room (goal.at.bounds-part-column-else-bits-eq1 c).In-loop-column
+
+pub loop-column-preserved : goal.loop-column-preserved
+loop-column-preserved c =
+    let v = (goal.at.loop-column-preserved c).In-loop-column in
+    (elim c.if-bits-eq1.branch [ then-bits-eq1 w ↦ rw (w.part-is, w.null-is, w.at-is) (written_step _ _ _ _ _ _ _ _ _ _ _ c.loop-column.invariant c.loop-column-test.true w.if-bits-eq1.true w.number.ensures.read) | else-bits-eq1 w ↦ rw (w.part-is, w.null-is, w.at-is) (blank_step _ _ _ _ _ _ _ _ _ _ _ c.loop-column.invariant c.loop-column-test.true w.if-bits-eq1.false) ])
+
+pub shape_of-part : goal.shape_of-part
+shape_of-part c = c.loop-column.invariant.stored.same ∙ length-set c.args.part.now 0 c.args.relation
 
 pub returns : goal.returns
 returns c =
-    row-whole c.args.part.now c.args.relation _ _ _ _ _ _ _ _ _ c.requires.fields_value c.requires.arity_in_bounds
-    (omega (arith, lent c.args.part.now c.args.relation c.args.arity c.requires.arity_in_bounds)) c.loop-cell.invariant
+    let args = c.args in
+    row_ends _ _ _ _ _ _ _ _ _ _ _ c.loop-column.invariant c.loop-column-test.false ∙
+    row-whole args.part.now args.relation (cells_read_in args.next args.arity args.map args.fields.now)

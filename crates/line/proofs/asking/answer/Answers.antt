@@ -1,5 +1,5 @@
 -- `line::asking::answer` meets its contract: the input or its card is refused, or the question is asked. Assumes nothing.
-use mathlib.Core.Path.{◌≡◌, ◌∙◌}
+use mathlib.Core.Path.{◌∙◌}
 use Rattle.std.proofs.lemmas.Result.{err_from_is_err_and}
 use Rattle.card.specs.Decode.{decoded}
 use Rattle.line.specs.Fields.{fields_in}

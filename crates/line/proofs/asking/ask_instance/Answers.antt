@@ -1,7 +1,7 @@
 -- `line::asking::ask_instance` meets its contract: the words and the cells are read, and a question with more words than are read is refused for its
 -- length. Assumes nothing.
-use Prim.Native.Nat.{ℕ, ◌/◌}
-use mathlib.Core.Path.{◌≡◌, ◌∙◌}
+use Prim.Native.Nat.{◌/◌}
+use mathlib.Core.Path.{◌∙◌}
 use native.Mathlib.Omega.{arith}
 use lib.ListN.{length}
 use Rattle.parse.specs.Number.{read_number, numbers_of}
