@@ -131,7 +131,9 @@ impl Asking<'_> {
         Evaluated::Verdict(truth, cost)
     }
 
+    // As a function of its own it takes half as long again.
     #[cycle(evaluation)]
+    #[inline(always)]
     fn walk(&self, node: usize, junction: Junction, env: &mut [u32; 16], budget: u32) -> Evaluated
         requires evaluable { EvaluableIn self.now node }
         requires node_value { kind_of (word_at self.now.query.now node 0) ≡ ranges (junction_of junction) }
@@ -181,24 +183,10 @@ impl Asking<'_> {
             1 => self.atom(node, env, budget),
             2 => self.equality(node, env, budget),
             3 => self.negated(node, env, budget),
-            // One call for two kinds: it is the only one, so that the compiler makes it a part of this function. With a
-            // call for each kind a walk takes half as long again.
-            4 | 5 => {
-                let junction = if kind == 4 {
-                    Junction::And
-                } else {
-                    Junction::Or
-                };
-                self.both(node, junction, env, budget)
-            }
-            6 | 7 => {
-                let junction = if kind == 7 {
-                    Junction::And
-                } else {
-                    Junction::Or
-                };
-                self.walk(node, junction, env, budget)
-            }
+            4 => self.both(node, Junction::And, env, budget),
+            5 => self.both(node, Junction::Or, env, budget),
+            6 => self.walk(node, Junction::Or, env, budget),
+            7 => self.walk(node, Junction::And, env, budget),
             // Never reached: the contract requires that every node has a kind from 1 to 7.
             _ => Evaluated::Spent,
         }

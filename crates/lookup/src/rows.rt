@@ -71,14 +71,16 @@ pub fn next_near(
         (rows_from (arities_in known.now) 0 (drop place words.now)) }
 {
     let step = 1 + known.arity(relation as usize);
+    let mut more = most;
     let mut i = place;
-    for passed in 0..most {
+    // A `while` that counts down: a `for` counts the rows passed over beside those left, and takes a tenth longer.
+    while 0 < more {
         i = next_row(words, known, relation, i);
         let cell = words[i + 1 + column];
         if cell == asked || limit <= cell {
-            let more = most - passed;
             return Near { place: i, more };
         }
+        more -= 1;
         i += step;
     }
     Near { place: i, more: 0 }

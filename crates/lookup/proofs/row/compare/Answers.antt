@@ -1,10 +1,12 @@
 -- `lookup::row::compare` meets its contract: the first column that differs decides, with those after it. Assumes nothing.
-use Prim.Native.Nat.{ℕ, ◌+◌, ◌-◌, ◌<◌}
+use Prim.Native.Nat.{ℕ, ◌+◌, ◌-◌, ◌≤◌, ◌<◌}
 use mathlib.Core.Path.{◌≡◌, refl, sym, ap, ◌∙◌}
 use mathlib.Core.List.{List}
 use native.Mathlib.Omega.{arith}
+use borrow.Author.Tests.{lt-ltb, le-ltb}
 use lib.ListN.{length, get_or, take, drop}
-use Rattle.std.specs.Prelude.{Option}
+use Rattle.std.specs.Prelude.{Option, Some, None}
+use Rattle.calculus.specs.Cell.{constants}
 use Rattle.lookup.specs.declared.row.Binding.{Binding}
 use Rattle.lookup.specs.Binding.{binding_of}
 use Rattle.lookup.specs.Matching.{alike, unified, matching}
@@ -14,7 +16,16 @@ use Rattle.lookup.proofs.Columns.{cells-size, rest_of}
 use Rattle.lookup.proofs.Matching.{with_binding}
 use Rattle.lookup.proofs.Meaning.{row_told}
 use Rattle.lookup.proofs.row.compare.Goals as goal
-use Rattle.lookup.proofs.row.compare.Goals.{After-alike-i, Start}
+use Rattle.lookup.proofs.row.compare.Goals.{After-alike-i, Start, then-asked-ge-CONSTANTS, else-asked-ge-CONSTANTS+then-cell-ge-CONSTANTS}
+
+binding_none : (x y : ℕ) → x < constants → y < constants → ◌≡◌ {A = Option Binding} None (binding_of x y)
+binding_none x y p q = simp (lt-ltb x constants p, lt-ltb y constants q)
+
+binding_left : (x y : ℕ) → constants ≤ x → Some (record { null = x; cell = y }) ≡ binding_of x y
+binding_left x y p = simp (le-ltb x constants p)
+
+binding_right : (x y : ℕ) → x < constants → constants ≤ y → Some (record { null = y; cell = x }) ≡ binding_of x y
+binding_right x y p q = simp (lt-ltb x constants p, le-ltb y constants q)
 
 by_answer_verdict_means : {A B C : Type 0} → A × (B × C) → record { answer : A; verdict : B; means : C }
 by_answer_verdict_means p = record { answer = p.0; verdict = p.1.0; means = p.1.1 }
@@ -49,7 +60,10 @@ module _ (c : After-alike-i) where
   size = cells-size words place (length row) start.requires.0
 
   -- the row's part of the words, as it is taken
-  found : take (place + 1 + length row - (place + 1)) (drop (place + 1) words) ≡ cells
+  abbrev taken : List ℕ
+  taken = take (place + 1 + length row - (place + 1)) (drop (place + 1) words)
+
+  found : taken ≡ cells
   found = ap (λ (n : ℕ). take n (drop (place + 1) words)) (let e : place + 1 + length row - (place + 1) ≡ length row = omega arith in e)
 
   module _ (other : i ≡ length row → ⊥) where
@@ -57,7 +71,7 @@ module _ (c : After-alike-i) where
     inside = other-low row cells size is other
 
     decides :
-        {o : Option Binding} → o ≡ binding_of (get_or row i 0) (get_or (take (place + 1 + length row - (place + 1)) (drop (place + 1) words)) i 0) →
+        {o : Option Binding} → o ≡ binding_of (get_or row i 0) (get_or taken i 0) →
         compared_at words place row ≡ unified (with_binding (λ c. c) (drop (i + 1) row) (drop (i + 1) cells) o)
     decides e = other_decides row cells size is other (rw found at e)
 
@@ -78,13 +92,20 @@ offset_bounds-found-i c = let b = (goal.at.offset_bounds-found-i c).After-alike-
 pub bounds-found-i : goal.bounds-found-i
 bounds-found-i c = let b = (goal.at.bounds-found-i c).After-alike-i in rw (found b) (omega (arith, inside b c.if-i-row.false, size b))
 
-pub returns-in_default : goal.returns-in_default
-returns-in_default c =
-    let b = (goal.at.returns-in_default c).After-alike-i in
-    by_answer_verdict_means (row_told _ _ (sym (decides b c.if-i-row.false (sym c.in_default.is ∙ c.between.ensures))))
+pub returns-else-cell-ge-CONSTANTS : goal.returns-else-cell-ge-CONSTANTS
+returns-else-cell-ge-CONSTANTS c =
+    let b = (goal.at.returns-else-cell-ge-CONSTANTS c).After-alike-i in
+    let none = binding_none _ _ c.if-asked-ge-CONSTANTS.false c.if-cell-ge-CONSTANTS.false in
+    by_answer_verdict_means (row_told _ _ (sym (decides b c.if-i-row.false none)))
 
 pub returns : goal.returns
 returns c =
     let b = (goal.at.returns c).After-alike-i in
+    let first : Some c.if-asked-ge-CONSTANTS.first ≡ binding_of (get_or (row b) (i b) 0) (get_or (taken b) (i b) 0) =
+    elim c.if-asked-ge-CONSTANTS.branch [
+      | then-asked-ge-CONSTANTS w ↦ rw w.first-is (binding_left _ _ w.if-asked-ge-CONSTANTS.true)
+      | else-asked-ge-CONSTANTS+then-cell-ge-CONSTANTS w ↦ rw w.first-is (binding_right _ _ w.if-asked-ge-CONSTANTS.false w.if-cell-ge-CONSTANTS.true)
+    ]
+    in
     let parts = rw (rest_of (row b) (i b + 1), found b, rest_of (cells b) (i b + 1)) at c.unify.ensures in
-    by_answer_verdict_means (row_told _ _ (parts ∙ sym (decides b c.if-i-row.false (sym c.in-Some.is ∙ c.between.ensures))))
+    by_answer_verdict_means (row_told _ _ (parts ∙ sym (decides b c.if-i-row.false first)))

@@ -4,7 +4,6 @@ use mathlib.Core.Path.{◌≡◌, refl, sym, ap, ◌∙◌}
 use mathlib.Core.Bool.{Bool, false}
 use mathlib.Core.Logic.{⊎_elim}
 use mathlib.Core.List.{List, ◌∷◌}
-use native.Mathlib.Nat.{sub-zero}
 use native.Mathlib.Omega.{arith}
 use lib.ListN.{length, get_or, take, drop}
 use Rattle.calculus.specs.Closed.{tuples}
@@ -39,12 +38,12 @@ arity-step-requires c = relation-low (goal.at.arity-step-requires c).Start
 pub overflow_add-step : goal.overflow_add-step
 overflow_add-step c = omega (arith, c.arity-step.ensures, narrow (goal.at.overflow_add-step c).Start)
 
-pub loop-passed-init : goal.loop-passed-init
-loop-passed-init c = rw sub-zero (c.requires.0, refl, refl)
+pub loop-more-init : goal.loop-more-init
+loop-more-init c = (c.requires.0, refl, refl)
 
 pub next_row-i-requires : goal.next_row-i-requires
 next_row-i-requires c =
-    fewer_left _ _ _ _ c.loop-passed.invariant.0 1 (omega arith)
+    fewer_left _ _ _ _ c.loop-more.invariant.0 1 (omega (arith, c.loop-more-test.true))
 
 -- the relation's next row
 module _ (c : After-next_row-i) where
@@ -64,7 +63,7 @@ module _ (c : After-next_row-i) where
   arity = arity_of ars relation
 
   abbrev more : ℕ
-  more = start.args.most - c.loop-passed.passed
+  more = c.loop-more.more
 
   abbrev place : ℕ
   place = c.next_row-i.result
@@ -86,13 +85,13 @@ module _ (c : After-next_row-i) where
   stepped = ap (λ (k : ℕ). 1 + k) c.arity-step.ensures
 
   some : 0 < more
-  some = omega arith
+  some = c.loop-more-test.true
 
   is : get_or ws place 0 ≡ relation
   is = c.next_row-i.ensures.here
 
   left : RowsLeft ars ws relation place more
-  left = more_left _ _ _ _ c.next_row-i.ensures.left more (omega (arith, ap length c.next_row-i.ensures.rows, c.loop-passed.invariant.0.some))
+  left = more_left _ _ _ _ c.next_row-i.ensures.left more (omega (arith, ap length c.next_row-i.ensures.rows, c.loop-more.invariant.0.some))
 
   -- the rows left here
   here : take more (tuples relation (rows_from ars 0 (drop place ws))) ≡ this ∷ take (more - 1) behind
@@ -101,7 +100,7 @@ module _ (c : After-next_row-i) where
       ap (take more) (same_step _ _ _ _ left some is) ∙ ap (λ (k : ℕ). take k (this ∷ behind)) one
 
   kept : passing apart (this ∷ take (more - 1) behind) ≡ all
-  kept = sym (ap (passing apart) here) ∙ ap (λ (l : List (List ℕ)). passing apart (take more l)) c.next_row-i.ensures.rows ∙ c.loop-passed.invariant.1
+  kept = sym (ap (passing apart) here) ∙ ap (λ (l : List (List ℕ)). passing apart (take more l)) c.next_row-i.ensures.rows ∙ c.loop-more.invariant.1
 
   within : place + (1 + arity) ≤ length ws
   within = same-within _ _ _ _ left some is
@@ -121,7 +120,7 @@ module _ (c : After-next_row-i) where
   leads =
       let one : more ≡ suc (more - 1) = omega (arith, some) in
       let on = c.next_row-i.ensures.place apart (more - 1) in
-      on ∙ ap (λ (k : ℕ). c.loop-passed.i + passed k c.loop-passed.i) (sym one) ∙ c.loop-passed.invariant.2
+      on ∙ ap (λ (k : ℕ). c.loop-more.i + passed k c.loop-more.i) (sym one) ∙ c.loop-more.invariant.2
 
   stops :
       apart this ≡ false →
@@ -134,8 +133,8 @@ module _ (c : After-next_row-i) where
 pub overflow_add-cell : goal.overflow_add-cell
 overflow_add-cell c = omega (arith, within c, column-low (start c))
 
-pub overflow_add-cell-in-loop-passed : goal.overflow_add-cell-in-loop-passed
-overflow_add-cell-in-loop-passed c = omega (arith, within c, column-low (start c))
+pub overflow_add-cell-in-loop-more : goal.overflow_add-cell-in-loop-more
+overflow_add-cell-in-loop-more c = omega (arith, within c, column-low (start c))
 
 pub offset_bounds-words-i : goal.offset_bounds-words-i
 offset_bounds-words-i c = omega (arith, within c, column-low (start c))
@@ -152,15 +151,20 @@ returns-then-cell-asked c =
     (λ e. stops b (told-high b.args.column b.args.asked b.args.limit (this b) (omega (arith, cell b, e.1))))
     c.then-cell-asked.either)
 
+pub overflow_sub-more : goal.overflow_sub-more
+overflow_sub-more c = omega (arith, some (goal.at.overflow_sub-more c).After-next_row-i)
+
 pub overflow_add-i : goal.overflow_add-i
 overflow_add-i c = let b = (goal.at.overflow_add-i c).After-next_row-i in omega (arith, stepped b, within b)
 
-pub loop-passed-preserved : goal.loop-passed-preserved
-loop-passed-preserved c =
-    let b = (goal.at.loop-passed-preserved c).After-next_row-i in
-    let one : b.args.most - (c.loop-passed.passed + 1) ≡ more b - 1 = omega arith in
+pub loop-more-smaller : goal.loop-more-smaller
+loop-more-smaller c = omega (arith, some (goal.at.loop-more-smaller c).After-next_row-i)
+
+pub loop-more-preserved : goal.loop-more-preserved
+loop-more-preserved c =
+    let b = (goal.at.loop-more-preserved c).After-next_row-i in
     let low = told-low b.args.column b.args.asked b.args.limit (this b) (λ e. c.if-cell-asked.false (sym (cell b) ∙ e)) (omega (arith, cell b, c.if-limit-cell.false)) in
-    rw (stepped b, one) (
+    rw (stepped b) (
       same_left _ _ _ _ (left b) (some b) (is b) (more b - 1) (omega (arith, some b)),
       sym (passing-goes_on (apart b) (this b) _ low) ∙ kept b,
       sym (same-goes-on _ _ _ _ (left b) (some b) (is b) (apart b) (more b - 1) low) ∙ leads b,
@@ -170,13 +174,12 @@ pub returns : goal.returns
 unfolding passing words_passed
 returns c =
     let a = c.args in
-    let more = a.most - c.loop-passed.passed in
-    let none : more ≡ 0 = omega arith in
+    let none : c.loop-more.more ≡ 0 = omega (arith, c.loop-more-test.false) in
     let apart = told_apart a.column a.asked a.limit in
-    let rows = rows_from (arities_in a.known.now) 0 (drop c.loop-passed.i a.words.now) in
-    let zero : words_passed apart a.relation more rows ≡ 0 = ap (λ (k : ℕ). words_passed apart a.relation k rows) none in record {
-      rows = sym (ap (λ (k : ℕ). passing apart (take k (tuples a.relation rows))) none) ∙ c.loop-passed.invariant.1;
-      left = fewer_left _ _ _ _ c.loop-passed.invariant.0 0 (omega arith);
+    let rows = rows_from (arities_in a.known.now) 0 (drop c.loop-more.i a.words.now) in
+    let zero : words_passed apart a.relation c.loop-more.more rows ≡ 0 = ap (λ (k : ℕ). words_passed apart a.relation k rows) none in record {
+      rows = sym (ap (λ (k : ℕ). passing apart (take k (tuples a.relation rows))) none) ∙ c.loop-more.invariant.1;
+      left = fewer_left _ _ _ _ c.loop-more.invariant.0 0 (omega arith);
       here = λ less. absurd (omega (arith, less));
-      place = omega (arith, zero, c.loop-passed.invariant.2);
+      place = omega (arith, zero, c.loop-more.invariant.2);
     }

@@ -15,7 +15,7 @@ use Rattle.evaluate.specs.Ready.{walked_words, Right}
 use Rattle.evaluate.specs.Junction.{junction_of}
 use Rattle.evaluate.proofs.Children.{no_kind, well_formed_by, negated_spent, negated_verdict, both_left-spent, both_settled, both_low, both_right-spent, both_verdict, right-low, set_again, set_back, walk_starts, walk_ends, walk_spent, walk_settled, walk_more, walk_passes}
 use Rattle.evaluate.proofs.nodes.Asking.+evaluation.Goals as goal
-use Rattle.evaluate.proofs.nodes.Asking.+evaluation.Goals.{both-After-evaluate, walk-After-evaluate, evaluate-then-kind-eq4, evaluate-else-kind-eq4, evaluate-then-kind-eq7, evaluate-else-kind-eq7}
+use Rattle.evaluate.proofs.nodes.Asking.+evaluation.Goals.{both-After-evaluate, walk-After-evaluate}
 
 -- what is known of the two children of a node that joins them, and the left child's answer, as the answer for the node that word 1 names
 module _ (t : ℕ) (e : both-After-evaluate t) where
@@ -96,37 +96,22 @@ evaluate-negated-requires t c = (omega arith, (c.requires, ap kind_of (sym c.wor
 
 pub evaluate-both-requires : goal.evaluate-both-requires
 unfolding kind_of
-evaluate-both-requires t c = (
-  omega arith,
-  (
-    c.requires,
-    elim c.if-kind-eq4.branch [
-      | evaluate-then-kind-eq4 w ↦ rw w.junction-is (ap kind_of (sym c.word-kind.ensures ∙ w.if-kind-eq4.true))
-      | evaluate-else-kind-eq4 w ↦ let five : c.word-kind.result ≡ 5 = omega (arith, w.if-kind-eq4.false) in rw w.junction-is (ap kind_of (sym c.word-kind.ensures ∙ five))
-    ],
-  ),
-)
+evaluate-both-requires t c = (omega arith, (c.requires, ap kind_of (sym c.word-kind.ensures ∙ c.in-4.is)))
+
+pub evaluate-both-requires-in-5 : goal.evaluate-both-requires-in-5
+unfolding kind_of
+evaluate-both-requires-in-5 t c = (omega arith, (c.requires, ap kind_of (sym c.word-kind.ensures ∙ c.in-5.is)))
 
 pub evaluate-walk-requires : goal.evaluate-walk-requires
 unfolding kind_of
-evaluate-walk-requires t c = (
-  omega arith,
-  (
-    c.requires,
-    elim c.if-kind-eq7.branch [
-      | evaluate-then-kind-eq7 w ↦ rw w.junction-is (ap kind_of (sym c.word-kind.ensures ∙ w.if-kind-eq7.true))
-      | evaluate-else-kind-eq7 w ↦ let six : c.word-kind.result ≡ 6 = omega (arith, w.if-kind-eq7.false) in rw w.junction-is (ap kind_of (sym c.word-kind.ensures ∙ six))
-    ],
-  ),
-)
+evaluate-walk-requires t c = (omega arith, (c.requires, ap kind_of (sym c.word-kind.ensures ∙ c.in-6.is)))
+
+pub evaluate-walk-requires-in-7 : goal.evaluate-walk-requires-in-7
+unfolding kind_of
+evaluate-walk-requires-in-7 t c = (omega arith, (c.requires, ap kind_of (sym c.word-kind.ensures ∙ c.in-7.is)))
 
 pub evaluate-returns-in_default-clause-right : goal.evaluate-returns-in_default-clause-right
 evaluate-returns-in_default-clause-right t c =
-    let none = no_kind c.word-kind.result (λ l. omega (arith, l)) in
-    absurd (well_formed_by _ _ _ _ _ no_such_kind c.requires.ready c.requires.known (ap kind_of (sym c.word-kind.ensures) ∙ none))
-
-pub evaluate-returns-in_default-2-clause-right : goal.evaluate-returns-in_default-2-clause-right
-evaluate-returns-in_default-2-clause-right t c =
     let none = no_kind c.word-kind.result (λ l. omega (arith, l)) in
     absurd (well_formed_by _ _ _ _ _ no_such_kind c.requires.ready c.requires.known (ap kind_of (sym c.word-kind.ensures) ∙ none))
 
