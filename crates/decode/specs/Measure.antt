@@ -32,7 +32,11 @@ measured_fields (read cs bs) = Ok (highest_of cs)
 measured_fields (refused r) = Err r
 
 unfoldable pub measured_record : Parsed Record → Result Measured Refusal
-measured_record (read r bs) = Ok (record { arity = length r.fields; written = length (written_of r.fields); highest = highest_in r.fields })
+measured_record (read r bs) = Ok (record {
+  arity = length r.fields;
+  written = length (written_of r.fields);
+  highest = highest_in r.fields;
+})
 measured_record (refused why) = Err why
 
 -- the answer for a record, as the paper's number and values: its arity, how many columns are written, and the highest null
@@ -46,7 +50,8 @@ measured_values (Err why) = []
 
 pub record TellsRecord (m : Result Measured Refusal) (p : Parsed Record) : Type 0 where
   pub number : measured_number m ≡ reading_number p
-  pub values : (r : Record) (bs : List ℕ) → p ≡ read r bs → measured_values m ≡ length r.fields ∷ length (written_of r.fields) ∷ highest_in r.fields ∷ []
+  pub values : (r : Record) (bs : List ℕ) → p ≡ read r bs
+      → measured_values m ≡ length r.fields ∷ length (written_of r.fields) ∷ highest_in r.fields ∷ []
 
 -- how many words records need
 unfoldable pub words_in : List Record → ℕ

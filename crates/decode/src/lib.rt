@@ -25,7 +25,8 @@ pub fn decode(card: &[u8], instance: &mut [u32]) -> Result<Restarted, Refusal>
     ensures result { result ≡ restarted (decoded card.now instance.old) }
     ensures words { instance.new ≡ (decoded card.now instance.old).words }
     ensures answer { answer_of result ≡ (decoded card.now instance.old).answer }
-    ensures told { Tells (answer_of result) (decoded card.now instance.old).answer (decoded card.now instance.old).header.used }
+    ensures told { Tells (answer_of result) (decoded card.now instance.old).answer
+        (decoded card.now instance.old).header.used }
 {
     let head = read_head(card)?;
     let total = measure(card, head.relations as usize + 3, &head)?;

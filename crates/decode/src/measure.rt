@@ -2,7 +2,8 @@
 ghost use Rattle.std.specs.Prelude.{◌≡◌, true, ◌^◌, ◌≤◌, ◌<◌, length, drop};
 ghost use Rattle.instance.specs.Header.{arities_well_formed, max_relations};
 ghost use Rattle.card.specs.Format.{read_record, read_records};
-ghost use Rattle.decode.specs.Measure.{read_written, measured_fields, measured_record, TellsRecord, measured_from, TellsRecords};
+ghost use Rattle.decode.specs.Measure.{read_written, measured_fields, measured_record, TellsRecord};
+ghost use Rattle.decode.specs.Measure.{measured_from, TellsRecords};
 
 use super::head::Head;
 use calculus::answer::Answer;

@@ -35,7 +35,8 @@ fn write_head(out: &mut [u8], header: &Header, count: u32)
 
 // Writes the record of one row.
 fn write_record(out: &mut [u8], relation: u32, cells: &[u32])
-    requires { (relation < max_relations) × (length cells.now ≤ max_columns) × (2 + 3 * length cells.now ≤ length out.old) }
+    requires { (relation < max_relations) × (length cells.now ≤ max_columns)
+        × (2 + 3 * length cells.now ≤ length out.old) }
     ensures { out.new ≡ overwrite (relation ∷ full_map (length cells.now) ∷ fields_bytes cells.now) out.old }
 {
     out[0] = relation as u8;
@@ -70,7 +71,8 @@ fn write_records(out: &mut [u8], arities: &[u32; 8], words: &[u32])
 pub fn encode(header: Header, instance: &[u32], out: &mut [u8]) -> Answer
     ensures answer { result ≡ encoded header instance.now out.old }
     ensures bytes { out.new ≡ encoded_bytes header instance.now out.old }
-    ensures told { Tells result (encoded header instance.now out.old) (length (card_bytes header (rows header instance.now))) }
+    ensures told { Tells result (encoded header instance.now out.old)
+        (length (card_bytes header (rows header instance.now))) }
 {
     let count = scan(header, instance)?;
     let used = header.used as usize;

@@ -7,8 +7,8 @@ use super::INPUT;
 use calculus::refusal::Refusal;
 use parse::front::{read_number, read_part};
 
-// The parts of the input: the card, the question's words of 4 bytes each, and the candidate's cells of 3 bytes each. The
-// budget is a number already.
+// The parts of the input: the card, the question's words of 4 bytes each, and the candidate's cells of 3 bytes each.
+// The budget is a number already.
 #[derive(Clone, Copy)]
 pub struct Parts<'a> {
     pub card: &'a [u8],

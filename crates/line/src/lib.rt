@@ -18,7 +18,8 @@ mod asking;
 mod fields;
 mod text;
 
-// Writes the line for an input, and returns its length; if `out` has fewer than LINE bytes, nothing is written and 0 is returned.
+// Writes the line for an input, and returns its length; if `out` has fewer than LINE bytes, nothing is written and 0 is
+// returned.
 pub fn line(input: &[u8], out: &mut [u8]) -> usize
     ensures length { result ≡ line_length input.now out.old }
     ensures bytes { out.new ≡ line_out input.now out.old }

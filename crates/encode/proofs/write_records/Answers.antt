@@ -54,26 +54,8 @@ module _ (c : In-loop-i) where
   fits : c.loop-i.at + (2 + 3 * a) ≤ length c.loop-i.out
   fits = omega (arith, size, to_come.room, to_come.same, length-append (record_bytes row) (records_bytes (rows_from ars 0 (drop (i + (1 + a)) ws))))
 
-pub overflow_cast-next : goal.overflow_cast-next
-overflow_cast-next c = omega (arith, (here (goal.at.overflow_cast-next c).In-loop-i).relation)
-
-pub offset_bounds-arities-relation : goal.offset_bounds-arities-relation
-offset_bounds-arities-relation c = omega (arith, (here (goal.at.offset_bounds-arities-relation c).In-loop-i).relation)
-
 pub bounds-arities-relation : goal.bounds-arities-relation
 bounds-arities-relation c = (here (goal.at.bounds-arities-relation c).In-loop-i).relation
-
-pub overflow_cast-next-in-loop-i : goal.overflow_cast-next-in-loop-i
-overflow_cast-next-in-loop-i c = omega (arith, (here (goal.at.overflow_cast-next-in-loop-i c).In-loop-i).next.within)
-
-pub overflow_add-next : goal.overflow_add-next
-overflow_add-next c = omega (arith, (here (goal.at.overflow_add-next c).In-loop-i).next.within)
-
-pub slice_bounds-write_record-count : goal.slice_bounds-write_record-count
-slice_bounds-write_record-count c = omega (arith, to_come (goal.at.slice_bounds-write_record-count c).In-loop-i)
-
-pub slice_bounds-write_record-start : goal.slice_bounds-write_record-start
-slice_bounds-write_record-start c = omega (arith, to_come (goal.at.slice_bounds-write_record-start c).In-loop-i)
 
 pub slice_bounds-write_record-end-in-loop-i : goal.slice_bounds-write_record-end-in-loop-i
 slice_bounds-write_record-end-in-loop-i c = omega (arith, (here (goal.at.slice_bounds-write_record-end-in-loop-i c).In-loop-i).next.within)
@@ -90,15 +72,6 @@ write_record-requires c =
       omega (arith, h.size, fits b, length-drop at out),
     )
 
-pub overflow_mul-at : goal.overflow_mul-at
-overflow_mul-at c = omega (arith, width (goal.at.overflow_mul-at c).In-loop-i)
-
-pub overflow_add-at : goal.overflow_add-at
-overflow_add-at c = omega (arith, width (goal.at.overflow_add-at c).In-loop-i)
-
-pub overflow_add-at-in-loop-i : goal.overflow_add-at-in-loop-i
-overflow_add-at-in-loop-i c = omega (arith, fits (goal.at.overflow_add-at-in-loop-i c).In-loop-i)
-
 pub loop-i-preserved : goal.loop-i-preserved
 loop-i-preserved c =
     let b = (goal.at.loop-i-preserved c).In-loop-i in
@@ -108,9 +81,6 @@ loop-i-preserved c =
     let next : at + (2 + 3 * (i b + 1 + a b - (i b + 1))) ≡ at + length (record_bytes (row b)) = omega (arith, size b) in
     let part = rw (row_lent (ws b) (i b) (a b), part_to_end out at) at c.write_record.ensures in
     rw (next, sum, put_to_end out at _ (omega (arith, fits b)), part) ((here b).next, written_part (record_bytes (row b)) (to_come b))
-
-pub shape_of-out : goal.shape_of-out
-shape_of-out c = c.loop-i.invariant.1.same
 
 pub returns : goal.returns
 unfolding records_bytes

@@ -3,7 +3,7 @@
 use Prim.Native.Nat.{◌+◌, ◌%◌, ◌≤◌, ◌<◌}
 use mathlib.Core.Path.{◌≡◌, ◌∙◌}
 use native.Mathlib.Omega.{arith}
-use lib.ListN.{length, length-set}
+use lib.ListN.{length}
 use Rattle.decode.proofs.Written.{cells_read_in, row-starts, row_room, field_room, written_step, blank_step, row_ends, row-whole}
 use Rattle.decode.proofs.write.write_row.Goals as goal
 use Rattle.decode.proofs.write.write_row.Goals.{In-loop-column, else-bits-eq1, then-bits-eq1}
@@ -27,22 +27,13 @@ number-requires c =
       within = in_bytes (goal.at.number-requires c).In-loop-column c.if-bits-eq1.true;
     }
 
-pub bounds-part-column : goal.bounds-part-column
-bounds-part-column c = room (goal.at.bounds-part-column c).In-loop-column
-
 pub overflow_add-at : goal.overflow_add-at
 overflow_add-at c = omega (arith, in_bytes (goal.at.overflow_add-at c).In-loop-column c.if-bits-eq1.true)
-
-pub bounds-part-column-else-bits-eq1 : goal.bounds-part-column-else-bits-eq1
-bounds-part-column-else-bits-eq1 c = room (goal.at.bounds-part-column-else-bits-eq1 c).In-loop-column
 
 pub loop-column-preserved : goal.loop-column-preserved
 loop-column-preserved c =
     let v = (goal.at.loop-column-preserved c).In-loop-column in
     (elim c.if-bits-eq1.branch [ then-bits-eq1 w ↦ rw (w.part-is, w.null-is, w.at-is) (written_step _ _ _ _ _ _ _ _ _ _ _ c.loop-column.invariant c.loop-column-test.true w.if-bits-eq1.true w.number.ensures.read) | else-bits-eq1 w ↦ rw (w.part-is, w.null-is, w.at-is) (blank_step _ _ _ _ _ _ _ _ _ _ _ c.loop-column.invariant c.loop-column-test.true w.if-bits-eq1.false) ])
-
-pub shape_of-part : goal.shape_of-part
-shape_of-part c = c.loop-column.invariant.stored.same ∙ length-set c.args.part.now 0 c.args.relation
 
 pub returns : goal.returns
 returns c =
