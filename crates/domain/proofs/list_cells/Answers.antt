@@ -55,20 +55,8 @@ module _ (c : In-loop-i) where
   unfolding cells_of
   to_come = rw here.rows at c.loop-i.invariant.3
 
-pub overflow_cast-next : goal.overflow_cast-next
-overflow_cast-next c = omega (arith, few (goal.at.overflow_cast-next c).In-loop-i)
-
-pub offset_bounds-arities-words : goal.offset_bounds-arities-words
-offset_bounds-arities-words c = omega (arith, few (goal.at.offset_bounds-arities-words c).In-loop-i)
-
 pub bounds-arities-words : goal.bounds-arities-words
 bounds-arities-words c = few (goal.at.bounds-arities-words c).In-loop-i
-
-pub overflow_cast-next-in-loop-i : goal.overflow_cast-next-in-loop-i
-overflow_cast-next-in-loop-i c = omega (arith, (here (goal.at.overflow_cast-next-in-loop-i c).In-loop-i).next.within)
-
-pub overflow_add-next : goal.overflow_add-next
-overflow_add-next c = omega (arith, (here (goal.at.overflow_add-next c).In-loop-i).next.within)
 
 pub slice_bounds-add_cells-end : goal.slice_bounds-add_cells-end
 slice_bounds-add_cells-end c = omega (arith, (here (goal.at.slice_bounds-add_cells-end c).In-loop-i).next.within)
@@ -100,9 +88,6 @@ all_listed c =
     let ws = c.args.words.now in
     let e : c.loop-i.i ≡ length ws = omega (arith, c.loop-i.invariant.0.1.within) in
     rw (rows_end c.args.arities.now ws _ e) at c.loop-i.invariant.3
-
-pub shape_of-buffer : goal.shape_of-buffer
-shape_of-buffer c = c.loop-i.invariant.3.added.long
 
 pub returns : goal.returns
 returns c =

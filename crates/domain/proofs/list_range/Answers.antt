@@ -1,17 +1,17 @@
 -- `domain::list_range` meets its contract: the cells are added to the list, then the inked terms. Assumes nothing.
 use Prim.Native.Nat.{ℕ, ◌≤◌}
-use mathlib.Core.Path.{sym, ap, ◌∙◌}
+use mathlib.Core.Path.{ap, ◌∙◌}
 use mathlib.Core.List.{List, ◌++◌}
 use native.Mathlib.Omega.{arith}
 use lib.ListN.{length, take, drop, length-map, length-append}
-use lib.Seq.{length-take-le, length_front}
+use lib.Seq.{length_front}
 use Rattle.calculus.specs.Row.{cells_of}
 use Rattle.instance.specs.Rows.{rows_from}
 use Rattle.query.specs.Named.{named_in}
 use Rattle.domain.specs.declared.chain.Chains.{Chains}
 use Rattle.domain.specs.Chains.{word_value, Added}
 use Rattle.domain.proofs.Chains.{chained_starts, added_then}
-use Rattle.domain.proofs.Listing.{added_fits, added_number, added_ends}
+use Rattle.domain.proofs.Listing.{added_number, added_ends}
 use Rattle.domain.proofs.list_range.Goals as goal
 use Rattle.domain.proofs.list_range.Goals.{After-add_named, Start}
 
@@ -43,12 +43,6 @@ module _ (c : After-add_named) where
 
   room : length all ≤ length c.args.buffer.now
   room = c.requires.query_in_bounds
-
-pub slice_bounds-unlink-end : goal.slice_bounds-unlink-end
-slice_bounds-unlink-end c = let b = (goal.at.slice_bounds-unlink-end c).After-add_named in added_fits (added b) (room b)
-
-pub slice_bounds-unlink-end-2 : goal.slice_bounds-unlink-end-2
-slice_bounds-unlink-end-2 c = let b = (goal.at.slice_bounds-unlink-end-2 c).After-add_named in sym (length-take-le _ _ (added_fits (added b) (room b)))
 
 pub shape_of-buffer : goal.shape_of-buffer
 shape_of-buffer c =

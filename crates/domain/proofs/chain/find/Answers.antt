@@ -1,6 +1,6 @@
 -- `domain::chain::find` meets its contract: the chain of the cell's bucket goes on at `place`. Assumes nothing.
 use Prim.Native.Nat.{ℕ, ◌-◌, ◌≤◌, ◌<◌}
-use mathlib.Core.Path.{◌≡◌, refl, sym}
+use mathlib.Core.Path.{◌≡◌, sym}
 use mathlib.Core.Bool.{true}
 use mathlib.Core.List.{List}
 use native.Mathlib.Omega.{arith}
@@ -10,9 +10,6 @@ use Rattle.domain.specs.Chains.{word_value, word_link, values_of, Chain}
 use Rattle.domain.proofs.Chains.{chain_falls, chain_ends, chain_goes, chain_none}
 use Rattle.domain.proofs.chain.find.Goals as goal
 use Rattle.domain.proofs.chain.find.Goals.{In-loop-place}
-
-pub loop-place-init : goal.loop-place-init
-loop-place-init c = record { within = omega arith; same = refl; bucket = c.requires.2 }
 
 -- the word at `place`, which counts from 1
 module _ (c : In-loop-place) where
@@ -43,17 +40,8 @@ module _ (c : In-loop-place) where
   falls : word_link w < place
   falls = chain_falls c.requires.1 c.loop-place.invariant within (omega arith)
 
-pub offset_bounds-list-place : goal.offset_bounds-list-place
-offset_bounds-list-place c = omega (arith, within c)
-
-pub bounds-list-place : goal.bounds-list-place
-bounds-list-place c = omega (arith, within (goal.at.bounds-list-place c).In-loop-place)
-
 pub returns-then-w-cell : goal.returns-then-w-cell
 returns-then-w-cell c = sym (found (goal.at.returns-then-w-cell c).In-loop-place c.if-w-cell.true)
-
-pub overflow_cast-place : goal.overflow_cast-place
-overflow_cast-place c = omega (arith, falls (goal.at.overflow_cast-place c).In-loop-place)
 
 pub loop-place-smaller : goal.loop-place-smaller
 loop-place-smaller c = falls (goal.at.loop-place-smaller c).In-loop-place

@@ -10,21 +10,12 @@ pub loop-j-init : goal.loop-j-init
 unfolding terms_at
 loop-j-init c = refl
 
-pub overflow_add-j : goal.overflow_add-j
-overflow_add-j c = omega (arith, c.requires.narrow)
-
 pub term-requires : goal.term-requires
 term-requires c =
     let p = c.requires in record {
       node_bound = (p.known, omega (arith, p.narrow));
       j_value = p.terms _ c.loop-j-test.true;
     }
-
-pub offset_bounds-row-j : goal.offset_bounds-row-j
-offset_bounds-row-j c = omega (arith, c.requires.narrow)
-
-pub bounds-row-j : goal.bounds-row-j
-bounds-row-j c = omega (arith, c.requires.narrow)
 
 pub loop-j-preserved : goal.loop-j-preserved
 loop-j-preserved c =

@@ -9,9 +9,6 @@ use Rattle.lookup.proofs.Columns.{cells-size}
 use Rattle.lookup.proofs.relation.compare_after.Goals as goal
 use Rattle.lookup.proofs.relation.compare_after.Goals.{After-alike, Start}
 
-pub alike-requires : goal.alike-requires
-alike-requires c = c.requires.0
-
 -- the two rows have one length
 size : (c : Start) → length c.args.row.now ≡ length (cells_at c.args.words.now c.args.place (length c.args.row.now))
 size c = cells-size _ _ _ c.requires.0
@@ -25,9 +22,6 @@ pub returns-then-possible : goal.returns-then-possible
 returns-then-possible c =
     let a = (goal.at.returns-then-possible c).After-alike in
     match_later _ _ _ c.if-possible.true false (alike-other _ _ (size (goal.at.returns-then-possible c).Start) (λ e. c.if-alike-row.false (c.alike.ensures ∙ e))).1
-
-pub compare-requires : goal.compare-requires
-compare-requires c = c.requires
 
 pub returns : goal.returns
 returns c = c.compare.ensures.answer ∙ match_first _ _ _ c.if-possible.false

@@ -96,12 +96,6 @@ loop-more-init c =
       omega arith,
     )
 
-pub offset_bounds-asked-probe : goal.offset_bounds-asked-probe
-offset_bounds-asked-probe c = let b = (goal.at.offset_bounds-asked-probe c).After-arity-arity in omega (arith, c.loop-more.invariant.1.column, size b, (columns b).1)
-
-pub bounds-asked-probe : goal.bounds-asked-probe
-bounds-asked-probe c = c.loop-more.invariant.1.column
-
 pub next_near-near-requires : goal.next_near-near-requires
 next_near-near-requires c =
     let l = (goal.at.next_near-near-requires c).At-loop-more in
@@ -238,10 +232,6 @@ compare_after-requires c =
 pub overflow_sub-examined : goal.overflow_sub-examined
 overflow_sub-examined c = let b = (goal.at.overflow_sub-examined c).After-next_near-near in omega (arith, fewer b, (at b).loop-more.invariant.3)
 
-pub overflow_add-examined : goal.overflow_add-examined
-overflow_add-examined c =
-    let b = (goal.at.overflow_add-examined c).After-next_near-near in omega (arith, fewer b, (at b).loop-more.invariant.3, c.if-more-gt0.true, b.ranges.most)
-
 pub returns-in-Identical : goal.returns-in-Identical
 returns-in-Identical c =
     let b = (goal.at.returns-in-Identical c).After-next_near-near in
@@ -251,9 +241,6 @@ returns-in-Identical c =
 pub next-probe-requires : goal.next-probe-requires
 next-probe-requires c =
     let b = (goal.at.next-probe-requires c).After-next_near-near in (omega (arith, within b c.if-more-gt0.true, size (asks b)), (at b).loop-more.invariant.1)
-
-pub overflow_sub-more : goal.overflow_sub-more
-overflow_sub-more c = omega (arith, c.if-more-gt0.true)
 
 -- after the row at that place
 module _ (c : Joined-compare_after) where
@@ -265,9 +252,6 @@ module _ (c : Joined-compare_after) where
 
 pub overflow_add-i : goal.overflow_add-i
 overflow_add-i c = let j = (goal.at.overflow_add-i c).Joined-compare_after in omega (arith, within (b j) (some j), (start (b j)).requires.given.well_formed.few)
-
-pub overflow_add-i-then-more-gt0 : goal.overflow_add-i-then-more-gt0
-overflow_add-i-then-more-gt0 c = let j = (goal.at.overflow_add-i-then-more-gt0 c).Joined-compare_after in omega (arith, within (b j) (some j), (start (b j)).requires.given.well_formed.few)
 
 pub loop-more-smaller-then-more-gt0 : goal.loop-more-smaller-then-more-gt0
 loop-more-smaller-then-more-gt0 c = let j = (goal.at.loop-more-smaller-then-more-gt0 c).Joined-compare_after in omega (arith, fewer (b j), some j)
@@ -288,9 +272,6 @@ loop-more-preserved-then-more-gt0 c =
         | in-Apart m ↦ omega (arith, some j, counted_same (b j) (some j) Apart (told ∙ m.in-Apart.is))
       ],
     )
-
-pub loop-more-smaller : goal.loop-more-smaller
-loop-more-smaller c = omega (arith, c.if-more-gt0.false, c.loop-more-test.true)
 
 pub loop-more-preserved : goal.loop-more-preserved
 loop-more-preserved c =

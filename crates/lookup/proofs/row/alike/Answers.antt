@@ -12,9 +12,6 @@ use Rattle.calculus.proofs.Lists.{drop_step}
 use Rattle.lookup.proofs.row.alike.Goals as goal
 use Rattle.lookup.proofs.row.alike.Goals.{In-loop-i}
 
-pub loop-i-init : goal.loop-i-init
-loop-i-init c = (omega arith, omega arith)
-
 -- the column at index i
 module _ (c : In-loop-i) where
   abbrev words : List ℕ

@@ -30,9 +30,6 @@ binding_right x y p q = simp (lt-ltb x constants p, le-ltb y constants q)
 by_answer_verdict_means : {A B C : Type 0} → A × (B × C) → record { answer : A; verdict : B; means : C }
 by_answer_verdict_means p = record { answer = p.0; verdict = p.1.0; means = p.1.1 }
 
-pub alike-i-requires : goal.alike-i-requires
-alike-i-requires c = c.requires.0
-
 -- the columns that are alike
 module _ (c : After-alike-i) where
   abbrev start : Start

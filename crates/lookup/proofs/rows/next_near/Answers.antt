@@ -1,6 +1,6 @@
 -- `lookup::rows::next_near` meets its contract: the rows before index i are passed over. Assumes nothing.
 use Prim.Native.Nat.{ℕ, suc, ◌≤◌, ◌<◌, ◌-◌, ◌+◌}
-use mathlib.Core.Path.{◌≡◌, refl, sym, ap, ◌∙◌}
+use mathlib.Core.Path.{◌≡◌, sym, ap, ◌∙◌}
 use mathlib.Core.Bool.{Bool, false}
 use mathlib.Core.Logic.{⊎_elim}
 use mathlib.Core.List.{List, ◌∷◌}
@@ -37,9 +37,6 @@ arity-step-requires c = relation-low (goal.at.arity-step-requires c).Start
 
 pub overflow_add-step : goal.overflow_add-step
 overflow_add-step c = omega (arith, c.arity-step.ensures, narrow (goal.at.overflow_add-step c).Start)
-
-pub loop-more-init : goal.loop-more-init
-loop-more-init c = (c.requires.0, refl, refl)
 
 pub next_row-i-requires : goal.next_row-i-requires
 next_row-i-requires c =
@@ -130,9 +127,6 @@ module _ (c : After-next_row-i) where
       let none = same_stops _ _ _ _ left some is apart (more - 1) e in
       (here ∙ sym (passing_stops apart this _ e) ∙ kept, (left, (λ _. is, omega (arith, none, leads))))
 
-pub overflow_add-cell : goal.overflow_add-cell
-overflow_add-cell c = omega (arith, within c, column-low (start c))
-
 pub overflow_add-cell-in-loop-more : goal.overflow_add-cell-in-loop-more
 overflow_add-cell-in-loop-more c = omega (arith, within c, column-low (start c))
 
@@ -151,14 +145,8 @@ returns-then-cell-asked c =
     (λ e. stops b (told-high b.args.column b.args.asked b.args.limit (this b) (omega (arith, cell b, e.1))))
     c.then-cell-asked.either)
 
-pub overflow_sub-more : goal.overflow_sub-more
-overflow_sub-more c = omega (arith, some (goal.at.overflow_sub-more c).After-next_row-i)
-
 pub overflow_add-i : goal.overflow_add-i
 overflow_add-i c = let b = (goal.at.overflow_add-i c).After-next_row-i in omega (arith, stepped b, within b)
-
-pub loop-more-smaller : goal.loop-more-smaller
-loop-more-smaller c = omega (arith, some (goal.at.loop-more-smaller c).After-next_row-i)
 
 pub loop-more-preserved : goal.loop-more-preserved
 loop-more-preserved c =

@@ -37,9 +37,6 @@ offset_bounds-words-i c = omega (arith, words_left _ _ _ _ c.requires (omega ari
 pub bounds-words-i : goal.bounds-words-i
 bounds-words-i c = words_left _ _ _ _ c.requires (omega arith)
 
-pub loop-w-init : goal.loop-w-init
-loop-w-init c = (c.requires, refl, refl, λ ne. absurd (ne refl), λ test n. refl)
-
 -- the row at index i, which is of another relation
 module _ (c : In-loop-w) where
   abbrev start : Start
@@ -81,9 +78,6 @@ module _ (c : In-loop-w) where
 
   kept : (step : ℕ) → step ≡ size → Onward ars ws relation i (i + step)
   kept step e = passed_over ars ws relation i step left differs e
-
-pub overflow_cast-w : goal.overflow_cast-w
-overflow_cast-w c = omega (arith, few (goal.at.overflow_cast-w c).In-loop-w)
 
 pub arity-step-requires : goal.arity-step-requires
 arity-step-requires c = few (goal.at.arity-step-requires c).In-loop-w
@@ -169,9 +163,6 @@ loop-w-preserved-then-w-other-2 c =
     let j = (goal.at.loop-w-preserved-then-w-other-2 c).Joined-w-other in
     let t = two j c.if-w-other-2.true in
     (t.0, t.1 ∙ (one j).1 ∙ (at j).before.loop-w.invariant.1, refl, λ ne. stepped j, λ test n. t.2 test n ∙ (one j).2 test n ∙ (at j).before.loop-w.invariant.4 test n)
-
-pub loop-w-smaller : goal.loop-w-smaller
-loop-w-smaller c = let j = (goal.at.loop-w-smaller c).Joined-w-other in omega (arith, further j, (known j).1)
 
 pub loop-w-preserved : goal.loop-w-preserved
 loop-w-preserved c = let j = (goal.at.loop-w-preserved c).Joined-w-other in ((one j).0, (one j).1 ∙ (at j).before.loop-w.invariant.1, refl, λ ne. stepped j, λ test n. (one j).2 test n ∙ (at j).before.loop-w.invariant.4 test n)

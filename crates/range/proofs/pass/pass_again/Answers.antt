@@ -55,9 +55,6 @@ half c = ap (λ (k : ℕ). k / 2) c.bucket_of-bucket.ensures
 abbrev found : (c : After-bucket_of-bucket) → Head (ws (from c)) (vs (from c)) (place (from c)) (cell (from c)) (get_or (heads (from c)) (c.bucket_of-bucket.result / 2) 0)
 found c = head_at (from c) (c.bucket_of-bucket.result / 2) (half c)
 
-pub overflow_cast-head : goal.overflow_cast-head
-overflow_cast-head c = omega (arith, (found (goal.at.overflow_cast-head c).After-bucket_of-bucket).within)
-
 pub stood_earlier-requires : goal.stood_earlier-requires
 stood_earlier-requires c =
     let b = (goal.at.stood_earlier-requires c).After-bucket_of-bucket in

@@ -44,29 +44,14 @@ module _ (c : In-loop-i) where
   abbrev so_far : Passing given.relations (arities_in before) ws before known c.loop-i.heads c.loop-i.left i
   so_far = c.loop-i.invariant.1
 
-  low : i < 4096
-  low = omega (arith, inside, given.well_formed.few)
-
   few : c.loop-i.left ≡ 0 → get_or ws i 0 < max_relations
   few e = relation-few given.relations (arities_in before) ws (get_or ws i 0) given.well_formed (passing-relation so_far inside e)
 
   arity : arity_of (arities_in known) (get_or ws i 0) ≡ arity_of (arities_in before) (get_or ws i 0)
   arity = ap (λ (l : List ℕ). arity_of l (get_or ws i 0)) so_far.kept.arities
 
-pub offset_bounds-words-i : goal.offset_bounds-words-i
-offset_bounds-words-i c = omega (arith, low (goal.at.offset_bounds-words-i c).In-loop-i)
-
-pub bounds-words-i : goal.bounds-words-i
-bounds-words-i c = inside (goal.at.bounds-words-i c).In-loop-i
-
-pub overflow_cast-words : goal.overflow_cast-words
-overflow_cast-words c = let t = (goal.at.overflow_cast-words c).In-loop-i in omega (arith, few (goal.at.overflow_cast-words c).In-loop-i c.if-left-eq0.true)
-
 pub arity-left-requires : goal.arity-left-requires
-arity-left-requires c = let t = (goal.at.arity-left-requires c).In-loop-i in few (goal.at.arity-left-requires c).In-loop-i c.if-left-eq0.true
-
-pub pass-requires : goal.pass-requires
-pass-requires c = let b = (goal.at.pass-requires c).In-loop-i in omega (arith, low b)
+arity-left-requires c = few (goal.at.arity-left-requires c).In-loop-i c.if-left-eq0.true
 
 pub pass_again-requires : goal.pass_again-requires
 pass_again-requires c =
@@ -74,9 +59,6 @@ pass_again-requires c =
       place_in = (inside b, (given b).well_formed.few, (so_far b).later _ (omega arith));
       cached_before = (so_far b).cached;
     }
-
-pub overflow_sub-left : goal.overflow_sub-left
-overflow_sub-left c = omega (arith, c.if-left-eq0.false)
 
 pub loop-i-preserved : goal.loop-i-preserved
 loop-i-preserved c =

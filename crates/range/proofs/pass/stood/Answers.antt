@@ -1,20 +1,9 @@
 -- `range::pass::stood` meets its contract: the cell is among all words exactly if it is among those from place j on. Assumes nothing.
-use Prim.Native.Nat.{◌+◌}
-use mathlib.Core.Path.{◌≡◌, refl, sym, ◌∙◌}
-use native.Mathlib.Omega.{arith}
+use mathlib.Core.Path.{sym, ◌∙◌}
 use borrow.Author.Tests.{not-true, not-false}
 use Rattle.range.proofs.Places.{scan_here, scan_other, scan_passed, scan_end}
 use Rattle.range.proofs.pass.stood.Goals as goal
 use Rattle.range.proofs.pass.stood.Goals.{In-loop-j, Start, else-word-cell-via-else-word-cell, else-word-cell-via-then-word-cell+else-not-passed}
-
-pub loop-j-init : goal.loop-j-init
-loop-j-init c = let e : c.args.first + 0 ≡ c.args.first = omega arith in rw e refl
-
-pub overflow_add-first : goal.overflow_add-first
-overflow_add-first c = let s = (goal.at.overflow_add-first c).Start in omega (arith, c.requires)
-
-pub passed-requires : goal.passed-requires
-passed-requires c = let s = (goal.at.passed-requires c).Start in omega (arith, c.requires)
 
 pub returns-then-not-passed : goal.returns-then-not-passed
 returns-then-not-passed c =

@@ -8,18 +8,12 @@ use Rattle.range.specs.Flagged.{stood_before}
 use Rattle.range.proofs.pass.stood_earlier.Goals as goal
 use Rattle.range.proofs.pass.stood_earlier.Goals.{Start}
 
-pub returns-then-head-eq0 : goal.returns-then-head-eq0
-returns-then-head-eq0 c = sym (c.requires.head.none c.if-head-eq0.true)
-
 pub returns-then-words-head : goal.returns-then-words-head
 returns-then-words-head c =
     let s = (goal.at.returns-then-words-head c).Start in
     let a = c.args in
     let vs = stood_before a.known.now a.words.now a.place in
     sym (ap (λ (x : ℕ). listed x vs) (sym c.if-words-head.true) ∙ c.requires.head.stood (omega (arith, c.if-head-eq0.false)))
-
-pub slice_bounds-stood-end : goal.slice_bounds-stood-end
-slice_bounds-stood-end c = let s = (goal.at.slice_bounds-stood-end c).Start in sym (length-take-le s.args.place s.args.words.now s.requires.place_in.0)
 
 pub stood-requires : goal.stood-requires
 stood-requires c =

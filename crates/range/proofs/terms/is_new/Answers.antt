@@ -5,7 +5,7 @@ use mathlib.Core.Bool.{true, false}
 use native.Mathlib.Omega.{arith}
 use borrow.Author.Tests.{not-true, not-false, le-ltb}
 use lib.ListN.{length, get_or}
-use lib.Seq.{length-take-le, take-length}
+use lib.Seq.{take-length}
 use Rattle.range.specs.Cache.{head_of, Head}
 use Rattle.range.specs.Flagged.{stood_before}
 use Rattle.range.proofs.Asked.{not_new, new-here}
@@ -31,9 +31,6 @@ module _ (c : After-bucket_of) where
       let half : c.bucket_of.result / 2 ≡ head_of w = ap (λ (k : ℕ). k / 2) c.bucket_of.ensures in
       rw (half, take-length c.args.words.now) (c.requires.0.cached.heads_of w)
 
-pub overflow_cast-head : goal.overflow_cast-head
-overflow_cast-head c = omega (arith, (found (goal.at.overflow_cast-head c).After-bucket_of).within)
-
 pub stood_earlier-requires : goal.stood_earlier-requires
 stood_earlier-requires c =
     let b = (goal.at.stood_earlier-requires c).After-bucket_of in record {
@@ -47,14 +44,6 @@ returns-then-stood_earlier c =
     let a = b.args in
     let t : a.term ≡ true = not-false _ c.if-not-term.false-raw in
     not_new a.known.now a.words.now a.query.now a.place a.term t (omega (arith, c.if-query-place-ge-CONSTANTS.false)) (sym c.stood_earlier.ensures ∙ c.if-stood_earlier.true)
-
-pub slice_bounds-stood-end : goal.slice_bounds-stood-end
-slice_bounds-stood-end c =
-    sym (length-take-le c.args.place c.args.query.now (omega (arith, c.requires.1)))
-
-pub stood-requires : goal.stood-requires
-stood-requires c =
-    omega (arith, length-take-le c.args.place c.args.query.now (omega (arith, c.requires.1)), c.requires.0.short, c.requires.0.few, c.requires.1)
 
 pub returns : goal.returns
 returns c =

@@ -14,7 +14,7 @@ use Rattle.query.specs.Words.{node_words}
 use Rattle.query.specs.Named.{constants_among}
 use Rattle.range.specs.Flagged.{Passed}
 use Rattle.known.proofs.Setting.{kept_same}
-use Rattle.range.proofs.Asked.{passed-starts, among_first, among_last, asking-kept, node-step}
+use Rattle.range.proofs.Asked.{passed-starts, among_first, among_last, node-step}
 use Rattle.range.proofs.terms.pass_node.Goals as goal
 use Rattle.range.proofs.terms.pass_node.Goals.{After-is_new, Start, else-not-is_new, then-not-is_new}
 
@@ -61,17 +61,6 @@ module _ (c : After-is_new) where
       let p = c.requires.first_le_start in
       node-step c.args.start c.args.end p.1 (omega (arith, p.2, p.3)) inside c.loop-place.invariant c.contains-term.result (c.contains-term.ensures.value ∙ within_is c.args.start place c.args.end)
       c.is_new.result c.is_new.ensures after f
-
-pub is_new-requires : goal.is_new-requires
-is_new-requires c = (asking-kept c.requires.asking.0 c.loop-place.invariant, omega (arith, c.loop-place-test.true, c.requires.first_le_start.3))
-
-pub overflow_add-words : goal.overflow_add-words
-overflow_add-words c = let b = (goal.at.overflow_add-words c).After-is_new in omega (arith, inside b, b.requires.asking.0.short, b.requires.asking.0.few)
-
-pub pass-requires : goal.pass-requires
-pass-requires c =
-    let b = (goal.at.pass-requires c).After-is_new in
-    omega (arith, inside b, b.requires.asking.0.short, b.requires.asking.0.few)
 
 pub loop-place-preserved : goal.loop-place-preserved
 loop-place-preserved c =

@@ -21,12 +21,6 @@ loop-node-init c =
       passed-starts c.args.words.now c.args.query.now c.args.known.now 0 (λ q l. c.requires.1 q (omega arith)),
     )
 
-pub terms_start-start-requires : goal.terms_start-start-requires
-terms_start-start-requires c = (c.requires.2.whole, omega arith)
-
-pub term_count-requires : goal.term_count-requires
-term_count-requires c = (c.requires.2, omega arith)
-
 -- the node
 module _ (c : After-term_count) where
   abbrev from : Start
@@ -58,12 +52,6 @@ module _ (c : After-term_count) where
 
   lent : take (c.terms_start-start.result + c.term_count.result - c.terms_start-start.result) (drop c.terms_start-start.result qs) ≡ terms_of ars qs node
   lent = part_lent qs _ _ _ _ starts counts
-
-pub overflow_add-end : goal.overflow_add-end
-overflow_add-end c = omega (arith, ends c, node_end (ars c) (qs c) (terms c) (node c) (below c))
-
-pub overflow_mul-node : goal.overflow_mul-node
-overflow_mul-node c = let b = (goal.at.overflow_mul-node c).After-term_count in omega (arith, node_end (ars b) (qs b) (terms b) (node b) (below b))
 
 pub pass_node-requires : goal.pass_node-requires
 pass_node-requires c =

@@ -14,9 +14,6 @@ use Rattle.domain.proofs.chain.Chains.add_named.Goals.{After-terms_of}
 pub loop-node-init : goal.loop-node-init
 loop-node-init c = (c.requires.has_terms.1, rw sub-zero (naming-starts _ _ _))
 
-pub terms_of-requires : goal.terms_of-requires
-terms_of-requires c = (c.requires.has_terms.0, omega arith)
-
 -- the terms of the node
 module _ (c : After-terms_of) where
   abbrev qs : List ℕ

@@ -41,9 +41,6 @@ module _ (c : Start) where
 abbrev found : (c : After-bucket_of-bucket) → Chain (list c.before.before.before) (cell c.before.before.before) (n c.before.before.before) (get_or (heads c.before.before.before) c.bucket_of-bucket.result 0)
 found c = start c.before.before.before c.bucket_of-bucket.result c.bucket_of-bucket.ensures
 
-pub overflow_cast-head : goal.overflow_cast-head
-overflow_cast-head c = omega (arith, (found (goal.at.overflow_cast-head c).After-bucket_of-bucket).within)
-
 pub find-requires : goal.find-requires
 find-requires c =
     let s = (goal.at.find-requires c).After-bucket_of-bucket in
@@ -57,12 +54,6 @@ returns-then-find c =
       chained = s.requires.3;
       added = added_old (list s) (n s) (cell s) ((found b).same ∙ sym c.find.ensures ∙ c.if-find.true);
     }
-
-pub overflow_mul-list : goal.overflow_mul-list
-overflow_mul-list c = omega (arith, (found (goal.at.overflow_mul-list c).After-bucket_of-bucket).within)
-
-pub overflow_add-list : goal.overflow_add-list
-overflow_add-list c = omega (arith, (found (goal.at.overflow_add-list c).After-bucket_of-bucket).within)
 
 pub returns : goal.returns
 returns c =

@@ -56,9 +56,6 @@ returns-then-budget-eq0 c =
           λ k h. sym (spent _ _ (omega (arith, c.if-budget-eq0.true))) ∙ atom-right _ _ _ _ (known s) (is s) _ _ k h);
     }
 
-pub overflow_sub-covered : goal.overflow_sub-covered
-overflow_sub-covered c = omega (arith, c.if-budget-eq0.false)
-
 pub count-rows-requires : goal.count-rows-requires
 count-rows-requires c = omega (arith, c.word-relation.ensures, (node (goal.at.count-rows-requires c).Start).eight)
 
