@@ -1,6 +1,6 @@
 // Passing over each word of the question that is no inked term, and each inked term that stood earlier, in the instance
 // or in the question.
-ghost use Rattle.std.specs.Prelude.{◌≡◌, false, ◌&&◌, not, ◌++◌, ℕ, ◌+◌, ◌-◌, ◌*◌, ◌≤◌, ◌<◌, leb, ltb, length, take, drop, get_or};
+ghost use Rattle.std.specs.Prelude.{◌≡◌, false, ◌&&◌, not, ◌++◌, ℕ, ◌+◌, ◌-◌, ◌≤◌, ◌<◌, length, take, drop, get_or};
 ghost use Rattle.calculus.specs.Cell.{is_constant};
 ghost use Rattle.calculus.specs.Listed.{listed};
 ghost use Rattle.instance.specs.InstanceWellFormed.{InstanceOf};
