@@ -18,7 +18,7 @@ use domain::list_range;
 use evaluate::nodes::Asking;
 use instance::header::Header;
 use known::Known;
-use query::inked::count_named;
+use query::inked::Terms;
 
 // Answers by the list of the range. What is known is a local of this function, so that it can take the place on the
 // stack that the listing has left.
@@ -65,9 +65,13 @@ pub fn ask(
     let rows = admit(header, instance, query, candidate)?;
     let used = header.used as usize;
     let cells = used - rows as usize;
-    if buffer.len() < cells + count_named(query, &header.arities) {
+    let terms = Terms {
+        query,
+        arities: &header.arities,
+    };
+    if buffer.len() < cells + terms.count_named() {
         return Err(Refusal::BufferTooShort);
     }
-    let n = list_range(&instance[..used], query, &header.arities, buffer);
+    let n = list_range(&instance[..used], &terms, buffer);
     answer_listed(header, instance, query, &buffer[..n], candidate, budget)
 }

@@ -6,7 +6,7 @@ ghost use Rattle.instance.specs.InstanceWellFormed.{InstanceOf};
 ghost use Rattle.instance.specs.Run.{model_of};
 ghost use Rattle.known.specs.Known.{max_query_words, arities_in, flag_at, unpassed, SameBesides};
 ghost use Rattle.query.specs.Words.{node_count, node_words};
-ghost use Rattle.query.specs.Named.{named_in, query_of, HasTerms};
+ghost use Rattle.query.specs.Named.{named_in, query_of};
 ghost use Rattle.instance.specs.Rows.{rows_from};
 ghost use Rattle.range.specs.Walked.{walked_range};
 ghost use Rattle.answer.specs.Ask.{ask, none};
@@ -19,6 +19,7 @@ use super::top::answer_top;
 use evaluate::nodes::Asking;
 use instance::header::Header;
 use known::Known;
+use query::inked::Terms;
 use query::words::NODE_WORDS;
 use range::terms::pass_over;
 
@@ -42,18 +43,18 @@ fn ranging(query: &[u32]) -> bool
 }
 
 // Sets the flag of each place that a walk over the range passes over, if a node ranges over values.
-fn pass_for(words: &[u32], query: &[u32], arities: &[u32; 8], known: &mut Known)
-    requires instance_of { InstanceOf (arities_in known.old) words.now × HasTerms arities.now query.now
-        × (arities_in known.old ≡ arities.now) × (length query.now ≤ max_query_words) }
+fn pass_for(words: &[u32], terms: &Terms, known: &mut Known)
+    requires instance_of { InstanceOf (arities_in known.old) words.now
+        × (arities_in known.old ≡ terms.now.arities.now) × (length terms.now.query.now ≤ max_query_words) }
     requires no_flags { (p : ℕ) → flag_at known.old p ≡ false }
     ensures kept { SameBesides known.old known.new }
-    ensures walked { ranges_among query.now (node_count query.now) ≡ true
-        → unpassed known.new 0 (words.now ++ query.now)
-        ≡ walked_range (named_in arities.now query.now)
-        (rows_from arities.now 0 words.now) }
+    ensures walked { ranges_among terms.now.query.now (node_count terms.now.query.now) ≡ true
+        → unpassed known.new 0 (words.now ++ terms.now.query.now)
+        ≡ walked_range (named_in terms.now.arities.now terms.now.query.now)
+        (rows_from terms.now.arities.now 0 words.now) }
 {
-    if ranging(query) {
-        pass_over(words, query, arities, known);
+    if ranging(terms.query) {
+        pass_over(words, terms, known);
     }
 }
 
@@ -74,7 +75,11 @@ pub fn ask_unlisted(
     let used = header.used as usize;
     let words = &instance[..used];
     let mut known = Known::new(&header.counts, &header.arities, used + query.len());
-    pass_for(words, query, &header.arities, &mut known);
+    let terms = Terms {
+        query,
+        arities: &header.arities,
+    };
+    pass_for(words, &terms, &mut known);
     let asking = Asking {
         query,
         values: words,

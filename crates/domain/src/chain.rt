@@ -6,12 +6,11 @@ ghost use Rattle.calculus.specs.Listed.{listed};
 ghost use Rattle.domain.specs.Bucket.{buckets};
 ghost use Rattle.domain.specs.Chains.{link_unit, word_value, values_of, InBucket, Linked, Chained, Added};
 ghost use Rattle.instance.specs.Rows.{are_cells};
-ghost use Rattle.query.specs.Named.{constants_among, named_in, HasTerms};
+ghost use Rattle.query.specs.Named.{constants_among, named_in};
 
 use super::bucket::bucket_of;
 use calculus::cell::CONSTANTS;
-use query::inked::terms_of;
-use query::words::NODE_WORDS;
+use query::inked::Terms;
 
 // Each word packs a value (low 20 bits) and a link (high 12 bits), so that the list needs no memory besides the lent
 // buffer: cells are below 2^20, and a link is at most 4,095.
@@ -98,16 +97,17 @@ impl Chains {
     }
 
     // Adds a question's inked terms after a list's values, by node and word, each if it is not listed yet.
-    pub fn add_named(&mut self, list: &mut [u32], query: &[u32], arities: &[u32; 8])
-        requires has_terms { HasTerms arities.now query.now × Chained self.old.heads list.old self.old.count }
-        requires query_in_bounds { (self.old.count + length (named_in arities.now query.now) ≤ length list.old)
-            × (self.old.count + length (named_in arities.now query.now) ≤ max_words) }
+    pub fn add_named(&mut self, list: &mut [u32], terms: &Terms)
+        requires chained { Chained self.old.heads list.old self.old.count }
+        requires query_in_bounds { (self.old.count + length (named_in terms.now.arities.now terms.now.query.now)
+            ≤ length list.old)
+            × (self.old.count + length (named_in terms.now.arities.now terms.now.query.now) ≤ max_words) }
         ensures chained { Chained self.new.heads list.new self.new.count }
-        ensures added { Added list.old self.old.count (named_in arities.now query.now)
+        ensures added { Added list.old self.old.count (named_in terms.now.arities.now terms.now.query.now)
             list.new self.new.count }
     {
-        for node in 0..query.len() / NODE_WORDS {
-            self.add_constants(list, terms_of(query, arities, node));
+        for node in 0..terms.nodes() {
+            self.add_constants(list, terms.of(node));
         }
     }
 }

@@ -10,10 +10,11 @@ ghost use Rattle.instance.specs.Rows.{rows_from};
 ghost use Rattle.instance.specs.InstanceWellFormed.{InstanceOf};
 ghost use Rattle.calculus.specs.Overwrite.{overwrite};
 ghost use Rattle.instance.specs.Header.{max_words};
-ghost use Rattle.query.specs.Named.{named_in, HasTerms};
+ghost use Rattle.query.specs.Named.{named_in};
 ghost use Rattle.domain.specs.Chains.{Chained, Added};
 
 use chain::{Chains, unlink};
+use query::inked::Terms;
 
 pub mod bucket;
 mod chain;
@@ -38,21 +39,21 @@ fn list_cells(words: &[u32], arities: &[u32; 8], buffer: &mut [u32], chains: &mu
 }
 
 // Lists the range at the start of a buffer, and returns the number of its values; the rest of the buffer stays.
-pub fn list_range(words: &[u32], query: &[u32], arities: &[u32; 8], buffer: &mut [u32]) -> usize
-    requires instance_of { InstanceOf arities.now words.now × HasTerms arities.now query.now }
-    requires query_in_bounds { length (cells_of (rows_from arities.now 0 words.now) ++ named_in arities.now query.now)
-        ≤ length buffer.old }
-    requires query_len_bound { length (cells_of (rows_from arities.now 0 words.now) ++ named_in arities.now query.now)
-        ≤ max_words }
-    ensures number { result ≡ length (range_over (named_in arities.now query.now)
-        (rows_from arities.now 0 words.now)) }
+pub fn list_range(words: &[u32], terms: &Terms, buffer: &mut [u32]) -> usize
+    requires instance_of { InstanceOf terms.now.arities.now words.now }
+    requires query_in_bounds { length (cells_of (rows_from terms.now.arities.now 0 words.now)
+        ++ named_in terms.now.arities.now terms.now.query.now) ≤ length buffer.old }
+    requires query_len_bound { length (cells_of (rows_from terms.now.arities.now 0 words.now)
+        ++ named_in terms.now.arities.now terms.now.query.now) ≤ max_words }
+    ensures number { result ≡ length (range_over (named_in terms.now.arities.now terms.now.query.now)
+        (rows_from terms.now.arities.now 0 words.now)) }
     ensures values { buffer.new ≡ overwrite
-        (range_over (named_in arities.now query.now)
-        (rows_from arities.now 0 words.now)) buffer.old }
+        (range_over (named_in terms.now.arities.now terms.now.query.now)
+        (rows_from terms.now.arities.now 0 words.now)) buffer.old }
 {
     let mut chains = Chains::new();
-    list_cells(words, arities, buffer, &mut chains);
-    chains.add_named(buffer, query, arities);
+    list_cells(words, terms.arities, buffer, &mut chains);
+    chains.add_named(buffer, terms);
     unlink(&mut buffer[..chains.count]);
     chains.count
 }

@@ -6,7 +6,7 @@ ghost use Rattle.query.specs.Named.{first_term, term_count, terms_of, constants_
 use super::words::NODE_WORDS;
 use calculus::cell::CONSTANTS;
 
-// The index of a node's first term in the question.
+// The index of a node's first term in the question. It does not depend on the arities, so the question alone will do.
 pub fn terms_start(query: &[u32], node: usize) -> usize
     requires { (node_count query.now * node_words ≡ length query.now) × (node < node_count query.now) }
     ensures { result ≡ node * node_words + first_term (kind_of (word_at query.now node 0)) }
@@ -17,29 +17,6 @@ pub fn terms_start(query: &[u32], node: usize) -> usize
     node * NODE_WORDS + 1
 }
 
-// The number of a node's terms.
-pub fn term_count(query: &[u32], arities: &[u32; 8], node: usize) -> usize
-    requires { HasTerms arities.now query.now × (node < node_count query.now) }
-    ensures { result ≡ term_count arities.now query.now node
-        (kind_of (word_at query.now node 0)) }
-{
-    match query[node * NODE_WORDS] {
-        1 => arities[query[node * NODE_WORDS + 1] as usize] as usize,
-        2 => 2,
-        _ => 0,
-    }
-}
-
-// A node's terms, as a part of the question.
-pub fn terms_of<'a>(query: &'a [u32], arities: &[u32; 8], node: usize) -> &'a [u32]
-    requires { HasTerms arities.now query.now × (node < node_count query.now) }
-    ensures { result.now ≡ terms_of arities.now query.now node }
-{
-    let start = terms_start(query, node);
-    let end = start + term_count(query, arities, node);
-    &query[start..end]
-}
-
 // The number of constants among words.
 fn count_constants(words: &[u32]) -> usize
     ensures { result ≡ length (constants_among words.now) }
@@ -47,14 +24,53 @@ fn count_constants(words: &[u32]) -> usize
     words.iter().filter(|w| **w < CONSTANTS).count()
 }
 
-// The number of a question's inked terms, each occurrence of one.
-pub fn count_named(query: &[u32], arities: &[u32; 8]) -> usize
-    requires { HasTerms arities.now query.now }
-    ensures { result ≡ length (named_in arities.now query.now) }
-{
-    let mut count = 0;
-    for node in 0..query.len() / NODE_WORDS {
-        count += count_constants(terms_of(query, arities, node));
+// A question with the arities of the relations that its nodes name, so that each node's terms can be found.
+#[derive(Clone, Copy)]
+pub struct Terms<'a> {
+    pub query: &'a [u32],
+    pub arities: &'a [u32; 8],
+    ghost has_terms: { HasTerms arities.now query.now },
+}
+
+impl<'a> Terms<'a> {
+    // The number of the question's nodes.
+    pub fn nodes(&self) -> usize
+        ensures { result ≡ node_count self.now.query.now }
+    {
+        self.query.len() / NODE_WORDS
     }
-    count
+
+    // The number of a node's terms.
+    pub fn count(&self, node: usize) -> usize
+        requires { node < node_count self.now.query.now }
+        ensures { result ≡ term_count self.now.arities.now self.now.query.now node
+            (kind_of (word_at self.now.query.now node 0)) }
+    {
+        match self.query[node * NODE_WORDS] {
+            1 => self.arities[self.query[node * NODE_WORDS + 1] as usize] as usize,
+            2 => 2,
+            _ => 0,
+        }
+    }
+
+    // A node's terms, as a part of the question.
+    pub fn of(&self, node: usize) -> &'a [u32]
+        requires { node < node_count self.now.query.now }
+        ensures { result.now ≡ terms_of self.now.arities.now self.now.query.now node }
+    {
+        let start = terms_start(self.query, node);
+        let end = start + self.count(node);
+        &self.query[start..end]
+    }
+
+    // The number of the inked terms, each occurrence of one.
+    pub fn count_named(&self) -> usize
+        ensures { result ≡ length (named_in self.now.arities.now self.now.query.now) }
+    {
+        let mut count = 0;
+        for node in 0..self.nodes() {
+            count += count_constants(self.of(node));
+        }
+        count
+    }
 }

@@ -1,13 +1,13 @@
 // Passing over each word of the question that is no inked term, and each inked term that stood earlier, in the instance
 // or in the question.
-ghost use Rattle.std.specs.Prelude.{◌≡◌, false, ◌&&◌, not, ◌++◌, ℕ, ◌+◌, ◌-◌, ◌*◌, ◌≤◌, ◌<◌, leb, ltb, length, take, drop, get_or};
+ghost use Rattle.std.specs.Prelude.{◌≡◌, false, ◌&&◌, not, ◌++◌, ℕ, ◌+◌, ◌-◌, ◌≤◌, ◌<◌, length, take, drop, get_or};
 ghost use Rattle.calculus.specs.Cell.{is_constant};
 ghost use Rattle.calculus.specs.Listed.{listed};
 ghost use Rattle.instance.specs.InstanceWellFormed.{InstanceOf};
 ghost use Rattle.instance.specs.Rows.{rows_from};
 ghost use Rattle.known.specs.Known.{max_query_words, arities_in, flag_at, unpassed, SameBesides};
 ghost use Rattle.query.specs.Words.{node_words};
-ghost use Rattle.query.specs.Named.{constants_among, named_in, HasTerms};
+ghost use Rattle.query.specs.Named.{constants_among, named_in};
 ghost use Rattle.range.specs.Flagged.{stood_before, Asking, Passed};
 ghost use Rattle.range.specs.Walked.{walked_range};
 
@@ -15,10 +15,11 @@ use super::pass::{pass_cells, stood, stood_earlier};
 use calculus::cell::CONSTANTS;
 use domain::bucket::bucket_of;
 use known::Known;
-use query::inked::{term_count, terms_start};
+use query::inked::{Terms, terms_start};
 use query::words::NODE_WORDS;
 
 // Whether a word of the question is an inked term that stood neither in the instance nor earlier in the question.
+// The words, `known` and the heads are no struct, here and below: its fact `Asking` would be shown anew at each flag.
 fn is_new(
     words: &[u32],
     query: &[u32],
@@ -71,37 +72,39 @@ fn pass_node(
 }
 
 // Passes over the question's words, except each new inked term.
-fn pass_terms(
-    words: &[u32],
-    query: &[u32],
-    arities: &[u32; 8],
-    known: &mut Known,
-    heads: &[u16; 512],
-)
-    requires { Asking words.now query.now known.old heads.now
-        × ((q : ℕ) → length words.now ≤ q → flag_at known.old q ≡ false) × HasTerms arities.now query.now }
-    ensures { Passed words.now query.now known.old 0
-        (named_in arities.now query.now) known.new (length query.now) }
+fn pass_terms(words: &[u32], terms: &Terms, known: &mut Known, heads: &[u16; 512])
+    requires { Asking words.now terms.now.query.now known.old heads.now
+        × ((q : ℕ) → length words.now ≤ q → flag_at known.old q ≡ false) }
+    ensures { Passed words.now terms.now.query.now known.old 0
+        (named_in terms.now.arities.now terms.now.query.now) known.new (length terms.now.query.now) }
 {
-    for node in 0..query.len() / NODE_WORDS {
-        let start = terms_start(query, node);
-        let end = start + term_count(query, arities, node);
-        pass_node(words, query, known, heads, node * NODE_WORDS, start, end);
+    for node in 0..terms.nodes() {
+        let start = terms_start(terms.query, node);
+        let end = start + terms.count(node);
+        pass_node(
+            words,
+            terms.query,
+            known,
+            heads,
+            node * NODE_WORDS,
+            start,
+            end,
+        );
     }
 }
 
 // Sets the flag of each place that a walk over the instance's words and then the question's passes over. The promise
 // speaks of the values that are left and their order, not of which place of equal ones is left.
-pub fn pass_over(words: &[u32], query: &[u32], arities: &[u32; 8], known: &mut Known)
-    requires instance_of { InstanceOf (arities_in known.old) words.now × HasTerms arities.now query.now
-        × (arities_in known.old ≡ arities.now) × (length query.now ≤ max_query_words) }
+pub fn pass_over(words: &[u32], terms: &Terms, known: &mut Known)
+    requires instance_of { InstanceOf (arities_in known.old) words.now
+        × (arities_in known.old ≡ terms.now.arities.now) × (length terms.now.query.now ≤ max_query_words) }
     requires no_flags { (p : ℕ) → flag_at known.old p ≡ false }
     ensures kept { SameBesides known.old known.new }
-    ensures walked { unpassed known.new 0 (words.now ++ query.now)
-        ≡ walked_range (named_in arities.now query.now)
-        (rows_from arities.now 0 words.now) }
+    ensures walked { unpassed known.new 0 (words.now ++ terms.now.query.now)
+        ≡ walked_range (named_in terms.now.arities.now terms.now.query.now)
+        (rows_from terms.now.arities.now 0 words.now) }
 {
     let mut heads = [0u16; 512];
     pass_cells(words, known, &mut heads);
-    pass_terms(words, query, arities, known, &heads);
+    pass_terms(words, terms, known, &heads);
 }

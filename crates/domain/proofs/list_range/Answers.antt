@@ -13,30 +13,28 @@ use Rattle.domain.specs.Chains.{word_value, Added}
 use Rattle.domain.proofs.Chains.{chained_starts, added_then}
 use Rattle.domain.proofs.Listing.{added_number, added_ends}
 use Rattle.domain.proofs.list_range.Goals as goal
-use Rattle.domain.proofs.list_range.Goals.{After-add_named, Start}
+use Rattle.domain.proofs.list_range.Goals.{After-add_named}
 
 pub list_cells-requires : goal.list_cells-requires
 list_cells-requires c =
-    let start = (goal.at.list_cells-requires c).Start in
-    let ars = c.args.arities.now in record {
-      instance_of = (c.requires.instance_of.0, rw c.new-chains.ensures (chained_starts _), ap (λ (k : Chains). k.count) c.new-chains.ensures);
-      words_in_bounds = omega (arith, c.requires.query_in_bounds, length-append (cells_of (rows_from ars 0 c.args.words.now)) (named_in ars c.args.query.now));
+    let ars = c.args.terms.now.arities.now in record {
+      instance_of = (c.requires.instance_of, rw c.new-chains.ensures (chained_starts _), ap (λ (k : Chains). k.count) c.new-chains.ensures);
+      words_in_bounds = omega (arith, c.requires.query_in_bounds, length-append (cells_of (rows_from ars 0 c.args.words.now)) (named_in ars c.args.terms.now.query.now));
     }
 
 pub add_named-requires : goal.add_named-requires
 add_named-requires c =
     let call = c.list_cells in
-    let start = (goal.at.add_named-requires c).Start in
-    let ars = c.args.arities.now in
-    let both = length-append (cells_of (rows_from ars 0 c.args.words.now)) (named_in ars c.args.query.now) in record {
-      has_terms = (c.requires.instance_of.1, call.ensures.chained);
+    let ars = c.args.terms.now.arities.now in
+    let both = length-append (cells_of (rows_from ars 0 c.args.words.now)) (named_in ars c.args.terms.now.query.now) in record {
+      chained = call.ensures.chained;
       query_in_bounds = (omega (arith, both, c.requires.query_in_bounds, call.ensures.added.most, call.ensures.added.long), omega (arith, both, c.requires.query_len_bound, call.ensures.added.most));
     }
 
 -- cells and terms are added
 module _ (c : After-add_named) where
   abbrev all : List ℕ
-  all = cells_of (rows_from c.args.arities.now 0 c.args.words.now) ++ named_in c.args.arities.now c.args.query.now
+  all = cells_of (rows_from c.args.terms.now.arities.now 0 c.args.words.now) ++ named_in c.args.terms.now.arities.now c.args.terms.now.query.now
 
   added : Added c.args.buffer.now 0 all c.add_named.new.list c.add_named.new.self.count
   added = added_then c.list_cells.ensures.added c.add_named.ensures.added

@@ -100,8 +100,8 @@ returns-in_err-rows c =
 pub overflow_sub-cells : goal.overflow_sub-cells
 overflow_sub-cells c = omega (arith, cells c)
 
-pub count_named-requires : goal.count_named-requires
-count_named-requires c = terms (goal.at.count_named-requires c).In_ok-rows
+pub invariant_of-terms : goal.invariant_of-terms
+invariant_of-terms c = record { has_terms = terms (goal.at.invariant_of-terms c).In_ok-rows }
 
 pub overflow_add-cells : goal.overflow_add-cells
 overflow_add-cells c = omega (arith, need c, few (at c))
@@ -129,7 +129,7 @@ unfolding rows
 list_range-n-requires c =
     let t = (goal.at.list_range-n-requires c).Else-buffer-cells in
     let f = so_far t in record {
-      instance_of = (record { relations = (h f).relations; well_formed = (given f).well_formed }, terms f);
+      instance_of = record { relations = (h f).relations; well_formed = (given f).well_formed };
       query_in_bounds = long t;
       query_len_bound = omega (arith, few f);
     }

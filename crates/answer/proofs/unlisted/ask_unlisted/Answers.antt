@@ -70,14 +70,17 @@ returns-in_err-admit c =
 pub slice_bounds-words-end : goal.slice_bounds-words-end
 slice_bounds-words-end c = sym (given c).in_use
 
+pub invariant_of-terms : goal.invariant_of-terms
+invariant_of-terms c =
+    let eight : length c.args.header.arities ≡ max_relations = search rules in
+    record { has_terms = has_terms _ _ _ _ _ (passes (goal.at.invariant_of-terms c).In_ok-admit) eight }
+
 pub pass_for-requires : goal.pass_for-requires
 pass_for-requires c =
     let f = (goal.at.pass_for-requires c).In_ok-admit in
-    let eight : length c.args.header.arities ≡ max_relations = search rules in
     let same = ap (λ (k : Known). k.arities) c.new-known.ensures in record {
       instance_of = (
         rw same (record { relations = c.args.header.relations; well_formed = (given f).well_formed }),
-        has_terms _ _ _ _ _ (passes f) eight,
         same,
         words f,
       );

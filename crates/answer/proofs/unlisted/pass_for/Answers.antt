@@ -5,7 +5,7 @@ use Rattle.calculus.proofs.Bools.{false_not_true}
 use Rattle.answer.proofs.unlisted.pass_for.Goals as goal
 
 pub ranging-requires : goal.ranging-requires
-ranging-requires c = c.requires.instance_of.1.whole
+ranging-requires c = c.args.terms.now.has_terms.whole
 
 pub pass_over-requires : goal.pass_over-requires
 pass_over-requires c =

@@ -11,36 +11,32 @@ use Rattle.range.specs.Walked.{walked}
 use Rattle.range.proofs.Walked.{unpassed-walked, walked_more}
 use Rattle.range.proofs.Asked.{none-behind, passed-whole}
 use Rattle.range.proofs.terms.pass_over.Goals as goal
-use Rattle.range.proofs.terms.pass_over.Goals.{Start}
 
 pub pass_cells-requires : goal.pass_cells-requires
 pass_cells-requires c =
-    let s = (goal.at.pass_cells-requires c).Start in record {
+    record {
       instance_of = (c.requires.instance_of.0, refl);
       no_flags = c.requires.no_flags;
     }
 
 pub pass_terms-requires : goal.pass_terms-requires
 pass_terms-requires c =
-    let s = (goal.at.pass_terms-requires c).Start in
     let done = c.pass_cells.ensures in (
-      record { short = c.requires.instance_of.0.well_formed.few; few = c.requires.instance_of.3; cached = done.cached },
+      record { short = c.requires.instance_of.0.well_formed.few; few = c.requires.instance_of.2; cached = done.cached },
       λ q l. done.flags q ∙ none-behind _ c.args.words.now q l,
-      c.requires.instance_of.1,
     )
 
 pub returns : goal.returns
 returns c =
-    let s = (goal.at.returns c).Start in
     let ws = c.args.words.now in
-    let ars = c.args.arities.now in
+    let ars = c.args.terms.now.arities.now in
     let cells = c.pass_cells in
     let done = cells.ensures in
-    let named = named_in ars c.args.query.now in
+    let named = named_in ars c.args.terms.now.query.now in
     let all = c.pass_terms.ensures in record {
       kept = kept_then done.kept all.kept;
       walked = passed-whole all ∙
           ap (λ (l : List ℕ). listing l named) (unpassed-walked _ ws cells.new.known done.flags) ∙
-          ap (λ (l : List ℕ). listing (walked [] (cells_of (rows_from l 0 ws))) named) c.requires.instance_of.2 ∙
+          ap (λ (l : List ℕ). listing (walked [] (cells_of (rows_from l 0 ws))) named) c.requires.instance_of.1 ∙
           walked_more (cells_of (rows_from ars 0 ws)) named;
     }

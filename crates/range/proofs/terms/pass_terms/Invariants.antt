@@ -8,5 +8,5 @@ use Rattle.range.proofs.terms.pass_terms.Given as goal
 
 abbrev pub invariant-loop-node : goal.invariant-loop-node
 invariant-loop-node l =
-    (seen : List ℕ) × (l.node ≤ node_count l.query) × (seen ++ named_from l.arities l.query l.node (node_count l.query - l.node) ≡ named_in l.arities l.query)
-    × Passed l.words l.query l.initial.known 0 seen l.known (l.node * node_words)
+    (seen : List ℕ) × (l.node ≤ node_count l.terms.query.now) × (seen ++ named_from l.terms.arities.now l.terms.query.now l.node (node_count l.terms.query.now - l.node) ≡ named_in l.terms.arities.now l.terms.query.now)
+    × Passed l.words l.terms.query.now l.initial.known 0 seen l.known (l.node * node_words)

@@ -8,4 +8,4 @@ use Rattle.domain.proofs.chain.Chains.add_named.Given as goal
 abbrev pub invariant-loop-node : goal.invariant-loop-node
 invariant-loop-node l =
     Chained l.self.heads l.list l.self.count
-    × Naming (named_in l.arities l.query) l.initial.list l.initial.self.count l.list l.self.count (named_from l.arities l.query l.node (node_count l.query - l.node))
+    × Naming (named_in l.terms.arities.now l.terms.query.now) l.initial.list l.initial.self.count l.list l.self.count (named_from l.terms.arities.now l.terms.query.now l.node (node_count l.terms.query.now - l.node))
