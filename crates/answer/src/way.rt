@@ -12,6 +12,7 @@ use super::asked::Asked;
 use super::unlisted::ask_unlisted;
 use instance::header::Header;
 
+// An enum and no closure: a way is a value that both runs of a rerun are given, and `lent_by` speaks of it.
 #[derive(Clone, Copy)]
 pub enum Way {
     Listed,

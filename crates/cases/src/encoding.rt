@@ -12,7 +12,11 @@ fn decode_first(rt: &impl Print, bytes: &[u8], size: usize) -> io::Result<()> {
         return Ok(());
     }
     let decoded = decode(&bytes[..size], &mut plot);
-    show::answer(rt, "read again", decoded.map(|restarted| restarted.header.used))?;
+    show::answer(
+        rt,
+        "read again",
+        decoded.map(|restarted| restarted.header.used),
+    )?;
     show::words(rt, &plot)
 }
 

@@ -43,13 +43,7 @@ pub fn rows(rt: &impl Print) -> io::Result<()> {
         &mut plot,
         999_999,
     )?;
-    enter_cell(
-        rt,
-        "no room for another",
-        &mut header,
-        &mut plot,
-        999_999,
-    )?;
+    enter_cell(rt, "no room for another", &mut header, &mut plot, 999_999)?;
     show::plot(rt, header, &plot)
 }
 

@@ -19,7 +19,8 @@ use query::inked::Terms;
 pub mod bucket;
 mod chain;
 
-// Lists the values of the cells at the start of a buffer, row by row; the rest of the buffer stays.
+// Lists the values of the cells at the start of a buffer, row by row; the rest of the buffer stays. The words and the
+// arities are no struct: `range` has the same words with the arities of `Known`, so one would be built anew there.
 fn list_cells(words: &[u32], arities: &[u32; 8], buffer: &mut [u32], chains: &mut Chains)
     requires instance_of { InstanceOf arities.now words.now
         × Chained chains.old.heads buffer.old chains.old.count × (chains.old.count ≡ 0) }

@@ -4,7 +4,6 @@ use Prim.Native.Nat.{ℕ}
 use mathlib.Core.Path.{◌≡◌, refl, sym, ap, ◌∙◌}
 use mathlib.Core.Bool.{Bool, true, false, cond}
 use mathlib.Core.List.{List, [], ◌∷◌}
-use native.Mathlib.Omega.{arith}
 use lib.ListN.{length}
 use lib.Dec.{eqb}
 use Rattle.calculus.specs.Answer.{Answer}
@@ -23,7 +22,6 @@ use Rattle.query.specs.Named.{query_of}
 use Rattle.evaluate.specs.declared.evaluated.Evaluated.{Evaluated}
 use Rattle.evaluate.specs.declared.evaluated.Evaluated.TheVariants as evaluated
 use Rattle.evaluate.specs.Within.{within}
-use Rattle.answer.specs.Asked.{verdict}
 use Rattle.answer.specs.Ask.{answered_by, Lent, list, none, askable, ask, asked_buffer}
 use Rattle.answer.specs.Numbers.{asked_as}
 use Rattle.calls.specs.Calls.{Call, answer_to, leaves}

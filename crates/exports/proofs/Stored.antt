@@ -3,7 +3,6 @@ use Prim.Native.Nat.{ℕ}
 use mathlib.Core.Path.{◌≡◌, refl, sym, ap, ◌∙◌}
 use mathlib.Core.Bool.{Bool, true, false}
 use mathlib.Core.List.{List}
-use native.Mathlib.Omega.{arith}
 use lib.ListN.{length}
 use lib.Dec.{eqb}
 use borrow.Author.Tests.{eqb-true}
@@ -13,10 +12,8 @@ use Rattle.answer.specs.Asked.{Asked}
 use Rattle.answer.specs.Asked.{verdict}
 use Rattle.std.specs.Prelude.{Ok, Err}
 use Rattle.answer.specs.Ask.{Lent, ask}
-use Rattle.answer.specs.Numbers.{asked_as, asked_number}
+use Rattle.answer.specs.Numbers.{asked_number}
 use Rattle.answer.proofs.RerunLaws.{not_refused}
-use Rattle.calls.specs.Calls.{asks}
-use Rattle.calls.proofs.Numbers.{every_number}
 use Rattle.exports.specs.Words.{header_length, header_of}
 use Rattle.exports.specs.Calls.{ask_answer}
 use Rattle.calculus.proofs.Refusals.{not_zero}

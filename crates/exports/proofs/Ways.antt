@@ -1,5 +1,4 @@
 -- The two calls for a question agree as C sees them. Assumes nothing.
-use Prim.Native.Nat.{ℕ}
 use mathlib.Core.Path.{◌≡◌, refl, sym, ap}
 use mathlib.Core.Bool.{Bool, true, false, cond}
 use native.Mathlib.Omega.{arith}
@@ -8,7 +7,6 @@ use lib.Dec.{eqb}
 use Rattle.calculus.specs.declared.refusal.Refusal.TheVariants.{Unsound, BufferTooShort}
 use Rattle.calculus.specs.Refusal.{buffer_too_short}
 use Rattle.answer.specs.Asked.{Asked}
-use Rattle.answer.specs.Asked.{verdict}
 use Rattle.std.specs.Prelude.{Ok, Err}
 use Rattle.answer.specs.Ask.{list, none, ask}
 use Rattle.answer.specs.Numbers.{asked_number, verdict_of, cost_of}

@@ -1,6 +1,5 @@
 -- Demand 3 for the exported calls, as C sees it: run A by `plotask_ask` or `plotask_ask_unlisted`, a list of steps with fills by `plotask_substitute` and
 -- `plotask_substitute_logged` among them, run B by the same call as run A.
-use Rattle.answer.specs.Asked.{verdict}
 use Rattle.std.specs.Prelude.{ℕ, ◌≤◌, ◌≡◌, true, List, ◌++◌, drop}
 use Rattle.calculus.specs.declared.truth.Truth.TheVariants.{Unknown}
 use Rattle.calculus.specs.Kleene.{rank}

@@ -1,4 +1,5 @@
-// The calls for a host in C, on numbers and slices: each returns 0 if it is accepted, otherwise the number of the refusal.
+// The calls for a host in C, on numbers and slices: each returns 0 if it is accepted, otherwise the number of the
+// refusal. C has no `Result`, so each call tests its header slice itself and returns numbers, without `?`.
 
 #![tactic(auto)]
 

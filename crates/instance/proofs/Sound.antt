@@ -10,7 +10,6 @@ use lib.Seq.{length-take-le}
 use Rattle.std.specs.Prelude.{Result, Ok, Err}
 use Rattle.calculus.specs.declared.refusal.Refusal.{Refusal}
 use Rattle.calculus.specs.declared.refusal.Refusal.TheVariants.{Unsound}
-use Rattle.calculus.specs.Answer.{Answer}
 use Rattle.calculus.specs.Closed.{tuples}
 use Rattle.calculus.specs.Row.{Row}
 use Rattle.instance.specs.declared.header.Header.{Header}

@@ -48,9 +48,7 @@ fn fresh(
 ) -> io::Result<()> {
     let mut plot = ROWS;
     let mut used = used;
-    show_fill(
-        rt, name, header, &mut plot, log, &mut used, mark, cell,
-    )
+    show_fill(rt, name, header, &mut plot, log, &mut used, mark, cell)
 }
 
 pub fn by_itself(rt: &impl Print) -> io::Result<()> {

@@ -102,6 +102,7 @@ pub fn check_node(header: &Header, node: &Node, scopes: &mut Scopes) -> Result<(
         return Err(Refusal::BadChild);
     }
     let mask = scopes.masks[node.number];
+    // By number: the kinds are words that C writes, and the project names this `match`.
     match node.word(0) {
         1 => check_atom(header, node, mask),
         2 => check_equality(node, mask),

@@ -1,4 +1,5 @@
-// A question's words: up to 100 nodes of 8 words each.
+// A question's words: up to 100 nodes of 8 words each. They stay the words that C lends, with children by number: there
+// is no heap to build a tree of them.
 ghost use Rattle.std.specs.Prelude.{◌≡◌, ◌+◌, ◌*◌, ◌≤◌, ◌<◌, length, take, drop};
 ghost use Rattle.query.specs.Words.{node_words, max_nodes, node_count, right_length, word_at};
 ghost use Rattle.query.specs.Check.{rest_is_zero};

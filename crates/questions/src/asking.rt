@@ -273,7 +273,7 @@ pub fn bound_again(rt: &impl Print) -> io::Result<()> {
         [3, 5, 0, 0, 0, 0, 0, 0],
         [2, 2_000_000, 2, 0, 0, 0, 0, 0],
         [2, 2_000_000, 2, 0, 0, 0, 0, 0],
-        ];
+    ];
     one(
         rt,
         "every x: (some x: x = 2) and not x = 2",
@@ -335,11 +335,7 @@ pub fn refused_nodes(rt: &impl Print) -> io::Result<()> {
         [1, 1, 2_000_009, 0, 0, 0, 0, 0],
     )?;
     node(rt, "no such term", [1, 1, 2_000_016, 0, 0, 0, 0, 0])?;
-    node(
-        rt,
-        "a node that is its own child",
-        [3, 0, 0, 0, 0, 0, 0, 0],
-    )?;
+    node(rt, "a node that is its own child", [3, 0, 0, 0, 0, 0, 0, 0])?;
     node(rt, "variable 16 quantified", [6, 16, 0, 0, 0, 0, 0, 0])
 }
 

@@ -204,14 +204,7 @@ pub fn second_refused(rt: &impl Print) -> io::Result<()> {
         &mut short,
         3,
     )?;
-    by_eight_logged(
-        rt,
-        Way::Listed,
-        "a budget of 1 for run B",
-        0,
-        &mut list2,
-        1,
-    )
+    by_eight_logged(rt, Way::Listed, "a budget of 1 for run B", 0, &mut list2, 1)
 }
 
 // 44, and refusals of run A; under 46 only A's list is written.

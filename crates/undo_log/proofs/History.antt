@@ -18,7 +18,6 @@ use Rattle.calculus.specs.Fill.{Logging, into_log, entry_length, held, substitut
 use Rattle.calculus.specs.Overwrite.{overwrite}
 use Rattle.calculus.specs.declared.refusal.Refusal.{Refusal}
 use Rattle.calculus.specs.declared.refusal.Refusal.TheVariants.{LogEmpty, BadLog}
-use Rattle.calculus.specs.Refusal.{bad_log}
 use Rattle.calculus.specs.Row.{Row}
 use Rattle.calculus.proofs.All.{all_append}
 use Rattle.calculus.proofs.Bools.{and_intro, zero_not_one}

@@ -1,5 +1,7 @@
 // The undo log (document 02, request 1: the log of noted fills): words that the caller lends, of which the first are in
 // use. What the calls that start it fresh return.
+//
+// The words in use are a number beside the slice, and no part of a struct: C lends the two apart.
 
 #![tactic(auto)]
 

@@ -1,5 +1,4 @@
 -- `exports::plotask_decode` meets its contract: 41 if the header slice is not as long as a header, otherwise the library's call. Assumes nothing.
-use Prim.Native.Nat.{ℕ}
 use mathlib.Core.Path.{◌≡◌, sym, ap, ◌∙◌}
 use Rattle.calculus.specs.Answer.{Answer}
 use Rattle.calculus.specs.Answer.{after, number_of}

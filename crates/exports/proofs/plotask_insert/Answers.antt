@@ -46,10 +46,10 @@ returns c =
     let a = answered hs long is (λ h. inserted h ws args.relation args.cells.now) made.answer in
     let new = header_words (inserted_header (header_of hs) ws args.relation args.cells.now) in
     let header : c.if-is_ok.header ≡ after c.insert-answer.result new hs = elim c.if-is_ok.branch [
-      then-is_ok w ↦
+      | then-is_ok w ↦
           w.header-is ∙ w.write_header.ensures ∙ ap header_words (made.header ∙ ap (λ (h : Header). inserted_header h ws args.relation args.cells.now) is) ∙
           sym (after_ok _ new hs (sym c.is_ok.ensures.value ∙ w.if-is_ok.true))
-    | else-is_ok w ↦ w.header-is ∙ sym (after_err _ new hs (sym c.is_ok.ensures.value ∙ w.if-is_ok.false))
+      | else-is_ok w ↦ w.header-is ∙ sym (after_err _ new hs (sym c.is_ok.ensures.value ∙ w.if-is_ok.false))
     ] in record {
       number = c.number.ensures ∙ ap number_of a;
       header = header ∙ ap (λ (x : Answer). after x new hs) a;

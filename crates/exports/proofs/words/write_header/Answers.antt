@@ -7,7 +7,6 @@ use native.Mathlib.Omega.{arith}
 use borrow.Author.Rules.{rules}
 use lib.ListN.{length, length-set, set}
 use lib.Seq.{length-paste, paste}
-use Rattle.instance.specs.declared.header.Header.{Header}
 use Rattle.instance.specs.Header.{max_relations}
 use Rattle.exports.specs.Words.{relations_at, arities_at, used_at, row_counts_at, header_words, header_length}
 use Rattle.exports.proofs.HeaderWords.{Eight, words_size, parts_written}
