@@ -9,7 +9,8 @@ use worked::show;
 // The rows (m200, m1) and (m1, 5), and two words that are not in use.
 const ROWS: [u32; 8] = [0, 1_000_200, 1_000_001, 0, 1_000_001, 5, 1_000_001, 7];
 
-// Fills in a fresh copy of the rows, and shows the answer; if accepted, also the words, the counts of marks 1, 2 and 200, and the word after the counts.
+// Fills in a fresh copy of the rows, and shows the answer; if accepted, also the words, the counts of marks 1, 2 and
+// 200, and the word after the counts.
 fn fill(rt: &impl Print, name: &str, mark: u32, cell: u32) -> io::Result<()> {
     let mut plot = ROWS;
     let header = one_sheet(2, 6, 2);

@@ -3,7 +3,8 @@
 ghost use Rattle.std.specs.Prelude.{◌≡◌, ◌<◌, ◌+◌, ℕ, length, get_or, List, ◌++◌, true};
 ghost use Rattle.calculus.specs.Eval.{Structure};
 ghost use Rattle.known.specs.Known.{arities_in};
-ghost use Rattle.query.specs.Words.{node_count, node_words, word_at, kind_of, row_stands, equals, negates, joins, ranges};
+ghost use Rattle.query.specs.Words.{node_count, node_words, word_at, kind_of, row_stands};
+ghost use Rattle.query.specs.Words.{equals, negates, joins, ranges};
 ghost use Rattle.evaluate.specs.Ready.{RightIn};
 ghost use Rattle.evaluate.specs.Asking.{ReadyIn, EvaluableIn, RightFor};
 ghost use Rattle.evaluate.specs.Junction.{junction_of};

@@ -9,7 +9,8 @@ ghost use Rattle.answer.specs.Ask.{list, none};
 ghost use Rattle.answer.specs.Numbers.{asked_number, verdict_of, cost_of};
 ghost use Rattle.exports.specs.Calls.{decode_answer, decode_header, decode_words, decode_used};
 ghost use Rattle.exports.specs.Calls.{insert_answer, insert_header, insert_words};
-ghost use Rattle.exports.specs.Calls.{substitute_answer, substitute_words, counts_answer, counts_words, encode_answer, encode_bytes};
+ghost use Rattle.exports.specs.Calls.{substitute_answer, substitute_words, counts_answer};
+ghost use Rattle.exports.specs.Calls.{counts_words, encode_answer, encode_bytes};
 ghost use Rattle.exports.specs.Calls.{log_answer, log_words, log_log, log_used, undo_answer, undo_words, undo_used};
 ghost use Rattle.exports.specs.Calls.{ask_answer, ask_buffer};
 
@@ -88,7 +89,8 @@ pub extern "C" fn plotask_substitute(
     tell(answer, count)
 }
 
-// Makes a fill that is logged: used is the log's words in use, before and after; count gets the number of cells that held the mark.
+// Makes a fill that is logged: used is the log's words in use, before and after; count gets the number of cells that
+// held the mark.
 #[unsafe(no_mangle)]
 pub extern "C" fn plotask_substitute_logged(
     header: &[u32],
@@ -113,7 +115,8 @@ pub extern "C" fn plotask_substitute_logged(
     tell(answer, count)
 }
 
-// Takes the latest logged fill back: used is the log's words in use, before and after; count gets the number of cells that the mark returns to.
+// Takes the latest logged fill back: used is the log's words in use, before and after; count gets the number of cells
+// that the mark returns to.
 #[unsafe(no_mangle)]
 pub extern "C" fn plotask_undo(
     header: &[u32],
@@ -184,10 +187,13 @@ pub extern "C" fn plotask_ask(
     truth: &mut u32,
     cost: &mut u32,
 ) -> u32
-    ensures number { result ≡ asked_number (ask_answer header.now instance.now query.now candidate.now (list buffer.old) budget) }
+    ensures number { result ≡ asked_number (ask_answer header.now instance.now query.now candidate.now
+        (list buffer.old) budget) }
     ensures buffer { buffer.new ≡ ask_buffer header.now instance.now query.now candidate.now buffer.old }
-    ensures truth { truth.new ≡ verdict_of (ask_answer header.now instance.now query.now candidate.now (list buffer.old) budget) truth.old }
-    ensures cost { cost.new ≡ cost_of (ask_answer header.now instance.now query.now candidate.now (list buffer.old) budget) cost.old }
+    ensures truth { truth.new ≡ verdict_of (ask_answer header.now instance.now query.now candidate.now
+        (list buffer.old) budget) truth.old }
+    ensures cost { cost.new ≡ cost_of (ask_answer header.now instance.now query.now candidate.now
+        (list buffer.old) budget) cost.old }
 {
     if header.len() != HEADER {
         return u32::from(Refusal::Unsound);
@@ -215,8 +221,10 @@ pub extern "C" fn plotask_ask_unlisted(
     cost: &mut u32,
 ) -> u32
     ensures number { result ≡ asked_number (ask_answer header.now instance.now query.now candidate.now none budget) }
-    ensures truth { truth.new ≡ verdict_of (ask_answer header.now instance.now query.now candidate.now none budget) truth.old }
-    ensures cost { cost.new ≡ cost_of (ask_answer header.now instance.now query.now candidate.now none budget) cost.old }
+    ensures truth { truth.new ≡ verdict_of (ask_answer header.now instance.now query.now candidate.now none budget)
+        truth.old }
+    ensures cost { cost.new ≡ cost_of (ask_answer header.now instance.now query.now candidate.now none budget)
+        cost.old }
 {
     if header.len() != HEADER {
         return u32::from(Refusal::Unsound);

@@ -4,7 +4,8 @@
 
 ghost use Rattle.std.specs.Prelude.{◌≡◌, ◌<◌, true, replicate};
 ghost use Rattle.instance.specs.Header.{arity_of, max_relations};
-ghost use Rattle.known.specs.Known.{max_places, flag_words, count_in, arities_in, places_in, flag_at, gap_at, Gap, Flagged};
+ghost use Rattle.known.specs.Known.{max_places, flag_words, count_in, arities_in, places_in};
+ghost use Rattle.known.specs.Known.{flag_at, gap_at, Gap, Flagged};
 
 // The flags stand 32 to a word, the first in its lowest bit. A walk passes over the places whose flag stands.
 #[derive(Drop)]

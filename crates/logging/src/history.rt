@@ -88,8 +88,8 @@ fn take_all_back(
     take_back(rt, "undo once more", header, plot, log, used)
 }
 
-// The row entered between the fills holds the first fill's mark and its cell: the second fill finds the one, and no undo
-// touches the other.
+// The row entered between the fills holds the first fill's mark and its cell: the second fill finds the one, and no
+// undo touches the other.
 pub fn history(rt: &impl Print) -> io::Result<()> {
     let mut plot = [0u32, 1_000_002, 1_000_001, 1, 1_000_001, 7, 7, 7];
     let mut log = [9u32; 7];

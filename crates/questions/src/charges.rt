@@ -1,5 +1,5 @@
-// What an atom costs: 1 plus the rows of its sheet up to and including the first identical one, or all of them if none is identical. The table in the
-// crate `readings` has the same cases.
+// What an atom costs: 1 plus the rows of its sheet up to and including the first identical one, or all of them if none
+// is identical. The table in the crate `readings` has the same cases.
 use answer::ask::ask;
 use instance::header::Header;
 use std::io;

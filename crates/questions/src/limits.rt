@@ -73,8 +73,8 @@ const ZERO: [u32; 3] = [1, 0, 0];
 // The row (1) is in sheet 0.
 const ONE: [u32; 3] = [1, 0, 1];
 
-// A full plot of 2,048 rows: only the last is (1), and all the others are (0). An atom takes 2,049 looks for the one, and 2 for the other.
-// tests/limit.c shows what happens at the limit of 32 bits.
+// A full plot of 2,048 rows: only the last is (1), and all the others are (0). An atom takes 2,049 looks for the one,
+// and 2 for the other. tests/limit.c shows what happens at the limit of 32 bits.
 pub fn full(rt: &impl Print) -> io::Result<()> {
     let mut plot = [0u32; 4096];
     plot[4095] = 1;

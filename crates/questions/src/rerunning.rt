@@ -1,4 +1,5 @@
-// Run A, fills, run B: shows both runs' answers, and the plot, the candidate, A's list, B's list, the answers to the fills and the log afterwards.
+// Run A, fills, run B: shows both runs' answers, and the plot, the candidate, A's list, B's list, the answers to the
+// fills and the log afterwards.
 use answer::way::Way;
 use instance::header::Header;
 use rerun::rerun::rerun;
@@ -99,7 +100,8 @@ fn by_eight(rt: &impl Print, name: &str, cell: u32) -> io::Result<()> {
     stands(rt, name, cell, &[1, 8, 0])
 }
 
-// Reading 10; candidates with and without the mark that is filled; one whose row is the second before the fill and the first after it.
+// Reading 10; candidates with and without the mark that is filled; one whose row is the second before the fill and the
+// first after it.
 pub fn settled(rt: &impl Print) -> io::Result<()> {
     one(
         rt,
@@ -116,7 +118,8 @@ pub fn settled(rt: &impl Print) -> io::Result<()> {
     by_eight(rt, "8 in the sheet, m1 by 8", 8)
 }
 
-// Fills that are refused with 29, 16 and 43, and then m1 by m2; no fill at all; one word and two words that are no fill.
+// Fills that are refused with 29, 16 and 43, and then m1 by m2; no fill at all; one word and two words that are no
+// fill.
 pub fn lists_of_fills(rt: &impl Print) -> io::Result<()> {
     let mixed = [0u32, 8, 0, 1, 1_000_000, 0, 2, 8, 0, 1, 1_000_002, 0];
     stands(rt, "m1 in the sheet, four fills", 1_000_001, &mixed)?;
@@ -130,7 +133,8 @@ pub fn lists_of_fills(rt: &impl Print) -> io::Result<()> {
     )
 }
 
-// Logged fills and one that is not, on the rows (m1), (m2) and (m1) with a log of six words: the second, of two cells, finds three words left.
+// Logged fills and one that is not, on the rows (m1), (m2) and (m1) with a log of six words: the second, of two cells,
+// finds three words left.
 pub fn both_kinds(rt: &impl Print) -> io::Result<()> {
     let mut log = [9u32; 6];
     let mut list2 = [9u32; 3];

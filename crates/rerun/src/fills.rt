@@ -4,7 +4,8 @@ ghost use Rattle.calculus.specs.Model.{after_fills};
 ghost use Rattle.instance.specs.Header.{max_words};
 ghost use Rattle.instance.specs.Run.{fill_answer, fill_words};
 ghost use Rattle.instance.specs.Sound.{rows};
-ghost use Rattle.rerun.specs.Fills.{wanted, wanted_of, fed, log_left, used_left, filled_with, fill_told, fill_leaves, answer_words, fills_told, stored};
+ghost use Rattle.rerun.specs.Fills.{wanted, wanted_of, fed, log_left, used_left, filled_with};
+ghost use Rattle.rerun.specs.Fills.{fill_told, fill_leaves, answer_words, fills_told, stored};
 
 use calculus::answer::Answer;
 use instance::header::Header;
@@ -98,7 +99,8 @@ pub fn fill_all(
 )
     requires { (length candidate.old ≤ max_words) × (length fills.now ≤ length answers.old) }
     ensures left { filled_with instance.new candidate.new log.new used.new
-        ≡ after_fills (fill_leaves header) (wanted_of fills.now) (filled_with instance.old candidate.old log.old used.old) }
+        ≡ after_fills (fill_leaves header) (wanted_of fills.now)
+        (filled_with instance.old candidate.old log.old used.old) }
     ensures answers { answers.new ≡ stored (fills_told header (wanted_of fills.now)
         (filled_with instance.old candidate.old log.old used.old)) answers.old }
 {

@@ -8,8 +8,8 @@ use calculus::refusal::Refusal;
 use instance::header::Header;
 
 // Three words of `fills` are a fill: a null's number, a cell, and 0 if it is not logged; its answer goes to the same
-// indices of `answers`. `used` are the log's words in use. Both runs ask by the same way; run B has a buffer and a budget
-// of its own. No fill is made if run A is refused.
+// indices of `answers`. `used` are the log's words in use. Both runs ask by the same way; run B has a buffer and a
+// budget of its own. No fill is made if run A is refused.
 pub fn rerun(
     way: Way,
     header: Header,
@@ -25,7 +25,9 @@ pub fn rerun(
     buffer2: &mut [u32],
     budget2: u32,
 ) -> Result<Reran, Refusal>
-    ensures { Reruns (given way header query.now candidate.old buffer.old budget fills.now answers.old log.old used.old buffer2.old budget2) instance.old result instance.new candidate.new buffer.new answers.new log.new used.new buffer2.new }
+    ensures { Reruns (given way header query.now candidate.old buffer.old budget fills.now answers.old log.old
+        used.old buffer2.old budget2) instance.old result instance.new candidate.new buffer.new answers.new log.new
+        used.new buffer2.new }
 {
     if answers.len() < fills.len() {
         return Err(Refusal::OutputTooShort);

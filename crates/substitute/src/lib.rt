@@ -51,7 +51,8 @@ pub fn replace(words: &mut [u32], mark: u32, cell: u32) -> u32
 pub fn substitute(header: Header, instance: &mut [u32], mark: u32, cell: u32) -> Answer
     ensures answer { result ≡ substituted header instance.old unlogged mark cell }
     ensures words { instance.new ≡ substituted_words header instance.old unlogged mark cell }
-    ensures told { Tells result (substituted header instance.old unlogged mark cell) (held mark (rows header instance.old)) }
+    ensures told { Tells result (substituted header instance.old unlogged mark cell)
+        (held mark (rows header instance.old)) }
 {
     test_fill(header, instance, mark, cell)?;
     let used = header.used as usize;

@@ -31,9 +31,11 @@ fn held(words: &[u32], mark: u32) -> u32
 // Fills, and writes the entry at the start of a part of the log: each place as it is filled, then the mark and the
 // number of places.
 fn note(words: &mut [u32], part: &mut [u32], mark: u32, cell: u32)
-    requires { (mark ≤ nulls) × (length words.old ≤ max_words) × (entry_length (count_of (null mark) words.old) ≤ length part.old) }
+    requires { (mark ≤ nulls) × (length words.old ≤ max_words)
+        × (entry_length (count_of (null mark) words.old) ≤ length part.old) }
     ensures words { words.new ≡ map (put mark cell) words.old }
-    ensures part { part.new ≡ overwrite (places_in (null mark) 0 words.old ++ mark ∷ count_of (null mark) words.old ∷ []) part.old }
+    ensures part { part.new ≡ overwrite
+        (places_in (null mark) 0 words.old ++ mark ∷ count_of (null mark) words.old ∷ []) part.old }
 {
     let null = CONSTANTS + mark;
     let mut count = 0;
@@ -62,7 +64,8 @@ pub fn substitute_logged(
     ensures words { instance.new ≡ logged_words header instance.old log.old used.old mark cell }
     ensures log { log.new ≡ logged_log header instance.old log.old used.old mark cell }
     ensures used { used.new ≡ logged_used header instance.old log.old used.old mark cell }
-    ensures told { Tells result (logged header instance.old log.old used.old mark cell) (held mark (rows header instance.old)) }
+    ensures told { Tells result (logged header instance.old log.old used.old mark cell)
+        (held mark (rows header instance.old)) }
 {
     test_fill(header, instance, mark, cell)?;
     let end = header.used as usize;

@@ -10,8 +10,8 @@ use instance::header::Header;
 // the words in use of a fresh log
 pub const FRESH: usize = 0;
 
-// What an accepted call returns that fills an instance anew and starts its log fresh: the header, and the log's words in
-// use.
+// What an accepted call returns that fills an instance anew and starts its log fresh: the header, and the log's words
+// in use.
 #[derive(Clone, Copy)]
 pub struct Restarted {
     pub header: Header,
