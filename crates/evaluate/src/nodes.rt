@@ -2,7 +2,6 @@
 // loop.
 ghost use Rattle.std.specs.Prelude.{◌≡◌, ◌<◌, ◌+◌, ℕ, length, get_or, List, ◌++◌, true};
 ghost use Rattle.calculus.specs.Eval.{Structure};
-ghost use Rattle.known.specs.Known.{arities_in};
 ghost use Rattle.query.specs.Words.{node_count, node_words, word_at, kind_of, row_stands};
 ghost use Rattle.query.specs.Words.{equals, negates, joins, ranges};
 ghost use Rattle.evaluate.specs.Ready.{RightIn};

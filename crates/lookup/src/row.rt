@@ -1,5 +1,5 @@
 // Compares an asked row with the row at a place of an instance's words, which is read where it stands.
-ghost use Rattle.std.specs.Prelude.{◌≡◌, ◌≢◌, ◌+◌, ◌≤◌, length, [], ◌∷◌};
+ghost use Rattle.std.specs.Prelude.{◌≡◌, ◌+◌, ◌≤◌, length, [], ◌∷◌};
 ghost use Rattle.calculus.specs.Unify.{bind, unifies_with};
 ghost use Rattle.instance.specs.Header.{max_columns};
 ghost use Rattle.calculus.specs.Closed.{stands};
@@ -52,7 +52,8 @@ fn put_through(bindings: &[Binding], cell: u32) -> u32
     bindings.iter().fold(cell, |c, binding| binding.apply(c))
 }
 
-// Whether two rows unify after two bindings. Further ones are kept after them, at most one for each column.
+// Whether two rows unify after two bindings. Further ones are kept after them, at most one for each column, in an
+// array: the library has no heap.
 fn unify_more(row: &[u32], found: &[u32], first: Binding, second: Binding) -> Match
     requires { (length found.now ≡ length row.now) × (length row.now + 2 ≤ max_columns) }
     ensures { result ≡ unified (unifies_with (through (first ∷ second ∷ [])) row.now found.now) }

@@ -1,5 +1,5 @@
 // Finds the rows of a relation one after another, in the order in which they stand among an instance's words.
-ghost use Rattle.std.specs.Prelude.{◌≡◌, ℕ, suc, ◌+◌, ◌<◌, Bool, List, length, get_or, take, drop};
+ghost use Rattle.std.specs.Prelude.{◌≡◌, ℕ, suc, ◌+◌, ◌<◌, Bool, List, get_or, take, drop};
 ghost use Rattle.calculus.specs.Closed.{tuples};
 ghost use Rattle.instance.specs.Rows.{rows_from};
 ghost use Rattle.instance.specs.Header.{arity_of};

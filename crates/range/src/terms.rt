@@ -18,78 +18,67 @@ use known::Known;
 use query::inked::{Terms, terms_start};
 use query::words::NODE_WORDS;
 
-// Whether a word of the question is an inked term that stood neither in the instance nor earlier in the question.
-// The words, `known` and the heads are no struct, here and below: its fact `Asking` would be shown anew at each flag.
-fn is_new(
-    words: &[u32],
-    query: &[u32],
-    known: &Known,
-    heads: &[u16; 512],
-    place: usize,
-    term: bool,
-) -> bool
-    requires { Asking words.now query.now known.now heads.now × (place < length query.now) }
-    ensures { result ≡ (term && (is_constant (get_or query.now place 0)
-        && not (listed (get_or query.now place 0) (stood_before known.now
-        (words.now ++ query.now) (length words.now + place))))) }
-{
-    if !term || CONSTANTS <= query[place] {
-        return false;
-    }
-    let w = query[place];
-    let head = heads[bucket_of(w) / 2] as usize;
-    if stood_earlier(words, known, words.len(), w, head) {
-        return false;
-    }
-    !stood(known, words.len(), &query[..place], w)
+// A question's words, those of the instance before them, and the heads of the instance's cells.
+#[derive(Clone, Copy)]
+struct Asked<'a> {
+    words: &'a [u32],
+    terms: &'a Terms<'a>,
+    heads: &'a [u16; 512],
 }
 
-// Passes over the words of a node, from word `first` of the question, except each new inked term; the terms are the
-// words from `start` on and before `end`.
-fn pass_node(
-    words: &[u32],
-    query: &[u32],
-    known: &mut Known,
-    heads: &[u16; 512],
-    first: usize,
-    start: usize,
-    end: usize,
-)
-    requires asking { Asking words.now query.now known.old heads.now
-        × ((q : ℕ) → length words.now + first ≤ q → flag_at known.old q ≡ false) }
-    requires first_le_start { (first ≤ start) × (start ≤ end) × (end ≤ first + node_words)
-        × (first + node_words ≤ length query.now) }
-    ensures { Passed words.now query.now known.old first
-        (constants_among (take (end - start) (drop start query.now))) known.new
-        (first + node_words) }
-{
-    for place in first..first + NODE_WORDS {
-        let term = (start..end).contains(&place);
-        if !is_new(words, query, known, heads, place, term) {
-            known.pass(words.len() + place);
+impl Asked<'_> {
+    // Whether a word of the question is an inked term that stood neither in the instance nor earlier in the question.
+    fn is_new(&self, known: &Known, place: usize, term: bool) -> bool
+        requires { Asking self.now.words.now self.now.terms.now.query.now known.now self.now.heads.now
+            × (place < length self.now.terms.now.query.now) }
+        ensures { result ≡ (term && (is_constant (get_or self.now.terms.now.query.now place 0)
+            && not (listed (get_or self.now.terms.now.query.now place 0) (stood_before known.now
+            (self.now.words.now ++ self.now.terms.now.query.now) (length self.now.words.now + place))))) }
+    {
+        let query = self.terms.query;
+        if !term || CONSTANTS <= query[place] {
+            return false;
+        }
+        let w = query[place];
+        let head = self.heads[bucket_of(w) / 2] as usize;
+        if stood_earlier(self.words, known, self.words.len(), w, head) {
+            return false;
+        }
+        !stood(known, self.words.len(), &query[..place], w)
+    }
+
+    // Passes over the words of a node, from word `first` of the question, except each new inked term; the terms are the
+    // words from `start` on and before `end`.
+    fn pass_node(&self, known: &mut Known, first: usize, start: usize, end: usize)
+        requires asking { Asking self.now.words.now self.now.terms.now.query.now known.old self.now.heads.now
+            × ((q : ℕ) → length self.now.words.now + first ≤ q → flag_at known.old q ≡ false) }
+        requires first_le_start { (first ≤ start) × (start ≤ end) × (end ≤ first + node_words)
+            × (first + node_words ≤ length self.now.terms.now.query.now) }
+        ensures { Passed self.now.words.now self.now.terms.now.query.now known.old first
+            (constants_among (take (end - start) (drop start self.now.terms.now.query.now))) known.new
+            (first + node_words) }
+    {
+        for place in first..first + NODE_WORDS {
+            let term = (start..end).contains(&place);
+            if !self.is_new(known, place, term) {
+                known.pass(self.words.len() + place);
+            }
         }
     }
-}
 
-// Passes over the question's words, except each new inked term.
-fn pass_terms(words: &[u32], terms: &Terms, known: &mut Known, heads: &[u16; 512])
-    requires { Asking words.now terms.now.query.now known.old heads.now
-        × ((q : ℕ) → length words.now ≤ q → flag_at known.old q ≡ false) }
-    ensures { Passed words.now terms.now.query.now known.old 0
-        (named_in terms.now.arities.now terms.now.query.now) known.new (length terms.now.query.now) }
-{
-    for node in 0..terms.nodes() {
-        let start = terms_start(terms.query, node);
-        let end = start + terms.count(node);
-        pass_node(
-            words,
-            terms.query,
-            known,
-            heads,
-            node * NODE_WORDS,
-            start,
-            end,
-        );
+    // Passes over the question's words, except each new inked term.
+    fn pass_terms(&self, known: &mut Known)
+        requires { Asking self.now.words.now self.now.terms.now.query.now known.old self.now.heads.now
+            × ((q : ℕ) → length self.now.words.now ≤ q → flag_at known.old q ≡ false) }
+        ensures { Passed self.now.words.now self.now.terms.now.query.now known.old 0
+            (named_in self.now.terms.now.arities.now self.now.terms.now.query.now) known.new
+            (length self.now.terms.now.query.now) }
+    {
+        for node in 0..self.terms.nodes() {
+            let start = terms_start(self.terms.query, node);
+            let end = start + self.terms.count(node);
+            self.pass_node(known, node * NODE_WORDS, start, end);
+        }
     }
 }
 
@@ -106,5 +95,10 @@ pub fn pass_over(words: &[u32], terms: &Terms, known: &mut Known)
 {
     let mut heads = [0u16; 512];
     pass_cells(words, known, &mut heads);
-    pass_terms(words, terms, known, &heads);
+    let asked = Asked {
+        words,
+        terms,
+        heads: &heads,
+    };
+    asked.pass_terms(known);
 }

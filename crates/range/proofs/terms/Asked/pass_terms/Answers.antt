@@ -1,4 +1,4 @@
--- `range::terms::pass_terms` meets its contract: the nodes before `node` are walked. Assumes nothing.
+-- `range::terms::Asked::pass_terms` meets its contract: the nodes before `node` are walked. Assumes nothing.
 use Prim.Native.Nat.{ℕ, ◌+◌, ◌-◌, ◌*◌, ◌≤◌, ◌<◌}
 use mathlib.Core.Path.{◌≡◌, refl, sym, ap, ◌∙◌}
 use mathlib.Core.List.{List, [], ◌++◌, append_assoc, append-nil}
@@ -9,30 +9,30 @@ use Rattle.query.specs.Words.{node_count, node_words}
 use Rattle.query.specs.Named.{named_from, named_in, start_of, count_at, terms_of, constants_among, HasTerms}
 use Rattle.query.proofs.KindTerms.{part_lent, terms-within, node_end, named_rest}
 use Rattle.range.proofs.Asked.{passed-starts, passed_then, asking-kept}
-use Rattle.range.proofs.terms.pass_terms.Goals as goal
-use Rattle.range.proofs.terms.pass_terms.Goals.{After-count}
+use Rattle.range.proofs.terms.Asked.pass_terms.Goals as goal
+use Rattle.range.proofs.terms.Asked.pass_terms.Goals.{After-count}
 
 pub loop-node-init : goal.loop-node-init
 loop-node-init c = (
   [],
   omega arith,
   rw sub-zero refl,
-  passed-starts c.args.words.now c.args.terms.now.query.now c.args.known.now 0 (λ q l. c.requires.1 q (omega arith)),
+  passed-starts c.args.self.now.words.now c.args.self.now.terms.now.query.now c.args.known.now 0 (λ q l. c.requires.1 q (omega arith)),
 )
 
 pub terms_start-start-requires : goal.terms_start-start-requires
-terms_start-start-requires c = (c.args.terms.now.has_terms.whole, omega arith)
+terms_start-start-requires c = (c.args.self.now.terms.now.has_terms.whole, omega arith)
 
 -- the node
 module _ (c : After-count) where
   abbrev qs : List ℕ
-  qs = c.args.terms.now.query.now
+  qs = c.args.self.now.terms.now.query.now
 
   abbrev ars : List ℕ
-  ars = c.args.terms.now.arities.now
+  ars = c.args.self.now.terms.now.arities.now
 
   abbrev terms : HasTerms ars qs
-  terms = c.args.terms.now.has_terms
+  terms = c.args.self.now.terms.now.has_terms
 
   abbrev node : ℕ
   node = c.loop-node.node
@@ -76,9 +76,9 @@ loop-node-preserved c =
 pub returns : goal.returns
 unfolding named_from
 returns c =
-    let qs = c.args.terms.now.query.now in
+    let qs = c.args.self.now.terms.now.query.now in
     let inv = c.loop-node.invariant in
     let e : node_count qs - c.loop-node.node ≡ 0 = omega arith in
-    let whole : c.loop-node.node * node_words ≡ length qs = omega (arith, c.args.terms.now.has_terms.whole, inv.1) in
-    let all : inv.0 ≡ named_in c.args.terms.now.arities.now qs = sym (append-nil inv.0) ∙ (rw e at inv.2) in
+    let whole : c.loop-node.node * node_words ≡ length qs = omega (arith, c.args.self.now.terms.now.has_terms.whole, inv.1) in
+    let all : inv.0 ≡ named_in c.args.self.now.terms.now.arities.now qs = sym (append-nil inv.0) ∙ (rw e at inv.2) in
     rw (all, whole) at inv.3

@@ -1,4 +1,4 @@
--- `range::terms::pass_node` meets its contract: the words before `place` are walked. Assumes nothing.
+-- `range::terms::Asked::pass_node` meets its contract: the words before `place` are walked. Assumes nothing.
 use Prim.Native.Nat.{ℕ, ◌+◌, ◌-◌, ◌<◌}
 use mathlib.Core.Path.{◌≡◌, refl, sym, ◌∙◌}
 use mathlib.Core.Bool.{Bool, true, false, not, ◌&&◌}
@@ -15,15 +15,15 @@ use Rattle.query.specs.Named.{constants_among}
 use Rattle.range.specs.Flagged.{Passed}
 use Rattle.known.proofs.Setting.{kept_same}
 use Rattle.range.proofs.Asked.{passed-starts, among_first, among_last, node-step}
-use Rattle.range.proofs.terms.pass_node.Goals as goal
-use Rattle.range.proofs.terms.pass_node.Goals.{After-is_new, Start, else-not-is_new, then-not-is_new}
+use Rattle.range.proofs.terms.Asked.pass_node.Goals as goal
+use Rattle.range.proofs.terms.Asked.pass_node.Goals.{After-is_new, Start, else-not-is_new, then-not-is_new}
 
 pub loop-place-init : goal.loop-place-init
 loop-place-init c =
     let a = c.args in
     let p = c.requires.first_le_start in
-    rw (among_first a.query.now a.start a.end a.first p.1 (omega (arith, p.2, p.3)) p.0)
-    (passed-starts a.words.now a.query.now a.known.now a.first c.requires.asking.1)
+    rw (among_first a.self.now.terms.now.query.now a.start a.end a.first p.1 (omega (arith, p.2, p.3)) p.0)
+    (passed-starts a.self.now.words.now a.self.now.terms.now.query.now a.known.now a.first c.requires.asking.1)
 
 -- the flag of a word that is not new is set, and that of a new one stays
 not_new_flag : (new : Bool) → not new ≡ true → true ≡ not new
@@ -39,10 +39,10 @@ within_is a x b = grind (arith, nat_tests)
 -- the word at `place`
 module _ (c : After-is_new) where
   abbrev ws : List ℕ
-  ws = c.args.words.now
+  ws = c.args.self.now.words.now
 
   abbrev qs : List ℕ
-  qs = c.args.query.now
+  qs = c.args.self.now.terms.now.query.now
 
   abbrev place : ℕ
   place = c.loop-place.place-counter
@@ -75,5 +75,5 @@ returns c =
     let a = c.args in
     let p = c.requires.first_le_start in
     let e : c.loop-place.place-counter ≡ a.first + node_words = omega arith in
-    let all = rw (among_last a.query.now a.start a.end c.loop-place.place-counter p.1 (omega (arith, p.2, p.3)) (omega (arith, e, p.2))) at c.loop-place.invariant in
+    let all = rw (among_last a.self.now.terms.now.query.now a.start a.end c.loop-place.place-counter p.1 (omega (arith, p.2, p.3)) (omega (arith, e, p.2))) at c.loop-place.invariant in
     rw e at all

@@ -1,9 +1,0 @@
-use Prim.Native.Nat.{◌-◌}
-use lib.ListN.{take, drop}
-use Rattle.query.specs.Named.{constants_among}
-use Rattle.range.specs.Flagged.{Passed}
-use Rattle.range.proofs.terms.pass_node.Given as goal
-
-abbrev pub invariant-loop-place : goal.invariant-loop-place
-invariant-loop-place l =
-    Passed l.words l.query l.initial.known l.first (constants_among (take (l.place-counter - l.start) (take (l.end - l.start) (drop l.start l.query)))) l.known l.place-counter
