@@ -23,7 +23,7 @@ use query::inked::Terms;
 use query::words::NODE_WORDS;
 use range::terms::pass_over;
 
-// The kinds of the two quantifiers, by number as in the question's words.
+// The kinds of the two quantifiers, as numbers: C writes them so in the question's words.
 const SOME: u32 = 6;
 
 const EVERY: u32 = 7;

@@ -12,7 +12,7 @@ use super::asked::Asked;
 use super::unlisted::ask_unlisted;
 use instance::header::Header;
 
-// An enum and no closure: a way is a value that both runs of a rerun are given, and `lent_by` speaks of it.
+// An enum and no closure: `lent_by`, by which `ask_by` and `rerun` promise, speaks of it.
 #[derive(Clone, Copy)]
 pub enum Way {
     Listed,

@@ -8,6 +8,8 @@ use calculus::refusal::Refusal;
 use instance::header::{is_arity, is_count};
 use parse::number::{byte_if_any, number};
 
+// No ghost fields: what `read_head` promises is an equation of heads, and its right side would have to build their
+// proofs. It is read by index, and not from the front, since the second pass reads at the same indices.
 #[derive(Clone, Copy)]
 pub struct Head {
     pub relations: u32,
@@ -22,6 +24,7 @@ fn read_arities(card: &[u8], relations: usize) -> Result<[u32; 8], Refusal>
     ensures { result ≡ opened_arities [] (read_arities relations (drop 1 card.now)) }
 {
     let mut arities = [0u32; 8];
+    // By index: a byte and its arity stand at two indices.
     for i in 0..relations {
         let arity = byte_if_any(card, i + 1)?;
         if !is_arity(arity) {

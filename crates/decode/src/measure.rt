@@ -28,11 +28,12 @@ pub struct Total {
     pub end: usize,
 }
 
-// The highest null in the given number of written fields, 0 if there is none.
+// The highest null in the given number of written fields. 0 is the maximum of none, so this is no `Option`.
 fn measure_fields(bytes: &[u8], written: u32) -> Answer
     ensures { result ≡ measured_fields (read_written written bytes.now) }
 {
     let mut highest: u32 = 0;
+    // By index: a field is cut short only after those before it were tested, which chunks of the bytes would not tell.
     for i in 0..written as usize {
         let at = 3 * i;
         if bytes.len() - at < 3 {
@@ -42,7 +43,7 @@ fn measure_fields(bytes: &[u8], written: u32) -> Answer
         if !is_cell(cell) {
             return Err(Refusal::NotACell);
         }
-        // A test: the highest null seldom rises, and a maximum at each field is slower by measurement.
+        // A test: the highest null seldom rises, and a maximum at each field is slower (`make builds`, decode).
         if CONSTANTS + highest < cell {
             highest = cell - CONSTANTS;
         }

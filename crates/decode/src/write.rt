@@ -25,7 +25,7 @@ fn write_row(part: &mut [u32], relation: u32, arity: usize, map: u32, fields: &[
     let mut bits = map;
     let mut null = next;
     let mut at = 0;
-    // By index: an iterator over the row's cells is slower by measurement.
+    // By index: an iterator over the row's cells is slower (`make builds`, decode).
     for column in 0..arity {
         if bits % 2 == 1 {
             part[column + 1] = number(fields, at, 3);

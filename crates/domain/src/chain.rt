@@ -34,7 +34,8 @@ fn find(list: &[u32], head: usize, cell: u32) -> bool
 }
 
 // How many values stand at the start of a list, and where the chain of each bucket starts: the place of its latest
-// value, counted from 1, or 0 if it has none.
+// value, counted from 1, or 0 if it has none: with a `None` a head would not fit in 16 bits. The list itself is no
+// field: it is lent, and ends as a list without links.
 #[derive(Drop)]
 pub struct Chains {
     pub count: usize,
@@ -60,7 +61,7 @@ impl Chains {
     {
         let bucket = bucket_of(cell);
         let head = self.heads[bucket];
-        if find(list, head as usize, cell) {
+        if find(list, usize::from(head), cell) {
             return;
         }
         list[self.count] = cell + LINK_UNIT * u32::from(head);
@@ -81,7 +82,8 @@ impl Chains {
         }
     }
 
-    // Adds the constants among words after a list's values, each if it is not listed yet.
+    // Adds the constants among words after a list's values, each if it is not listed yet. The test is no closure for
+    // `add_cells` too: there it would be a promise of the caller, and the room that is asked for would depend on it.
     fn add_constants(&mut self, list: &mut [u32], words: &[u32])
         requires { (self.old.count + length (constants_among words.now) ≤ length list.old)
             × (self.old.count + length (constants_among words.now) ≤ max_words)

@@ -20,7 +20,8 @@ pub mod bucket;
 mod chain;
 
 // Lists the values of the cells at the start of a buffer, row by row; the rest of the buffer stays. The words and the
-// arities are no struct: `range` has the same words with the arities of `Known`, so one would be built anew there.
+// arities are no struct: their fact `InstanceOf` holds the number of relations, and a ghost field has to be a
+// proposition.
 fn list_cells(words: &[u32], arities: &[u32; 8], buffer: &mut [u32], chains: &mut Chains)
     requires instance_of { InstanceOf arities.now words.now
         × Chained chains.old.heads buffer.old chains.old.count × (chains.old.count ≡ 0) }
@@ -30,7 +31,8 @@ fn list_cells(words: &[u32], arities: &[u32; 8], buffer: &mut [u32], chains: &mu
         (cells_of (rows_from arities.now 0 words.now)) buffer.new chains.new.count }
 {
     let mut i = 0;
-    // A `while`: the step is the row's length, which no range has.
+    // A `while`: the step is the row's length. An iterator would keep the words and the arities beside the place,
+    // and its law would be what this loop keeps, so it would be no plainer.
     while i < words.len() {
         let first = i + 1;
         let next = first + arities[words[i] as usize] as usize;

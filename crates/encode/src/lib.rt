@@ -56,7 +56,8 @@ fn write_records(out: &mut [u8], arities: &[u32; 8], words: &[u32])
 {
     let mut at = 0;
     let mut i = 0;
-    // A `while`: the step is the row's length, which no range has.
+    // A `while`: the step is the row's length. An iterator would keep the words and the arities beside the place,
+    // and its law would be what this loop keeps, so it would be no plainer.
     while i < words.len() {
         let relation = words[i];
         let first = i + 1;

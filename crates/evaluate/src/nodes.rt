@@ -18,7 +18,8 @@ use known::Known;
 use lookup::relation::stands;
 use query::words::NODE_WORDS;
 
-// A question, and what it is asked of.
+// A question, and what it is asked of. That they fit together is no ghost field, which has to be a proposition: `Ready`
+// holds the number of relations.
 #[derive(Clone, Copy)]
 pub struct Asking<'a> {
     pub query: &'a [u32],
@@ -29,6 +30,7 @@ pub struct Asking<'a> {
     pub known: &'a Known,
 }
 
+// A node, an assignment and a budget are no struct: each call has another node, and most another budget.
 impl Asking<'_> {
     // Word j of a node.
     fn word(&self, node: usize, j: usize) -> usize
@@ -131,7 +133,7 @@ impl Asking<'_> {
         Evaluated::Verdict(truth, cost)
     }
 
-    // As a function of its own it takes half as long again.
+    // As a function of its own it takes half as long again (`make builds`, the nested quantifiers).
     #[cycle(evaluation)]
     #[inline(always)]
     fn walk(&self, node: usize, junction: Junction, env: &mut [u32; 16], budget: u32) -> Evaluated
@@ -178,6 +180,7 @@ impl Asking<'_> {
         ensures kept { env.new ≡ env.old }
         ensures right { RightFor self.now node env.old budget result }
     {
+        // By number: the kinds are words that C writes, and the project names this `match`.
         let kind = self.word(node, 0);
         match kind {
             1 => self.atom(node, env, budget),

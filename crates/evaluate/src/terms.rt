@@ -46,6 +46,7 @@ pub fn asked_row(query: &[u32], node: usize, arity: usize, env: &[u32; 16]) -> [
     ensures { result ≡ padded max_columns (values env.now (terms_at query.now node 2 arity)) }
 {
     let mut row = [0u32; 6];
+    // By index: a term and its cell stand at two indices.
     for j in 0..arity {
         row[j] = term(query, node, 2 + j, env);
     }

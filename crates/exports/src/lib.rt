@@ -1,5 +1,6 @@
 // The calls for a host in C, on numbers and slices: each returns 0 if it is accepted, otherwise the number of the
-// refusal. C has no `Result`, so each call tests its header slice itself and returns numbers, without `?`.
+// refusal. C has no `Result`: a function that gave the header or 41 would be matched in each call, and be no plainer
+// than the test of the slice's length that stands there.
 
 #![tactic(auto)]
 

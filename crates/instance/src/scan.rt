@@ -44,7 +44,8 @@ fn scan_words(relations: u32, arities: &[u32; 8], counts: &[u32; 8], words: &[u3
     let mut relation = 0;
     let mut arity = arities[0] as usize;
     let mut i = 0;
-    // A `while`: the step is the row's length, which no range has.
+    // A `while`: the step is the row's length. An iterator would keep the words and the arities beside the place,
+    // and its law would be what this loop keeps, so it would be no plainer.
     while i < words.len() {
         let w = words[i];
         if w != relation {

@@ -8,6 +8,7 @@ ghost use Rattle.known.specs.Known.{max_places, flag_words, count_in, arities_in
 ghost use Rattle.known.specs.Known.{flag_at, gap_at, Gap, Flagged};
 
 // The flags stand 32 to a word, the first in its lowest bit. A walk passes over the places whose flag stands.
+// The counts and the arities are two arrays, and no pairs: they are the header's, which C lends so.
 #[derive(Drop)]
 pub struct Known {
     // a relation's number of rows

@@ -18,6 +18,7 @@ fn ask_instance(parts: &Parts<'_>, header: Header, instance: &[u32]) -> Asked
     requires { WholeNumbers parts.now }
     ensures { result ≡ asked_instance (fields_in parts.now) header instance.now }
 {
+    // arrays with a count: there is no heap
     let mut words = [0u32; LOOKED_AT];
     let count = (parts.words.len() / 4).min(LOOKED_AT);
     numbers(&mut words, parts.words, 0, 4, count);

@@ -19,7 +19,7 @@ mod fields;
 mod text;
 
 // Writes the line for an input, and returns its length; if `out` has fewer than LINE bytes, nothing is written and 0 is
-// returned.
+// returned. No `Option`: the clauses `length` and `bytes` promise the 0 and an unchanged slice.
 pub fn line(input: &[u8], out: &mut [u8]) -> usize
     ensures length { result ≡ line_length input.now out.old }
     ensures bytes { out.new ≡ line_out input.now out.old }

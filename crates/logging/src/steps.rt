@@ -1,4 +1,5 @@
-// The calls that use the log, each with what it returned, and the plot and the log afterwards.
+// The calls that use the log, each with what it returned, and the plot and the log afterwards. They take what the calls
+// take, one by one, so that a reader sees each call as it is made.
 use instance::header::Header;
 use std::io;
 use substitute_logged::substitute_logged;

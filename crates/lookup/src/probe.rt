@@ -19,7 +19,8 @@ pub struct Probe {
     pub failed: u32,
 }
 
-// How low a cell must be to tell by itself, if it differs from the asked one, that its row need not be compared.
+// How low a cell must be to tell by itself, if it differs from the asked one, that its row need not be compared. A
+// number and no enum: one comparison with the cell tells.
 fn limit(possible: bool, cell: u32) -> u32
     ensures { result ≡ limit_of possible cell }
 {

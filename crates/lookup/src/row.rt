@@ -1,4 +1,5 @@
-// Compares an asked row with the row at a place of an instance's words, which is read where it stands.
+// Compares an asked row with the row at a place of an instance's words, which is read where it stands. The words, the
+// place and the row are no struct, since each call has another place.
 ghost use Rattle.std.specs.Prelude.{◌≡◌, ◌+◌, ◌≤◌, length, [], ◌∷◌};
 ghost use Rattle.calculus.specs.Unify.{bind, unifies_with};
 ghost use Rattle.instance.specs.Header.{max_columns};
@@ -61,6 +62,7 @@ fn unify_more(row: &[u32], found: &[u32], first: Binding, second: Binding) -> Ma
     let mut bindings = [first; 6];
     bindings[1] = second;
     let mut count = 2;
+    // By index, as in `unify`: both rows are read at it.
     for i in 0..row.len() {
         let x = put_through(&bindings[..count], row[i]);
         let y = put_through(&bindings[..count], found[i]);
@@ -75,11 +77,13 @@ fn unify_more(row: &[u32], found: &[u32], first: Binding, second: Binding) -> Ma
     Match::Unifies
 }
 
-// Whether two rows unify after a binding. There is no place for further bindings until a second null has to be bound.
+// Whether two rows unify after a binding. There is no place for further bindings until a second null has to be bound:
+// as one function with the last this would make their array for each row with a null.
 fn unify(row: &[u32], found: &[u32], first: Binding) -> Match
     requires { (length found.now ≡ length row.now) × (length row.now + 1 ≤ max_columns) }
     ensures { result ≡ unified (unifies_with (through (first ∷ [])) row.now found.now) }
 {
+    // By index: the rest of both rows is cut there.
     for i in 0..row.len() {
         let x = first.apply(row[i]);
         let y = first.apply(found[i]);
@@ -98,6 +102,7 @@ pub fn alike(words: &[u32], place: usize, row: &[u32]) -> usize
     requires { place + (1 + length row.now) ≤ length words.now }
     ensures { result ≡ alikeOf row.now (cells_at words.now place (length row.now)) }
 {
+    // By index: it is the answer too.
     for i in 0..row.len() {
         if row[i] != words[place + 1 + i] {
             return i;
@@ -120,7 +125,7 @@ pub fn compare(words: &[u32], place: usize, row: &[u32]) -> Match
     }
     let found = &words[place + 1..place + 1 + row.len()];
     // Not by `Binding::between`: the compiler then makes both bindings for each row, and rows with nulls take a quarter
-    // longer.
+    // longer (`make builds`, 50 rows asked).
     let (asked, cell) = (row[i], found[i]);
     let first = if CONSTANTS <= asked {
         Binding { null: asked, cell }

@@ -1,4 +1,7 @@
 // Finds the rows of a relation one after another, in the order in which they stand among an instance's words.
+//
+// The words, `known` and the relation are no struct, here and in `stands`: their fact `RowsLeft` speaks of a place and
+// of a number of rows too, which change from call to call.
 ghost use Rattle.std.specs.Prelude.{◌≡◌, ℕ, suc, ◌+◌, ◌<◌, Bool, List, get_or, take, drop};
 ghost use Rattle.calculus.specs.Closed.{tuples};
 ghost use Rattle.instance.specs.Rows.{rows_from};
@@ -9,7 +12,7 @@ ghost use Rattle.lookup.specs.Passing.{RowsLeft, told_apart, passing, words_pass
 use known::Known;
 
 // The place of a row, and how many rows of its relation are left from there on. With no row left it is the place after
-// the last that was passed over, so this is no Option.
+// the last that was passed over, which the clause `place` of `next_near` promises, so this is no `Option`.
 #[derive(Clone, Copy)]
 pub struct Near {
     pub place: usize,
@@ -32,7 +35,8 @@ fn next_row(words: &[u32], known: &Known, relation: u32, place: usize) -> usize
     let mut step = 0;
     let mut i = place;
     let mut w = words[i];
-    // A `while`: the step is the length of the row there, which no range has.
+    // A `while`: the step is the length of the row there. An iterator would keep the words and what is known of them
+    // beside the place, and its law would be what this loop keeps, so it would be no plainer.
     while w != relation {
         if w != other {
             other = w;
@@ -73,7 +77,8 @@ pub fn next_near(
     let step = 1 + known.arity(relation as usize);
     let mut more = most;
     let mut i = place;
-    // A `while` that counts down: a `for` counts the rows passed over beside those left, and takes a tenth longer.
+    // A `while` that counts down: a `for` counts the rows passed over beside those left, and takes a tenth longer
+    // (`make builds`, 50 rows asked).
     while 0 < more {
         i = next_row(words, known, relation, i);
         let cell = words[i + 1 + column];

@@ -8,7 +8,8 @@ ghost use Rattle.parse.specs.Number.{read_number, read_numbers, numbers_of};
 
 use calculus::refusal::Refusal;
 
-// The byte at index `at`.
+// The byte at index `at`, which is known to be there: `number` of width 1, without its loop. The bound of the width
+// stands in the contracts, and in no type: each caller has a constant.
 pub fn byte(bytes: &[u8], at: usize) -> u32
     requires { at < length bytes.now }
     ensures { (result ≡ get_or bytes.now at 0) × (result < 256) }

@@ -24,6 +24,7 @@ fn read_full<R: Read>(from: &mut R, buffer: &mut [u8]) -> usize
 
 // Reads one byte past the limit, to detect input that is too long.
 fn main(rt: HostRuntime) -> io::Result<()> {
+    // an array with a count: there is no heap
     let mut input = [0u8; INPUT + 1];
     let n = read_full(&mut rt.stdin(), &mut input);
     let mut out = [0u8; LINE];

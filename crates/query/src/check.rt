@@ -12,7 +12,8 @@ use calculus::refusal::Refusal;
 use instance::cells::are_cells;
 use instance::header::{COLUMNS, Header};
 
-// Checks the nodes in order, up to the first refusal.
+// Checks the nodes in order, up to the first refusal. That the header is well formed stands in the contracts, here and
+// in the steps, and in no type: the public calls take any header, so a type would be made and taken apart in one call.
 fn check_nodes(header: &Header, query: &[u32], scopes: &mut Scopes) -> Result<(), Refusal>
     requires well_formed { header_well_formed header.now.relations header.now.arities ≡ true }
     requires few { node_count query.now ≤ max_nodes }

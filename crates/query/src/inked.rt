@@ -11,6 +11,7 @@ pub fn terms_start(query: &[u32], node: usize) -> usize
     requires { (node_count query.now * node_words ≡ length query.now) × (node < node_count query.now) }
     ensures { result ≡ node * node_words + first_term (kind_of (word_at query.now node 0)) }
 {
+    // The kinds are numbers, here and in `count`: C writes them so, and the project names the `match` on them.
     if query[node * NODE_WORDS] == 1 {
         return node * NODE_WORDS + 2;
     }

@@ -1,5 +1,5 @@
 // What the check keeps for each of 100 nodes: whether an earlier node names it, and the variables that are bound there,
-// as a mask with bit v for variable v.
+// as a mask with bit v for variable v. Two arrays of 100 entries, and none of `Option`s: the project names them.
 ghost use Rattle.std.specs.Prelude.{◌≡◌, ◌<◌, ◌≤◌};
 ghost use Rattle.instance.specs.Header.{max_columns};
 ghost use Rattle.query.specs.Words.{max_nodes};

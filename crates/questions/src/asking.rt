@@ -13,7 +13,8 @@ const SOME: u32 = 6;
 
 const EVERY: u32 = 7;
 
-// Asks a question, and shows the answer and the working list afterwards; then asks it without a list.
+// Asks a question, and shows the answer and the working list afterwards; then asks it without a list. The parameters,
+// here and below, are those of the call that is shown, one by one.
 pub fn listed(
     rt: &impl Print,
     name: &str,

@@ -91,26 +91,21 @@ pub fn two_columns(rt: &impl Print) -> io::Result<()> {
 
 // A question of four nodes that asks rows of both sheets for each value in turn: 5, 7, 6, m1 and 9.
 pub fn every_value(rt: &impl Print) -> io::Result<()> {
-    let mut query = [0u32; 32];
-    // every x0
-    query[0] = 7;
-    query[2] = 1;
-    // node 2 or node 3
-    query[8] = 5;
-    query[9] = 2;
-    query[10] = 3;
-    // (x0) is in sheet 0
-    query[16] = 1;
-    query[18] = 2_000_000;
-    // (x0) is in sheet 1
-    query[24] = 1;
-    query[25] = 1;
-    query[26] = 2_000_000;
+    let nodes = [
+        // every x0
+        [7u32, 0, 1, 0, 0, 0, 0, 0],
+        // node 2 or node 3
+        [5, 2, 3, 0, 0, 0, 0, 0],
+        // (x0) is in sheet 0
+        [1, 0, 2_000_000, 0, 0, 0, 0, 0],
+        // (x0) is in sheet 1
+        [1, 1, 2_000_000, 0, 0, 0, 0, 0],
+    ];
     let mut list = [9u32; 8];
     let answer = ask(
         two_sheets(1, 1, 12, 5, 1),
         &ROWS,
-        &query,
+        nodes.as_flattened(),
         &[],
         &mut list,
         100,

@@ -13,6 +13,7 @@ fn chain(n: usize, last: [u32; 3]) -> [u32; 808]
     ensures { length result ≡ 808 }
 {
     let mut query = [0u32; 808];
+    // By number: each node names the next one.
     for i in 0..n {
         let at = i * 8;
         query[at] = 7;

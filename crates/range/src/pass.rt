@@ -52,7 +52,7 @@ fn pass_again(words: &[u32], known: &mut Known, heads: &mut [u16; 512], place: u
 {
     let cell = words[place];
     let bucket = bucket_of(cell) / 2;
-    let head = heads[bucket] as usize;
+    let head = usize::from(heads[bucket]);
     heads[bucket] = (place + 1) as u16;
     if stood_earlier(words, known, place, cell, head) {
         known.pass(place);
@@ -71,6 +71,7 @@ pub fn pass_cells(words: &[u32], known: &mut Known, heads: &mut [u16; 512])
         (unpassed known.new 0 words.now) (length words.now) }
 {
     let mut left = 0;
+    // By index: it is the place whose flag is set.
     for i in 0..words.len() {
         if left == 0 {
             left = known.arity(words[i] as usize);

@@ -40,7 +40,7 @@ impl Asked<'_> {
             return false;
         }
         let w = query[place];
-        let head = self.heads[bucket_of(w) / 2] as usize;
+        let head = usize::from(self.heads[bucket_of(w) / 2]);
         if stood_earlier(self.words, known, self.words.len(), w, head) {
             return false;
         }

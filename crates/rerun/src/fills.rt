@@ -12,7 +12,8 @@ use instance::header::Header;
 use substitute::{replace, substitute};
 use substitute_logged::substitute_logged;
 
-// A fill that is wanted: a null's number, a cell, and whether it is logged.
+// A fill that is wanted: a null's number, a cell, and whether it is logged. A flag and no closure: C asks for it by a
+// word. The plot and the log are no part of it, and no struct, here and below: they are taken as C lends them.
 #[derive(Clone, Copy)]
 pub struct Wanted {
     pub mark: u32,
@@ -104,6 +105,7 @@ pub fn fill_all(
     ensures answers { answers.new ≡ stored (fills_told header (wanted_of fills.now)
         (filled_with instance.old candidate.old log.old used.old)) answers.old }
 {
+    // By number: a fill and its answer are cut at the same index, and the slice for the answers may be longer.
     for k in 0..fills.len() / 3 {
         let i = 3 * k;
         let next = Wanted::of(fills[i], fills[i + 1], fills[i + 2]);

@@ -30,7 +30,8 @@ pub fn test_fill(header: Header, instance: &[u32], mark: u32, cell: u32) -> Resu
     Ok(())
 }
 
-// A relation's number is below every null, so the pass need not tell relation numbers from cells.
+// A relation's number is below every null, so the pass need not tell relation numbers from cells. The bounds stand in
+// the contracts, here and for logged fills, and in no type: mark and words come as C lends them.
 pub fn replace(words: &mut [u32], mark: u32, cell: u32) -> u32
     requires { (mark ≤ nulls) × (length words.old ≤ max_words) }
     ensures count { result ≡ count_of (null mark) words.old }

@@ -39,9 +39,9 @@ fn note(words: &mut [u32], part: &mut [u32], mark: u32, cell: u32)
 {
     let null = CONSTANTS + mark;
     let mut count = 0;
-    for i in 0..words.len() {
-        if words[i] == null {
-            words[i] = cell;
+    for (i, word) in words.iter_mut().enumerate() {
+        if *word == null {
+            *word = cell;
             part[count] = i as u32;
             count += 1;
         }

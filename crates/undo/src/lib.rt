@@ -25,7 +25,8 @@ fn row_of(words: &[u32], arities: &[u32; 8], relations: u32, from: usize, place:
     ensures { RowOf relations arities.now words.now place result }
 {
     let mut row = from;
-    // A `loop`: the step is the row's length, which no range has, and the place ends it before the words do.
+    // A `loop`: the step is the row's length. An iterator would keep the words and the arities beside the place, and
+    // its law would be what this loop keeps, so it would be no plainer.
     loop {
         let relation = words[row] as usize;
         let next = row + (1 + arities[relation] as usize);

@@ -6,7 +6,7 @@ use mathlib.Core.List.{List, [], ◌∷◌, map}
 use native.Mathlib.Omega.{arith}
 use borrow.Author.Tests.{eq-eqb, ne_eqb}
 use lib.ListN.{length, drop, get_or, set, length-append, length-set}
-use lib.Seq.{drop-length}
+use lib.Seq.{drop-length, set-get_or}
 use Rattle.calculus.specs.Cell.{null, put}
 use Rattle.calculus.specs.Fill.{count_of}
 use Rattle.calculus.proofs.Stores.{written_begin, written_store, written_finish}
@@ -16,7 +16,7 @@ use Rattle.undo_log.proofs.Places.{in_count}
 use Rattle.substitute.proofs.Filling.{filling-starts, filling-here, filling-null, filling-other, filling_ends}
 use Rattle.substitute_logged.proofs.note.Invariants.{then_end, Noting}
 use Rattle.substitute_logged.proofs.note.Goals as goal
-use Rattle.substitute_logged.proofs.note.Goals.{After-loop-i, In-loop-i, then-words-i, else-words-i}
+use Rattle.substitute_logged.proofs.note.Goals.{After-loop-i, In-loop-i, then-word-null, else-word-null}
 
 by_words_part : {A B : Type 0} → A × B → record { words : A; part : B }
 by_words_part p = record { words = p.0; part = p.1 }
@@ -55,19 +55,19 @@ module _ (c : In-loop-i) where
   at_other ne = rw (in-drop-step (null m) was i (omega arith), ne_eqb _ _ (λ e. ne (sym here ∙ e))) at c.loop-i.invariant.1
 
 pub bounds-part-count : goal.bounds-part-count
-bounds-part-count c = let w = at_null (goal.at.bounds-part-count c).In-loop-i c.if-words-i.true in omega arith
+bounds-part-count c = let w = at_null (goal.at.bounds-part-count c).In-loop-i c.if-word-null.true in omega arith
 
 pub loop-i-preserved : goal.loop-i-preserved
 loop-i-preserved c =
     let b = (goal.at.loop-i-preserved c).In-loop-i in
-    elim c.if-words-i.branch [
-      | then-words-i w ↦ rw (w.words-is, w.part-is, w.count-is) (
-        filling-null _ _ _ (omega arith) c.loop-i.invariant.0 w.if-words-i.true,
-        written_store _ refl (at_null b w.if-words-i.true),
+    elim c.if-word-null.branch [
+      | then-word-null w ↦ rw (w.words-is, w.part-is, w.count-is) (
+        filling-null _ _ _ (omega arith) c.loop-i.invariant.0 w.if-word-null.true,
+        written_store _ refl (at_null b w.if-word-null.true),
       )
-      | else-words-i w ↦ rw (w.words-is, w.part-is, w.count-is) (
-        filling-other _ _ _ (omega arith) c.loop-i.invariant.0 w.if-words-i.false,
-        at_other b w.if-words-i.false,
+      | else-word-null w ↦ rw (w.words-is, w.part-is, w.count-is, set-get_or) (
+        filling-other _ _ _ (omega arith) c.loop-i.invariant.0 w.if-word-null.false,
+        at_other b w.if-word-null.false,
       )
     ]
 

@@ -60,7 +60,7 @@ stood_earlier-requires c =
     let b = (goal.at.stood_earlier-requires c).After-bucket_of-bucket in
     let p = b.requires.place_in in record {
       place_in = (omega (arith, p.0), p.1);
-      head = found b;
+      head = rw c.from-head.ensures (found b);
     }
 
 pub returns-then-stood_earlier : goal.returns-then-stood_earlier

@@ -10,12 +10,12 @@ use Rattle.domain.specs.Bucket.{bucket_of}
 use Rattle.domain.specs.Chains.{link_unit, values_of, Chain, Chained, Added}
 use Rattle.domain.proofs.Chains.{chained_more, added_new, added_old}
 use Rattle.domain.proofs.chain.Chains.add_value.Goals as goal
-use Rattle.domain.proofs.chain.Chains.add_value.Goals.{After-bucket_of-bucket, Start}
+use Rattle.domain.proofs.chain.Chains.add_value.Goals.{After-bucket_of-bucket}
 
 by_chained_added : {A B : Type 0} → A × B → record { chained : A; added : B }
 by_chained_added p = record { chained = p.0; added = p.1 }
 
-module _ (c : Start) where
+module _ (c : After-bucket_of-bucket) where
   abbrev list : List ℕ
   list = c.args.list.now
 
@@ -38,24 +38,23 @@ module _ (c : Start) where
       × Added list n (cell ∷ []) (set list n (cell + link_unit * get_or heads bucket 0)) (n + 1)
   more bucket e new = rw e (chained_more c.requires.3 c.requires.0 cell c.requires.2, added_new c.requires.3 c.requires.0 cell c.requires.2 new)
 
-abbrev found : (c : After-bucket_of-bucket) → Chain (list c.before.before.before) (cell c.before.before.before) (n c.before.before.before) (get_or (heads c.before.before.before) c.bucket_of-bucket.result 0)
-found c = start c.before.before.before c.bucket_of-bucket.result c.bucket_of-bucket.ensures
+  found : Chain list cell n (get_or heads c.bucket_of-bucket.result 0)
+  found = start c.bucket_of-bucket.result c.bucket_of-bucket.ensures
 
 pub find-requires : goal.find-requires
 find-requires c =
     let s = (goal.at.find-requires c).After-bucket_of-bucket in
     let l = (found s).within in
-    (omega arith, λ i d m e. c.requires.3.links i d (omega arith) e, (found s).bucket)
+    rw c.from.ensures (omega arith, λ i d m e. c.requires.3.links i d (omega arith) e, (found s).bucket)
 
 pub returns-then-find : goal.returns-then-find
 returns-then-find c =
-    let b = (goal.at.returns-then-find c).After-bucket_of-bucket in
-    let s = (goal.at.returns-then-find c).Start in record {
-      chained = s.requires.3;
-      added = added_old (list s) (n s) (cell s) ((found b).same ∙ sym c.find.ensures ∙ c.if-find.true);
+    let b = (goal.at.returns-then-find c).After-bucket_of-bucket in record {
+      chained = c.requires.3;
+      added = added_old (list b) (n b) (cell b) ((found b).same ∙ rw c.from.ensures at (sym c.find.ensures ∙ c.if-find.true));
     }
 
 pub returns : goal.returns
 returns c =
     let b = (goal.at.returns c).After-bucket_of-bucket in
-    rw c.from.ensures (by_chained_added (more (goal.at.returns c).Start c.bucket_of-bucket.result c.bucket_of-bucket.ensures ((found b).same ∙ sym c.find.ensures ∙ c.if-find.false)))
+    rw c.from-2.ensures (by_chained_added (more b c.bucket_of-bucket.result c.bucket_of-bucket.ensures ((found b).same ∙ rw c.from.ensures at (sym c.find.ensures ∙ c.if-find.false))))

@@ -35,7 +35,7 @@ pub stood_earlier-requires : goal.stood_earlier-requires
 stood_earlier-requires c =
     let b = (goal.at.stood_earlier-requires c).After-bucket_of in record {
       place_in = (omega arith, b.requires.0.short);
-      head = found b;
+      head = rw c.from-head.ensures (found b);
     }
 
 pub returns-then-stood_earlier : goal.returns-then-stood_earlier
