@@ -110,17 +110,17 @@
  *
  * STACK, in bytes below the caller's own frame, as measured by `make bench` (docs/BENCHMARKS.md):
  *
- *   ask            3,616 for a question of 1 node, and for any of up to 4 levels, where the tests of plot and question
- *                  go deepest; at most 208 more for each further level; 23,512 for 100 nodes in one chain
- *   ask unlisted   3,200 for the same questions; at most 208 more for each further level; 23,096 for 100 nodes in one
+ *   ask            3,392 for a question of 1 node, and for any of up to 4 levels, where the tests of plot and question
+ *                  go deepest; at most 144 more for each further level; 17,176 for 100 nodes in one chain
+ *   ask unlisted   2,960 for the same questions; at most 144 more for each further level; 16,744 for 100 nodes in one
  *                  chain
- *   null counts    1,040
+ *   null counts    1,088
+ *   decode           548
+ *   encode           384
  *   insert           368
- *   encode           304
- *   decode           352
- *   logged fill      272
- *   undo             304
- *   substitute       240
+ *   undo             320
+ *   logged fill      304
+ *   substitute       256
  *
  * LINKING
  *
