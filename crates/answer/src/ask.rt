@@ -47,6 +47,7 @@ fn answer_listed(
     answer_top(&asking, candidate, budget)
 }
 
+// Beside `ask_unlisted`, and not one function with it: both are public calls, which C has as two.
 pub fn ask(
     header: Header,
     instance: &[u32],

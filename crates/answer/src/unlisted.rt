@@ -33,6 +33,7 @@ fn ranging(query: &[u32]) -> bool
     requires { node_count query.now * node_words ≡ length query.now }
     ensures { result ≡ ranges_among query.now (node_count query.now) }
 {
+    // By number: only the first word of each node is read.
     for node in 0..query.len() / NODE_WORDS {
         let kind = query[node * NODE_WORDS];
         if kind == SOME || kind == EVERY {
@@ -58,6 +59,7 @@ fn pass_for(words: &[u32], terms: &Terms, known: &mut Known)
     }
 }
 
+// Beside `ask`, and not one function with it: both are public calls, which C has as two.
 pub fn ask_unlisted(
     header: Header,
     instance: &[u32],

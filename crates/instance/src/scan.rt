@@ -34,7 +34,7 @@ fn tally(counts: &[u32; 8], found: &[u32; 8]) -> Answer
 }
 
 // The number of rows in the words; refused if they are not whole rows of cells, or if a relation has another number of
-// rows than its count.
+// rows than its count. The words and the arities are no struct: nothing is known of the two together before this pass.
 fn scan_words(relations: u32, arities: &[u32; 8], counts: &[u32; 8], words: &[u32]) -> Answer
     requires { (header_well_formed relations arities.now ≡ true) × (length words.now ≤ max_words) }
     ensures { result ≡ scanned_words relations arities.now counts.now words.now }

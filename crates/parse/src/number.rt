@@ -8,8 +8,7 @@ ghost use Rattle.parse.specs.Number.{read_number, read_numbers, numbers_of};
 
 use calculus::refusal::Refusal;
 
-// The byte at index `at`, which is known to be there: `number` of width 1, without its loop. The bound of the width
-// stands in the contracts, and in no type: each caller has a constant.
+// The byte at index `at`, which is known to be there: `number` of width 1, without its loop.
 pub fn byte(bytes: &[u8], at: usize) -> u32
     requires { at < length bytes.now }
     ensures { (result ≡ get_or bytes.now at 0) × (result < 256) }
@@ -29,7 +28,8 @@ pub fn byte_if_any(bytes: &[u8], at: usize) -> Result<u32, Refusal>
         .ok_or(Refusal::CutShort)
 }
 
-// The number in `width` bytes from index `at`.
+// The number in `width` bytes from index `at`. The bound of the width stands in the contracts, and in no type: it would
+// be made and taken apart in one call.
 pub fn number(bytes: &[u8], at: usize, width: usize) -> u32
     requires narrow { width ≤ 4 }
     requires within { at + width ≤ length bytes.now }

@@ -21,8 +21,8 @@ pub fn right_length(query: &[u32]) -> bool
     NODE_WORDS <= query.len() && query.len() <= QUERY_WORDS && query.len() % NODE_WORDS == 0
 }
 
-// One node of a question of at most 100 nodes, which the check alone asks for. A scope's mask is no field: a
-// quantifier's child gets another one.
+// One node of a question of at most 100 nodes, which the check alone asks for, so that other readers of a node's words
+// stay as they are. A scope's mask is no field: a quantifier's child gets another one.
 #[derive(Clone, Copy)]
 pub(crate) struct Node<'a> {
     pub(crate) query: &'a [u32],

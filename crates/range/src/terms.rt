@@ -18,7 +18,8 @@ use known::Known;
 use query::inked::{Terms, terms_start};
 use query::words::NODE_WORDS;
 
-// A question's words, those of the instance before them, and the heads of the instance's cells.
+// A question's words, those of the instance before them, and the heads of the instance's cells. What is known is no
+// field, and the fact `Asking` no ghost field: the flags differ at each call.
 #[derive(Clone, Copy)]
 struct Asked<'a> {
     words: &'a [u32],

@@ -12,8 +12,8 @@ use instance::header::Header;
 use substitute::{replace, substitute};
 use substitute_logged::substitute_logged;
 
-// A fill that is wanted: a null's number, a cell, and whether it is logged. A flag and no closure: C asks for it by a
-// word. The plot and the log are no part of it, and no struct, here and below: they are taken as C lends them.
+// A fill that is wanted: a null's number, a cell, and whether it is logged. A flag and no closure: a word of the
+// fills asks for it. The plot and the log are no part of it, and no struct: they are taken as other calls take them.
 #[derive(Clone, Copy)]
 pub struct Wanted {
     pub mark: u32,

@@ -31,7 +31,7 @@ pub fn test_fill(header: Header, instance: &[u32], mark: u32, cell: u32) -> Resu
 }
 
 // A relation's number is below every null, so the pass need not tell relation numbers from cells. The bounds stand in
-// the contracts, here and for logged fills, and in no type: mark and words come as C lends them.
+// the contracts, here and for logged fills, and in no type: it would be made and taken apart in one call.
 pub fn replace(words: &mut [u32], mark: u32, cell: u32) -> u32
     requires { (mark ≤ nulls) × (length words.old ≤ max_words) }
     ensures count { result ≡ count_of (null mark) words.old }

@@ -17,7 +17,8 @@ use calculus::refusal::Refusal;
 use instance::header::Header;
 use instance::scan::scan;
 
-// The start of the row that has a place, by a walk from row to row; a row starts at `from`, at or before the place.
+// The start of the row that has a place, by a walk from row to row; a row starts at `from`, at or before the place. The
+// words and the arities are no struct: it would be made and taken apart in one call.
 fn row_of(words: &[u32], arities: &[u32; 8], relations: u32, from: usize, place: usize) -> usize
     requires instance_well_formed { InstanceWellFormed relations arities.now words.now }
     requires row_start { RowStart relations arities.now words.now from }
