@@ -1,6 +1,6 @@
 -- The numbers of the refusals. Document 01, "Numbers that come from the input" (10 to 29) and "Numbers that come from the state"
 -- (41 to 46); document 02, request 1 (47 to 49).
-use Rattle.std.specs.Prelude.{ℕ}
+use Rattle.std.specs.Prelude.{ℕ, List, ◌++◌, codes, decimal}
 use Rattle.calculus.specs.declared.refusal.Refusal.{Refusal}
 use Rattle.calculus.specs.declared.refusal.Refusal.TheVariants.{InputTooLong, CutShort, BadRelationCount, BadArity, NoSuchRelation, BitBeyondArity, NotACell, NullsExhausted, BytesLeftOver, BadQueryLength, BadNode, BadChild, UnboundVariable, NoSuchQueryRelation, BadCandidate, WrongRowLength, NoSuchNull, Unsound, NoRoom, NullAbsent, OutputTooShort, BufferTooShort, BudgetSpent, LogTooShort, LogEmpty, BadLog}
 
@@ -137,3 +137,7 @@ refusal_number BudgetSpent = budget_spent
 refusal_number LogTooShort = log_too_short
 refusal_number LogEmpty = log_empty
 refusal_number BadLog = bad_log
+
+-- what is printed of a refusal
+abbrev pub refusal_text : Refusal → List ℕ
+refusal_text why = codes "refused " ++ decimal (refusal_number why)
