@@ -1,4 +1,5 @@
--- `line::fields::find` meets its contract: each field that is read leaves the other fields to read. Assumes nothing.
+-- `line::fields::find` meets its contract: each field that is read leaves the other fields to read. Each early return has a place of its own type, so a
+-- law over the steps up to it would take them as premises; they are cited anew. Assumes nothing.
 use Prim.Native.Nat.{◌/◌}
 use mathlib.Core.Path.{◌≡◌, sym, ◌∙◌}
 use native.Mathlib.Omega.{arith}
