@@ -19,7 +19,7 @@ WITH_SANITIZERS := $(addprefix $(SANITIZED)/,differential plain empty desk desk_
 
 # every test, those on random input and the desk's with sanitizers too; the last line is the total
 c-test: lib $(PROGRAM) $(HOSTS) $(DESK) $(TESTS:%=$(BIN)/%) $(WITH_SANITIZERS)
-	@{ $(MAKE) -s --no-print-directory example desk-start verdicts && \
+	@{ $(MAKE) -s --no-print-directory example outside-names desk-start verdicts && \
 	$(LIMIT) $(BIN)/transcripts $(DESK) $(TRANSCRIPTS) && \
 	$(LIMIT) $(BIN)/transcripts $(SANITIZED)/desk $(PAGE) $(TRANSCRIPTS) && \
 	$(LIMIT) $(BIN)/desk_lines && $(LIMIT) $(SANITIZED)/desk_lines && \
@@ -36,6 +36,11 @@ c-test: lib $(PROGRAM) $(HOSTS) $(DESK) $(TESTS:%=$(BIN)/%) $(WITH_SANITIZERS)
 	@cat target/c/tests.log
 	@awk '/^[0-9]+ passed, [0-9]+ failed$$/ { passed += $$1; failed += $$3 } \
 		END { printf "%d passed, %d failed\n", passed, failed }' target/c/tests.log
+
+# the library needs two names from outside and nothing else
+outside-names: $(LIBRARY)
+	@test "$$(nm -u $(LIBRARY) | awk 'NF == 2 { print $$2 }' | sort -u | tr '\n' ' ')" = 'memcpy memset '
+	@echo "1 passed, 0 failed"
 
 # the desk as a program: it asks for no memory; a script with a byte order mark and CR LF, one that is missing, bytes that
 # are no script, and words that it does not take

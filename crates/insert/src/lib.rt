@@ -40,7 +40,10 @@ fn write_row(part: &mut [u32], relation: u32, cells: &[u32])
     ensures { part.new ≡ relation ∷ cells.now ++ drop (1 + length cells.now) part.old }
 {
     part[0] = relation;
-    part[1..1 + cells.len()].copy_from_slice(cells);
+    // Cell by cell: a copy of a slice whose length is not known calls `memmove`, which the archive for C must not need.
+    for (i, cell) in cells.iter().enumerate() {
+        part[i + 1] = *cell;
+    }
 }
 
 // Inserts a row after the words in use.
