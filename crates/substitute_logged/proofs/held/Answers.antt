@@ -1,24 +1,33 @@
--- `substitute_logged::held` meets its contract: the chain counts the words that are the null. Assumes nothing.
-use Rattle.std.proofs.Common.{◌≡◌, ◌∙◌, rules, arith}
-use lib.Dec.{eqb}
-use borrow.Author.Tests.{tests}
-use Rattle.std.proofs.lemmas.Iterator.{YieldsList-from_slice}
-use Rattle.std.proofs.lemmas.Iterator.Consumers.{YieldsList-from_filter, count_from_yields_List}
+-- `substitute_logged::held` meets its contract: `count` plus the count in the words that are left is the count in all words. Assumes nothing.
+use mathlib.Core.Path.{◌≡◌}
+use native.Mathlib.Omega.{arith}
+use borrow.Author.Tests.{eq-eqb, ne_eqb}
+use lib.ListN.{length, drop}
+use lib.Seq.{drop-length}
 use Rattle.calculus.specs.Cell.{null}
 use Rattle.calculus.specs.Fill.{count_of}
-use Rattle.calculus.proofs.Counts.{count_of_filter, count_of_le}
+use Rattle.calculus.proofs.Counts.{countOf-drop-step}
 use Rattle.substitute_logged.proofs.held.Goals as goal
-use Rattle.substitute_logged.proofs.held.Goals.{After-count}
+use Rattle.substitute_logged.proofs.held.Goals.{then-word-null, else-word-null}
 
-counted : (c : After-count) → c.count.result ≡ count_of (null c.args.mark) c.args.words.now
-counted c =
-    count_from_yields_List _ _ c.count.ensures.ran
-    (YieldsList-from_filter _ (λ w. eqb w (null c.args.mark)) (YieldsList-from_slice c.args.words.now cc) c.filter.ensures.closure
-    (λ x b q k. search (rules, tests)))
-    ∙ count_of_filter (null c.args.mark) c.args.words.now
+pub loop-word-init : goal.loop-word-init
+loop-word-init c = (omega arith, omega arith)
 
-pub overflow_cast-result : goal.overflow_cast-result
-overflow_cast-result c = omega (arith, counted (goal.at.overflow_cast-result c).After-count, count_of_le (null c.args.mark) c.args.words.now)
+pub overflow_add-count : goal.overflow_add-count
+overflow_add-count c = omega arith
+
+pub loop-word-preserved : goal.loop-word-preserved
+loop-word-preserved c =
+    let step = countOf-drop-step (null c.args.mark) c.args.words.now c.loop-word.word-index (omega arith) in
+    elim c.if-word-null.branch [
+      | then-word-null w ↦ (omega (arith, w.count-is), omega (arith, w.count-is, simp (eq-eqb _ _ w.if-word-null.true) at step))
+      | else-word-null w ↦ (omega (arith, w.count-is), omega (arith, w.count-is, simp (ne_eqb _ _ w.if-word-null.false) at step))
+    ]
 
 pub returns : goal.returns
-returns c = counted (goal.at.returns c).After-count
+unfolding count_of
+returns c =
+    let was = c.args.words.now in
+    let e : c.loop-word.word-index ≡ length was = omega arith in
+    let z : count_of (null c.args.mark) (drop c.loop-word.word-index was) ≡ 0 = rw (e, drop-length) in
+    omega arith
