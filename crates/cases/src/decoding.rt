@@ -9,7 +9,11 @@ fn show_decode(rt: &impl Print, name: &str, bytes: &[u8]) -> io::Result<()> {
     let mut plot = [7u32; 8];
     let decoded = decode(bytes, &mut plot);
     let header = decoded.map_or(NO_SHEET, |restarted| restarted.header);
-    show::answer(rt, name, decoded.map(|restarted| restarted.header.used))?;
+    show::answer(
+        rt,
+        name.as_bytes(),
+        decoded.map(|restarted| restarted.header.used),
+    )?;
     show::plot(rt, header, &plot)
 }
 

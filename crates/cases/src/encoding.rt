@@ -14,7 +14,7 @@ fn decode_first(rt: &impl Print, bytes: &[u8], size: usize) -> io::Result<()> {
     let decoded = decode(&bytes[..size], &mut plot);
     show::answer(
         rt,
-        "read again",
+        b"read again",
         decoded.map(|restarted| restarted.header.used),
     )?;
     show::words(rt, &plot)
@@ -29,7 +29,7 @@ fn there_and_back(rt: &impl Print, name: &str, bytes: &[u8]) -> io::Result<()> {
     show::words(rt, &plot)?;
     let mut out = [0xEEu8; 30];
     let written = encode(first.header, &plot, &mut out);
-    show::answer(rt, name, written)?;
+    show::answer(rt, name.as_bytes(), written)?;
     show::bytes(rt, &out)?;
     match written {
         Ok(size) => decode_first(rt, &out, size as usize),
@@ -46,7 +46,7 @@ pub fn round_trip(rt: &impl Print) -> io::Result<()> {
 fn write_card(rt: &impl Print, name: &str, n: u32, out: &mut [u8]) -> io::Result<()> {
     let plot = [0u32, 5];
     let answer = encode(one_sheet(1, n, 1), &plot, out);
-    show::answer(rt, name, answer)?;
+    show::answer(rt, name.as_bytes(), answer)?;
     show::bytes(rt, out)
 }
 

@@ -15,7 +15,7 @@ fn enter(
     cells: &[u32],
 ) -> io::Result<()> {
     let answer = insert(header, plot, relation, cells);
-    show::answer(rt, name, answer)
+    show::answer(rt, name.as_bytes(), answer)
 }
 
 // Enters a row of one cell into sheet 0.

@@ -15,7 +15,7 @@ fn fill(rt: &impl Print, name: &str, mark: u32, cell: u32) -> io::Result<()> {
     let mut plot = ROWS;
     let header = one_sheet(2, 6, 2);
     let answer = substitute(header, &mut plot, mark, cell);
-    show::answer(rt, name, answer)?;
+    show::answer(rt, name.as_bytes(), answer)?;
     if answer.is_ok() {
         show::words(rt, &plot)?;
         let mut counts = [9u32; 201];
@@ -47,7 +47,7 @@ pub fn refused(rt: &impl Print) -> io::Result<()> {
 fn unsound(rt: &impl Print) -> io::Result<()> {
     let mut plot = ROWS;
     let answer = substitute(one_sheet(2, 5, 2), &mut plot, 1, 201);
-    show::answer(rt, "a fill of an unsound plot", answer)?;
+    show::answer(rt, b"a fill of an unsound plot", answer)?;
     show::words(rt, &plot)
 }
 
@@ -55,7 +55,7 @@ fn unsound(rt: &impl Print) -> io::Result<()> {
 fn count(rt: &impl Print, name: &str, header: Header, counts: &mut [u32]) -> io::Result<()> {
     let plot = ROWS;
     let answer = null_counts(header, &plot, counts);
-    show::answer(rt, name, answer)
+    show::answer(rt, name.as_bytes(), answer)
 }
 
 pub fn census(rt: &impl Print) -> io::Result<()> {

@@ -10,7 +10,7 @@ use worked::show;
 pub fn two_entries(rt: &impl Print) -> io::Result<()> {
     let mut plot = ROWS;
     let mut log = [9u32; 7];
-    show::heading(rt, "before")?;
+    show::heading(rt, b"before")?;
     show::words(rt, &plot)?;
     show::log(rt, &log)?;
     let mut used = FRESH;

@@ -59,7 +59,7 @@ fn enter(
     cells: &[u32],
 ) -> io::Result<()> {
     let answer = insert(header, plot, 0, cells);
-    show::answer(rt, name, answer)?;
+    show::answer(rt, name.as_bytes(), answer)?;
     state(rt, *header, plot, log, used)
 }
 
@@ -96,7 +96,7 @@ pub fn history(rt: &impl Print) -> io::Result<()> {
     let mut used = FRESH;
     let row = [1_000_001u32, 1_000_002];
     let mut header = two_sheets(2, 1, 5, 1, 1);
-    show::heading(rt, "the start")?;
+    show::heading(rt, b"the start")?;
     state(rt, header, &plot, &log, used)?;
     fill(
         rt,

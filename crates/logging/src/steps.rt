@@ -18,7 +18,7 @@ pub fn show_fill(
     cell: u32,
 ) -> io::Result<()> {
     let answer = substitute_logged(header, plot, log, used, mark, cell);
-    show::logged(rt, name, answer, *used)?;
+    show::logged(rt, name.as_bytes(), answer, *used)?;
     show::words(rt, plot)?;
     show::log(rt, log)
 }
@@ -33,7 +33,7 @@ pub fn show_undo(
     used: &mut usize,
 ) -> io::Result<()> {
     let answer = undo(header, plot, log, used);
-    show::logged(rt, name, answer, *used)?;
+    show::logged(rt, name.as_bytes(), answer, *used)?;
     show::words(rt, plot)?;
     show::log(rt, log)
 }

@@ -9,7 +9,7 @@ use worked::show;
 pub fn latest(rt: &impl Print) -> io::Result<()> {
     let mut plot = [0u32, 0, 201, 1, 201, 1, 5, 1_000_001, 7];
     let log = [2u32, 4, 1, 2, 1, 200, 1];
-    show::heading(rt, "after both fills")?;
+    show::heading(rt, b"after both fills")?;
     show::words(rt, &plot)?;
     show::log(rt, &log)?;
     let mut used = 7;

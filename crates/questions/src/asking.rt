@@ -26,10 +26,10 @@ pub fn listed(
     budget: u32,
 ) -> io::Result<()> {
     let answer = ask(header, plot, query, candidate, list, budget);
-    show::asked(rt, name, answer)?;
+    show::asked(rt, name.as_bytes(), answer)?;
     show::words(rt, list)?;
     let again = ask_unlisted(header, plot, query, candidate, budget);
-    show::asked(rt, "  without a list", again)
+    show::asked(rt, b"  without a list", again)
 }
 
 // The same, with a list that is longer than any plot here needs.

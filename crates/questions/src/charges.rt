@@ -23,7 +23,7 @@ fn stands(
     let query = [1u32, sheet, 2_000_000, 0, 0, 0, 0, 0];
     let mut list = [9u32; 8];
     let answer = ask(header, plot, &query, &[cell], &mut list, budget);
-    show::asked(rt, name, answer)
+    show::asked(rt, name.as_bytes(), answer)
 }
 
 fn one(rt: &impl Print, name: &str, sheet: u32, cell: u32, budget: u32) -> io::Result<()> {
@@ -86,7 +86,7 @@ pub fn two_columns(rt: &impl Print) -> io::Result<()> {
         &mut list,
         100,
     );
-    show::asked(rt, "(5, 7) after (5, 6) and (5, m1)", answer)
+    show::asked(rt, b"(5, 7) after (5, 6) and (5, m1)", answer)
 }
 
 // A question of four nodes that asks rows of both sheets for each value in turn: 5, 7, 6, m1 and 9.
@@ -110,7 +110,7 @@ pub fn every_value(rt: &impl Print) -> io::Result<()> {
         &mut list,
         100,
     );
-    show::asked(rt, "every x: x in sheet 0 or in sheet 1", answer)
+    show::asked(rt, b"every x: x in sheet 0 or in sheet 1", answer)
 }
 
 // The least allowance that suffices, and one look less.

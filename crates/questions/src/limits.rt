@@ -46,7 +46,7 @@ fn chained(
         list,
         budget,
     );
-    show::asked(rt, name, answer)?;
+    show::asked(rt, name.as_bytes(), answer)?;
     let again = ask_unlisted(
         one_sheet(1, used, used / 2),
         plot,
@@ -54,7 +54,7 @@ fn chained(
         &[],
         budget,
     );
-    show::asked(rt, "  without a list", again)
+    show::asked(rt, b"  without a list", again)
 }
 
 // x0 = x0

@@ -52,7 +52,7 @@ fn shown(
         list2,
         budget2,
     );
-    show::reran(rt, name, reran)?;
+    show::reran(rt, name.as_bytes(), reran)?;
     show::words(rt, &plot)?;
     show::words(rt, &candidate)?;
     show::words(rt, &list)?;

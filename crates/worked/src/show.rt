@@ -6,24 +6,28 @@ use instance::header::Header;
 use rerun::reran::Reran;
 use std::io;
 
-pub fn answer(rt: &impl Print, name: &str, answer: Answer) -> io::Result<()> {
+// A name is bytes and not text, which would ask more of callers.
+pub fn answer(rt: &impl Print, name: &[u8], answer: Answer) -> io::Result<()> {
+    rt.write_all(name)?;
     match answer {
-        Ok(n) => println!(rt; "{name}: done {n}"),
-        Err(why) => println!(rt; "{name}: {why}"),
+        Ok(n) => println!(rt; ": done {n}"),
+        Err(why) => println!(rt; ": {why}"),
     }
 }
 
 // The answer of a call that uses the log, and the log's words in use.
-pub fn logged(rt: &impl Print, name: &str, answer: Answer, used: usize) -> io::Result<()> {
+pub fn logged(rt: &impl Print, name: &[u8], answer: Answer, used: usize) -> io::Result<()> {
+    rt.write_all(name)?;
     match answer {
-        Ok(n) => println!(rt; "{name}: done {n}, log used {used}"),
-        Err(why) => println!(rt; "{name}: {why}, log used {used}"),
+        Ok(n) => println!(rt; ": done {n}, log used {used}"),
+        Err(why) => println!(rt; ": {why}, log used {used}"),
     }
 }
 
 // A line that names what the next lines show.
-pub fn heading(rt: &impl Print, name: &str) -> io::Result<()> {
-    println!(rt; "{name}:")
+pub fn heading(rt: &impl Print, name: &[u8]) -> io::Result<()> {
+    rt.write_all(name)?;
+    println!(rt; ":")
 }
 
 fn items(rt: &impl Print, list: &[u32]) -> io::Result<()> {
@@ -72,22 +76,24 @@ pub fn plot(rt: &impl Print, h: Header, list: &[u32]) -> io::Result<()> {
     words(rt, list)
 }
 
-pub fn asked(rt: &impl Print, name: &str, asked: Asked) -> io::Result<()> {
+pub fn asked(rt: &impl Print, name: &[u8], asked: Asked) -> io::Result<()> {
+    rt.write_all(name)?;
     match asked {
-        Ok(verdict) => println!(rt; "{name}: {verdict}"),
-        Err(why) => println!(rt; "{name}: {why}"),
+        Ok(verdict) => println!(rt; ": {verdict}"),
+        Err(why) => println!(rt; ": {why}"),
     }
 }
 
-pub fn reran(rt: &impl Print, name: &str, reran: Result<Reran, Refusal>) -> io::Result<()> {
+pub fn reran(rt: &impl Print, name: &[u8], reran: Result<Reran, Refusal>) -> io::Result<()> {
+    rt.write_all(name)?;
     match reran {
         Ok(runs) => {
             let first = runs.first;
             match runs.second {
-                Ok(second) => println!(rt; "{name}: {first}, then {second}"),
-                Err(why) => println!(rt; "{name}: {first}, then {why}"),
+                Ok(second) => println!(rt; ": {first}, then {second}"),
+                Err(why) => println!(rt; ": {first}, then {why}"),
             }
         }
-        Err(why) => println!(rt; "{name}: {why}"),
+        Err(why) => println!(rt; ": {why}"),
     }
 }
