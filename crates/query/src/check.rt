@@ -2,7 +2,8 @@
 ghost use Rattle.std.specs.Prelude.{◌≡◌, true, ◌≤◌};
 ghost use Rattle.instance.specs.Header.{header_well_formed};
 ghost use Rattle.query.specs.Words.{node_count, max_nodes, right_length};
-ghost use Rattle.query.specs.Check.{check_nodes, check_query};
+ghost use Rattle.calculus.specs.Answer.{number_of};
+ghost use Rattle.query.specs.Check.{check_nodes, check_number, check_query};
 ghost use Rattle.query.specs.Answers.{Answers, checked_as};
 
 use super::node::check_node;
@@ -30,7 +31,9 @@ fn check_nodes(header: &Header, query: &[u32], scopes: &mut Scopes) -> Result<()
 pub fn check(header: &Header, query: &[u32], candidate: &[u32]) -> Result<(), Refusal>
     requires well_formed { header_well_formed header.now.relations header.now.arities ≡ true }
     requires right { right_length query.now ≡ true }
-    ensures { result ≡ checked_as (check_query header.now.relations header.now.arities query.now candidate.now) }
+    ensures answer { result ≡ checked_as (check_query header.now.relations header.now.arities query.now candidate.now) }
+    ensures told { number_of result ≡ check_number (check_query header.now.relations header.now.arities
+        query.now candidate.now) }
 {
     if (COLUMNS as usize) < candidate.len() || !are_cells(candidate) {
         return Err(Refusal::BadCandidate);

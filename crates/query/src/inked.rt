@@ -25,15 +25,16 @@ fn count_constants(words: &[u32]) -> usize
     words.iter().filter(|w| **w < CONSTANTS).count()
 }
 
-// A question with the arities of the relations that its nodes name, so that each node's terms can be found.
+// A question with the arities of the relations that its nodes name, so that each node's terms can be found. Two
+// lifetimes: the terms are a part of the question, and may outlive the loan of the arities.
 #[derive(Clone, Copy)]
-pub struct Terms<'a> {
-    pub query: &'a [u32],
+pub struct Terms<'q, 'a> {
+    pub query: &'q [u32],
     pub arities: &'a [u32; 8],
     ghost has_terms: { HasTerms arities.now query.now },
 }
 
-impl<'a> Terms<'a> {
+impl<'q> Terms<'q, '_> {
     // The number of the question's nodes.
     pub fn nodes(&self) -> usize
         ensures { result ≡ node_count self.now.query.now }
@@ -55,7 +56,7 @@ impl<'a> Terms<'a> {
     }
 
     // A node's terms, as a part of the question.
-    pub fn of(&self, node: usize) -> &'a [u32]
+    pub fn of(&self, node: usize) -> &'q [u32]
         requires { node < node_count self.now.query.now }
         ensures { result.now ≡ terms_of self.now.arities.now self.now.query.now node }
     {

@@ -23,7 +23,7 @@ use query::words::NODE_WORDS;
 #[derive(Clone, Copy)]
 struct Asked<'a> {
     words: &'a [u32],
-    terms: &'a Terms<'a>,
+    terms: &'a Terms<'a, 'a>,
     heads: &'a [u16; 512],
 }
 

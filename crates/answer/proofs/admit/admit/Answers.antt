@@ -1,7 +1,8 @@
 -- `answer::admit::admit` meets its contract: the scan, the length and the check give the refusals. Assumes nothing.
 use mathlib.Core.Path.{◌≡◌, sym, ap, ◌∙◌}
 use mathlib.Core.Bool.{true}
-use Rattle.std.specs.Prelude.{Ok}
+use native.Mathlib.Omega.{arith}
+use Rattle.std.specs.Prelude.{Ok, Err}
 use Rattle.std.proofs.lemmas.Result.{err_from_is_err_and}
 use Rattle.instance.specs.Sound.{sound}
 use Rattle.instance.proofs.Sound.{scanned-sound, scanned-rows, sound_gives}
@@ -33,11 +34,13 @@ returns-in_err-check c =
     let e = is_sound (goal.at.returns-in_err-check c).In_ok-rows in
     let l = sym c.right_length.ensures ∙ c.if-not-right_length.false in
     let p = err_from_is_err_and c.from_residual-in_err-check.result c.from_residual-in_err-check.ensures.1 in
-    rw (p.1, p.2) (sym (check_refused _ _ _ _ e l _ (sym c.check.ensures ∙ c.in_err-check.was)))
+    let was : c.check.result ≡ Err c.in_err-check.field-0.0 = grind arith in
+    rw (p.1, p.2) (sym (check_refused _ _ _ _ e l _ (sym c.check.ensures.answer ∙ was)))
 
 pub returns : goal.returns
 returns c =
     let e = is_sound (goal.at.returns c).In_ok-rows in
     let l = sym c.right_length.ensures ∙ c.if-not-right_length.false in
     let n = scanned-rows _ _ _ (sym c.scan.ensures.answer ∙ c.in_ok-rows.was) in
-    ap Ok (sym n) ∙ sym (check_passed _ _ _ _ e l (sym c.check.ensures ∙ c.in_ok-check.was))
+    let was : c.check.result ≡ Ok tt = grind arith in
+    ap Ok (sym n) ∙ sym (check_passed _ _ _ _ e l (sym c.check.ensures.answer ∙ was))
