@@ -14,7 +14,7 @@ use Rattle.decimal.proofs.Digits.{digits-few}
 use Rattle.line.specs.Text.{line_with, line_feed}
 
 -- a list with a word at the front, if the part after the word was lent and returned
-with_word : (word ds out front part : List ℕ) → length word ≤ length out → front ≡ overwrite word out
+pub with_word : (word ds out front part : List ℕ) → length word ≤ length out → front ≡ overwrite word out
     → part ≡ overwrite ds (take (length front - length word) (drop (length word) front))
     → put_mid (length word) (length front - length word) front part ≡ overwrite (word ++ ds) out
 with_word word ds out front part fits copied came =

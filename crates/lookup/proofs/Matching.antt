@@ -50,9 +50,9 @@ through-more bs n b c l = ap (λ (l : List Binding). through l c) (take_more_set
 
 -- bindings matter only by what they do to each cell
 pub unify-more :
-    (bs : List Binding) (n : ℕ) (b : Binding) → n < length bs → (xs ys : List ℕ) →
-    unifies_with (λ c. bind b.null b.cell (through (take n bs) c)) xs ys ≡ unifies_with (λ c. through (take (n + 1) (set bs n b)) c) xs ys
-unify-more bs n b l xs ys = ap (λ (f : ℕ → ℕ). unifies_with f xs ys) (λ i c. sym (through-more bs n b c l) i)
+    (s : ℕ → ℕ) (bs : List Binding) (n : ℕ) (b : Binding) → n < length bs → (xs ys : List ℕ) →
+    unifies_with (λ c. bind b.null b.cell (through (take n bs) (s c))) xs ys ≡ unifies_with (λ c. through (take (n + 1) (set bs n b)) (s c)) xs ys
+unify-more s bs n b l xs ys = ap (λ (f : ℕ → ℕ). unifies_with f xs ys) (λ i c. sym (through-more bs n b (s c) l) i)
 
 -- two rows from column i on, whose cells there the bindings so far map to a and b
 module _ (s : ℕ → ℕ) (xs ys : List ℕ) (i : ℕ) where

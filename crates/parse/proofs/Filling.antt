@@ -52,7 +52,7 @@ module _ {width count at : ℕ} {bytes out₀ out : List ℕ} {next i : ℕ} (f 
         written = written_store (i + 1) refl (rw (left l, m.1) at f.written);
       }
 
-  fill_end : count ≤ i → out ≡ overwrite (numbers_of width count (drop at bytes)) out₀
+  pub fill_end : count ≤ i → out ≡ overwrite (numbers_of width count (drop at bytes)) out₀
   unfolding read_each
   fill_end l =
       let none : count - i ≡ 0 = omega arith in

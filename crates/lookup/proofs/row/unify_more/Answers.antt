@@ -65,7 +65,7 @@ loop-i-preserved c =
         omega (arith, w.count-is, c.loop-i.invariant.0),
         rw (w.count-is, w.bindings-is)
             (differ b w.if-x-y.true (sym w.in-Some.is ∙ w.between.ensures) ∙
-            unify-more c.loop-i.bindings c.loop-i.count w.in-Some.next (space b) (drop (i b + 1) (row b)) (drop (i b + 1) (found b))),
+            unify-more (λ c. c) c.loop-i.bindings c.loop-i.count w.in-Some.next (space b) (drop (i b + 1) (row b)) (drop (i b + 1) (found b))),
       )
       | else-x-y w ↦ (omega (arith, w.count-is, c.loop-i.invariant.0), rw (w.count-is, w.bindings-is) (alike b w.if-x-y.false))
     ]
