@@ -1,20 +1,19 @@
 -- The fields of an input, read one after the other: the fields so far determine what the whole input is read as. Assumes nothing.
 use Prim.Native.Nat.{ℕ, zero, suc, ◌*◌, ◌≤◌, ◌<◌}
-use mathlib.Core.Path.{◌≡◌, ap, ◌∙◌}
-use mathlib.Core.Bool.{true, false}
+use mathlib.Core.Path.{◌≡◌, sym, ap, ◌∙◌}
+use mathlib.Core.Bool.{true}
 use mathlib.Core.List.{List, [], ◌∷◌, ◌++◌}
 use native.Mathlib.Omega.{arith}
-use borrow.Author.Tests.{le-leb, lt-leb, eqb-true}
+use borrow.Author.Tests.{le-leb, lt-leb, ne_eqb}
 use lib.ListN.{length, take, drop, take-append-drop, drop_of_length-le}
 use lib.Seq.{length-take-le}
-use lib.Dec.{eqb}
 use Rattle.calculus.specs.declared.refusal.Refusal.{Refusal}
 use Rattle.calculus.specs.declared.refusal.Refusal.TheVariants.{CutShort, InputTooLong, BytesLeftOver}
 use Rattle.calculus.specs.Reading.{read, refused, and_then}
 use Rattle.calculus.proofs.Reading.{then_read}
 use Rattle.parse.specs.Parse.{Parsed, read_each, is_read}
 use Rattle.parse.specs.Number.{read_digits, read_number, read_numbers, numbers_of, read_bytes}
-use Rattle.parse.proofs.Numbers.{Takes, bytes_whole, numbers-whole}
+use Rattle.parse.proofs.Numbers.{Takes, took, takes_number, bytes_whole, numbers-whole}
 use Rattle.line.specs.Fields.{Fields, read_fields, wholly, max_input, read_input}
 
 abbrev fields : List ℕ → List ℕ → List ℕ → ℕ → Fields
@@ -108,6 +107,14 @@ module _ (input : List ℕ) where
       → (size ≤ length bs) × (card ≡ take size bs) × (rest ≡ drop size bs) → read_input input ≡ wholly (from_count card rest)
   after_card size bs e p = e ∙ rw (bytes_read size bs p)
 
+  -- the card is the bytes from byte 2 on
+  pub card_place : {size : ℕ} {card rest after : List ℕ} → read_number 2 input ≡ read size rest → (size ≤ length rest) × (card ≡ take size rest) × (after ≡ drop size rest)
+      → take (length card) (drop 2 input) ≡ card
+  card_place {size} {card} {rest} is p =
+      let t = took (takes_number 2) input is in
+      let long : length card ≡ size = ap length p.1 ∙ length-take-le size rest p.0 in
+      rw (long, ← t.1) (sym p.1)
+
   pub after_count : (card bs : List ℕ) {count : ℕ} {rest : List ℕ} → read_input input ≡ wholly (from_count card bs) → read_number 2 bs ≡ read count rest
       → read_input input ≡ wholly (from_words card count rest)
   after_count card bs e is = e ∙ rw is
@@ -128,9 +135,14 @@ module _ (input : List ℕ) where
       → read_input input ≡ wholly (read (fields card words candidate budget) rest)
   after_budget card words candidate bs e is = e ∙ rw is
 
-  pub left_over : (f : Fields) (bs : List ℕ) → read_input input ≡ wholly (read f bs) → eqb (length bs) 0 ≡ false → read_input input ≡ refused BytesLeftOver
-  left_over f bs e some = e ∙ rw some
+  pub left_over : (f : Fields) (bs : List ℕ) → read_input input ≡ wholly (read f bs) → 0 < length bs → read_input input ≡ refused BytesLeftOver
+  left_over f bs e some = e ∙ rw (ne_eqb (length bs) 0 (λ none. omega arith))
 
-  pub ends : (f : Fields) (bs : List ℕ) → read_input input ≡ wholly (read f bs) → eqb (length bs) 0 ≡ true → read_input input ≡ read f []
+  pub ends : (f : Fields) (bs : List ℕ) → read_input input ≡ wholly (read f bs) → length bs ≡ 0 → read_input input ≡ read f []
   ends f [] e none = e
-  ends f (b ∷ bs) e none = absurd (omega (arith, eqb-true (length (b ∷ bs)) 0 none))
+  ends f (b ∷ bs) e none = absurd (omega arith)
+
+  -- the same for the card's bytes by other words
+  pub card_as : (card part : List ℕ) {words candidate : List ℕ} {budget : ℕ} → part ≡ card → read_input input ≡ read (fields card words candidate budget) []
+      → read_input input ≡ read (fields part words candidate budget) []
+  card_as card part is e = rw is e

@@ -37,8 +37,9 @@ pub fn number(bytes: &[u8], at: usize, width: usize) -> u32
     ensures small { result < 256 ^ width }
 {
     let mut number: u32 = 0;
-    for byte in &bytes[at..at + width] {
-        number = number * 256 + u32::from(*byte);
+    // By index: it says in which order the bytes are read.
+    for i in 0..width {
+        number = number * 256 + byte(bytes, at + i);
     }
     number
 }

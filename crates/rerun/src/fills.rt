@@ -35,6 +35,7 @@ impl Wanted {
 }
 
 // A fill of the instance, logged or not.
+#[tactic(auto, unfolding(undo_log::specs::Log::logged_log, undo_log::specs::Log::logged_used))]
 fn fill_instance(
     header: Header,
     instance: &mut [u32],

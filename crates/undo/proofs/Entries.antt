@@ -1,9 +1,8 @@
 -- The latest entry of a log: its places as a slice of the log, and what undo returns. Assumes nothing.
-use Prim.Native.Nat.{ℕ, ◌-◌, ◌≤◌, ◌<◌}
+use Prim.Native.Nat.{ℕ, ◌-◌, ◌<◌}
 use mathlib.Core.Path.{◌≡◌, ap₂}
 use mathlib.Core.Bool.{false, and-false}
 use mathlib.Core.List.{List}
-use native.Mathlib.Omega.{arith}
 use borrow.Author.Tests.{lt-leb}
 use lib.ListN.{take, drop}
 use Rattle.calculus.specs.Answer.{Answer}
@@ -14,14 +13,11 @@ use Rattle.instance.specs.declared.header.Header.{Header}
 use Rattle.undo_log.specs.Log.{last_count, last_places, entry_well_formed, undone}
 use Rattle.undo_log.proofs.Accepted.{undo_accepted}
 
--- the places stand before the mark, as many as the count n says
+-- the places stand before the mark, as many as the count says: a part of the log that starts there, of that length
 pub places-lent :
-    (log : List ℕ) (used n : ℕ) → n ≡ last_count log used → entry_length (last_count log used) ≤ used →
-    take (used - 2 - (used - 2 - n)) (drop (used - 2 - n) log) ≡ last_places log used
-places-lent log used n e l =
-    let size : used - 2 - (used - 2 - n) ≡ last_count log used = omega arith in
-    let start : used - 2 - n ≡ used - entry_length (last_count log used) = omega arith in
-    ap₂ (λ (k i : ℕ). take k (drop i log)) size start
+    (log : List ℕ) (used k i : ℕ) → k ≡ last_count log used → i ≡ used - entry_length (last_count log used) →
+    take k (drop i log) ≡ last_places log used
+places-lent log used k i size start = ap₂ (λ (k i : ℕ). take k (drop i log)) size start
 
 module _ (h : Header) (ws log : List ℕ) (used : ℕ) where
   -- "the words in use .. fall short of the latest note"

@@ -74,4 +74,4 @@ pub returns : goal.returns
 returns c =
     let eight : length c.args.header.now.arities ≡ max_relations = search rules in
     closing _ c.args.count _ c.requires.formed eight c.args.out.now c.loop-i.out c.copy_from_slice.new.self c.loop-i.i c.loop-i-test.false
-    (omega (arith, c.loop-i.auto.i-end)) (c.copy_from_slice.ensures.after ∙ ap (λ (bytes : List ℕ). take 2 (drop 2 bytes)) c.to_be_bytes.ensures) c.loop-i.invariant
+    (omega (arith, c.loop-i.auto.i-end)) (rw c.to_be_bytes.ensures at c.copy_from_slice.ensures.after) c.loop-i.invariant

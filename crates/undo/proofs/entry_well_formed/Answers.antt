@@ -1,7 +1,7 @@
 -- `undo::entry_well_formed` meets its contract: a test that fails makes one part of the definition false, and are_places tests the places. Assumes
 -- nothing.
 use Prim.Native.Nat.{◌≤◌}
-use mathlib.Core.Path.{refl, sym, ap, ◌∙◌}
+use mathlib.Core.Path.{sym, ap, ◌∙◌}
 use mathlib.Core.Bool.{and-false}
 use native.Mathlib.Omega.{arith}
 use borrow.Author.Tests.{le-leb, lt-leb}
@@ -29,7 +29,7 @@ returns-then-end-count c = sym (entry-short _ _ _ _ (omega arith))
 pub returns-then-not-is_mark : goal.returns-then-not-is_mark
 unfolding entry_well_formed
 returns-then-not-is_mark c =
-    let m : is_mark (last_mark c.args.log.now c.args.used) ≡ false = sym c.is_mark.ensures ∙ c.if-not-is_mark.true in
+    let m : is_mark (last_mark c.args.log.now c.args.used) ≡ false = grind arith in
     simp (m, and-false)
 
 pub slice_bounds-are_places-end : goal.slice_bounds-are_places-end
@@ -45,7 +45,7 @@ returns c =
     let used = c.args.used in
     let whole : entry_length (last_count log used) ≤ used = omega arith in
     let in_log = le-leb _ _ c.if-log-used.false in
-    let m : is_mark (last_mark log used) ≡ true = sym c.is_mark.ensures ∙ c.if-not-is_mark.false in
+    let m : is_mark (last_mark log used) ≡ true = grind arith in
     c.are_places.ensures
-    ∙ ap (are_places (rows c.args.header c.args.instance.now)) (places-lent log used _ refl whole)
+    ∙ ap (are_places (rows c.args.header c.args.instance.now)) (places-lent log used _ _ (omega (arith, whole)) (omega (arith, whole)))
     ∙ simp (in_log, le-leb _ _ whole, m)

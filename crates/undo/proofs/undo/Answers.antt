@@ -29,13 +29,13 @@ returns-in_err-count c =
 
 -- what an accepted answer of test_undo says
 module _ (h : Header) (ws log : List ℕ) (used count : ℕ) (u : Undone h ws log used count) where
-  below : (k : ℕ) → k < length (last_places log used) → get_or (last_places log used) k 0 < length ws
-  below k l =
+  below : (ps : List ℕ) → ps ≡ last_places log used → (k : ℕ) → k < length ps → get_or ps k 0 < length ws
+  below ps e k l =
       let s = sound_gives h ws u.is_sound in
-      omega (arith, places_below (rows h ws) (last_places log used) u.entry.places k l, ap length s.words, s.in_use, s.within)
+      omega (arith, places_below (rows h ws) ps (rw e u.entry.places) k l, ap length s.words, s.in_use, s.within)
 
-  lent : take (used - 2 - (used - 2 - count)) (drop (used - 2 - count) log) ≡ last_places log used
-  lent = places-lent log used count u.count u.entry.whole
+  lent : (k i : ℕ) → k ≡ count → i ≡ used - 2 - count → take k (drop i log) ≡ last_places log used
+  lent k i e f = places-lent log used k i (omega (arith, e, u.count)) (omega (arith, f, u.count))
 
 pub overflow_sub-end : goal.overflow_sub-end
 overflow_sub-end c =
@@ -75,7 +75,7 @@ overflow_add-mark c =
 pub put_all-requires : goal.put_all-requires
 put_all-requires c =
     let u = undo_accepted _ _ _ _ _ (sym c.test_undo.ensures ∙ c.in_ok-count.was) in
-    rw (lent _ _ _ _ _ u) (below _ _ _ _ _ u)
+    below _ _ _ _ _ u _ (lent _ _ _ _ _ u _ _ (omega (arith, u.count, u.entry.whole)) (omega arith))
 
 pub returns : goal.returns
 unfolding undone_words undone_used
@@ -88,7 +88,7 @@ returns c =
     let u = undo_accepted _ _ _ _ _ done in by_answer_words_used_told (undo-told h ws log used (
       sym done,
       (
-        simp done (c.put_all.ensures ∙ ap (λ (ps : List ℕ). put_at ps (null (last_mark log used)) ws) (lent _ _ _ _ _ u)),
+        simp done (c.put_all.ensures ∙ ap (λ (ps : List ℕ). put_at ps (null (last_mark log used)) ws) (lent _ _ _ _ _ u _ _ (omega (arith, u.count, u.entry.whole)) (omega arith))),
         simp done (omega (arith, u.count, u.entry.whole)),
       ),
     ))

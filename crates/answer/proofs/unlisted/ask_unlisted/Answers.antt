@@ -7,6 +7,8 @@ use mathlib.Core.List.{List}
 use borrow.Author.Rules.{rules}
 use lib.ListN.{length}
 use Rattle.std.proofs.lemmas.Result.{err_from_is_err_and}
+use Rattle.std.specs.Prelude.{Ok, Err}
+use Rattle.calculus.specs.Answer.{value_of}
 use Rattle.calculus.specs.Model.{outcome_of}
 use Rattle.instance.specs.declared.header.Header.{Header}
 use Rattle.instance.specs.Header.{max_relations}
@@ -36,8 +38,13 @@ told h ws qs cs budget p = record { answer = p; told = ask-told h ws qs cs none 
 
 -- the question is admitted
 module _ (c : In_ok-admit) where
-  passes : Admitted c.args.header c.args.instance.now c.args.query.now c.args.candidate.now c.in_ok-admit.field-0
-  passes = admitted_done _ _ _ _ _ (sym c.admit.ensures ∙ c.in_ok-admit.was)
+  abbrev count : ℕ
+  count = value_of c.admit.result 0
+
+  passes : Admitted c.args.header c.args.instance.now c.args.query.now c.args.candidate.now count
+  passes =
+      let was : c.admit.result ≡ Ok count = grind arith in
+      admitted_done _ _ _ _ _ (sym c.admit.ensures ∙ was)
 
   abbrev given : Sound c.args.header c.args.instance.now
   given = sound_gives c.args.header c.args.instance.now passes.is_sound
@@ -63,9 +70,10 @@ still c = described-kept _ _ _ _ (at-first (goal.at.answer_top-requires c).After
 pub returns-in_err-admit : goal.returns-in_err-admit
 returns-in_err-admit c =
     let p = err_from_is_err_and c.from_residual.result c.from_residual.ensures.1 in
+    let was : c.admit.result ≡ Err c.in_err-admit.field-0.0 = grind arith in
     rw (p.1, p.2)
     (told _ _ _ _ _
-    (refused-asked _ _ _ _ none _ _ (admitted-refused _ _ _ _ none _ (sym c.admit.ensures ∙ c.in_err-admit.was))))
+    (refused-asked _ _ _ _ none _ _ (admitted-refused _ _ _ _ none _ (sym c.admit.ensures ∙ was))))
 
 pub slice_bounds-words-end : goal.slice_bounds-words-end
 slice_bounds-words-end c = sym (given c).in_use

@@ -1,6 +1,6 @@
 -- `decode::measure::measure` meets its contract. The loop's invariant: the answer for all records is the answer for those that are left, with what was
 -- counted so far added. Assumes nothing.
-use Prim.Native.Nat.{ℕ, ◌+◌, ◌-◌}
+use Prim.Native.Nat.{ℕ, ◌+◌, ◌-◌, max}
 use mathlib.Core.Path.{◌≡◌, sym, ◌∙◌}
 use mathlib.Core.List.{List}
 use native.Mathlib.Nat.{sub-zero}
@@ -14,7 +14,7 @@ use Rattle.instance.proofs.Parts.{part_to_end}
 use Rattle.decode.specs.declared.measure.Measured.{Measured}
 use Rattle.decode.specs.Measure.{measured_record}
 use Rattle.decode.proofs.Told.{records-told}
-use Rattle.decode.proofs.Measuring.{Turn, next-turn, measuring_starts, measuring_refused, measuring_ends}
+use Rattle.decode.proofs.Measuring.{Measuring, Turn, next-turn, measuring_starts, measuring_refused, measuring_ends}
 use Rattle.decode.proofs.measure.measure.Goals as goal
 use Rattle.decode.proofs.measure.measure.Goals.{In_ok-measured}
 
@@ -39,6 +39,11 @@ module _ (c : In_ok-measured) where
       next-turn _ _ _ _ _ _ _ _ _ _ c.loop-row.invariant (omega arith) _ _ _ c.requires.formed
       (measured_here c.args.card.now c.loop-row.total.end _ _ _ c.measure_record.ensures.answer ∙ c.in_ok-measured.was)
 
+-- the highest null so far, however it was computed
+with_top : {card ars : List ℕ} {start n count words blank at left : ℕ} (top h : ℕ) {highest : ℕ} → highest ≡ max top h
+    → Measuring card start n ars count words blank (max top h) at left → Measuring card start n ars count words blank highest at left
+with_top top h is m = rw is m
+
 pub overflow_add-total : goal.overflow_add-total
 overflow_add-total c = omega (arith, (here (goal.at.overflow_add-total c).In_ok-measured).narrow)
 
@@ -61,7 +66,7 @@ returns-in_err-measured c =
 pub loop-row-preserved : goal.loop-row-preserved
 loop-row-preserved c =
     let left : c.args.head.now.rows - c.loop-row._row - 1 ≡ c.args.head.now.rows - (c.loop-row._row + 1) = omega arith in
-    rw (c.max.ensures, ← left) (here (goal.at.loop-row-preserved c).In_ok-measured).then
+    with_top c.loop-row.total.highest c.in_ok-measured.measured.highest (omega arith) (rw left at (here (goal.at.loop-row-preserved c).In_ok-measured).then)
 
 pub returns : goal.returns
 returns c = by_answer_told (records-told _ _ (sym (measuring_ends _ _ _ _ _ _ _ _ _ _ c.loop-row.invariant (omega arith))))

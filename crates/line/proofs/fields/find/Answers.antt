@@ -1,12 +1,13 @@
 -- `line::fields::find` meets its contract: each field that is read leaves the other fields to read. Each early return has a place of its own type, so a
 -- law over the steps up to it would take them as premises; they are cited anew. Assumes nothing.
-use Prim.Native.Nat.{◌/◌}
+use Prim.Native.Nat.{◌/◌, ◌<◌}
 use mathlib.Core.Path.{◌≡◌, sym, ◌∙◌}
 use native.Mathlib.Omega.{arith}
-use lib.ListN.{length}
+use lib.ListN.{length, length-take}
+use Rattle.std.proofs.lemmas.Bool.Decides.{nat_tests}
 use Rattle.std.proofs.lemmas.Result.{err_from_is_err_and}
 use Rattle.parse.proofs.Numbers.{takes_numbers, takes_bytes}
-use Rattle.line.proofs.Finding.{too_long, begins, numbers_read, stops, cut, after_size, after_card, after_count, after_words, after_arity, after_cells, after_budget, left_over, ends}
+use Rattle.line.proofs.Finding.{too_long, begins, numbers_read, stops, cut, after_size, after_card, after_count, after_words, after_arity, after_cells, after_budget, left_over, ends, card_place, card_as}
 use Rattle.line.proofs.fields.find.Goals as goal
 
 pub returns-then-input-gt-INPUT : goal.returns-then-input-gt-INPUT
@@ -83,7 +84,8 @@ returns-then-not-is_empty c =
     let cells = numbers_read 3 _ _ c.in_ok-cells.ensures in
     let celled = after_cells _ _ _ _ _ valued cells in
     let allowed = after_budget _ _ _ _ _ celled c.in_ok-budget.ensures.read in
-    left_over _ _ _ allowed (sym c.is_empty.ensures ∙ c.if-not-is_empty.true)
+    let some : 0 < length c.in_ok-budget.rest.now = grind (arith, nat_tests, length-take, sym c.is_empty.ensures ∙ c.if-not-is_empty.true) in
+    left_over _ _ _ allowed some
 
 pub returns : goal.returns
 returns c =
@@ -97,7 +99,9 @@ returns c =
     let celled = after_cells _ _ _ _ _ valued cells in
     let allowed = after_budget _ _ _ _ _ celled c.in_ok-budget.ensures.read in
     let count : length c.in_ok-words.words.now / 4 ≡ c.in_ok-count.count = omega (arith, words.long) in
-    let arity : length c.in_ok-cells.cells.now / 3 ≡ c.in_ok-arity.arity = omega (arith, cells.long) in (
-      rw (count, arity) (ends _ _ _ allowed (sym c.is_empty.ensures ∙ c.if-not-is_empty.false)),
+    let arity : length c.in_ok-cells.cells.now / 3 ≡ c.in_ok-arity.arity = omega (arith, cells.long) in
+    let place = card_place _ c.in_ok-size.ensures.read c.in_ok-card.ensures in
+    let none : length c.in_ok-budget.rest.now ≡ 0 = grind (arith, nat_tests, length-take, sym c.is_empty.ensures ∙ c.if-not-is_empty.false) in (
+      rw (count, arity) (card_as _ c.in_ok-card.card.now _ (grind (arith, place)) (ends _ _ _ allowed none)),
       record { words = rw count words.whole; cells = rw arity cells.whole; few = rw arity c.in_ok-arity.ensures.small },
     )

@@ -4,7 +4,7 @@ use mathlib.Core.Path.{◌≡◌, refl, sym, ap, ◌∙◌}
 use mathlib.Core.List.{List}
 use native.Mathlib.Omega.{arith}
 use borrow.Author.Tests.{lt-ltb, le-ltb}
-use lib.ListN.{length, get_or, take, drop}
+use lib.ListN.{length, get_or, take, drop, length-take, length-drop}
 use Rattle.std.specs.Prelude.{Option, Some, None}
 use Rattle.calculus.specs.Cell.{constants}
 use Rattle.lookup.specs.declared.row.Binding.{Binding}
@@ -87,7 +87,9 @@ pub offset_bounds-found-i : goal.offset_bounds-found-i
 offset_bounds-found-i c = let b = (goal.at.offset_bounds-found-i c).After-alike-i in omega (arith, inside b c.if-i-row.false)
 
 pub bounds-found-i : goal.bounds-found-i
-bounds-found-i c = let b = (goal.at.bounds-found-i c).After-alike-i in rw (found b) (omega (arith, inside b c.if-i-row.false, size b))
+bounds-found-i c =
+    let b = (goal.at.bounds-found-i c).After-alike-i in
+    simp (length-take, length-drop) (omega (arith, inside b c.if-i-row.false, (start b).requires.0))
 
 pub returns-else-cell-ge-CONSTANTS : goal.returns-else-cell-ge-CONSTANTS
 returns-else-cell-ge-CONSTANTS c =

@@ -3,6 +3,7 @@ use Prim.Native.Nat.{◌+◌, ◌-◌}
 use mathlib.Core.Path.{◌≡◌, refl, ◌∙◌}
 use native.Mathlib.Omega.{arith}
 use borrow.Author.Rules.{rules}
+use Rattle.std.specs.Prelude.{Ok, Err}
 use Rattle.query.specs.Words.{node_count}
 use Rattle.query.specs.Check.{Checked, check_node, check_nodes}
 use Rattle.calculus.specs.Reading.{and_then}
@@ -23,12 +24,17 @@ module _ (c : After-check_node) where
 pub returns-in_err-check_node : goal.returns-in_err-check_node
 returns-in_err-check_node c =
     let d = (goal.at.returns-in_err-check_node c).After-check_node in
-    rw (seen d, answers-refused (check d) _ _ c.in_err-check_node.ensures) (search rules)
+    let was : c.check_node.result ≡ Err c.in_err-check_node.field-0.0 = search rules in
+    let back : c.from_residual.result ≡ Err c.in_err-check_node.field-0.0 = search rules in
+    let e = rw was at c.check_node.ensures in
+    rw (seen d, answers-refused (check d) _ _ e) back
 
 pub loop-number-preserved : goal.loop-number-preserved
 loop-number-preserved c =
     let d = (goal.at.loop-number-preserved c).After-check_node in
-    seen d ∙ rw (answers-passed (check d) c.check_node.new.scopes c.in_ok-check_node.ensures) refl
+    let was : c.check_node.result ≡ Ok tt = grind arith in
+    let e = rw was at c.check_node.ensures in
+    seen d ∙ rw (answers-passed (check d) c.check_node.new.scopes e) refl
 
 pub returns : goal.returns
 unfolding check_nodes

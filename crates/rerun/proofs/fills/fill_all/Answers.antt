@@ -21,14 +21,15 @@ loop-k-preserved c =
     let w = wanted_at args.fills.now i in
     let more : i + 2 < length args.fills.now = omega (arith, c.loop-k-test.true) in
     let fits : i ≤ length out = omega (arith, more, c.loop-k.auto.answers, c.requires.1) in
+    let e : 3 * (at.k + 1) ≡ i + 3 = omega arith in
+    let left = c.fill-answer.ensures.left ∙ ap (λ (x : Wanted). fill_leaves args.header x before) (grind arith) in
+    let told = c.fill-answer.ensures.answer ∙ ap (λ (x : Wanted). fill_told args.header x before) (grind arith) in
     let stored =
     put_to_end out i c.store.new.answers fits
     ∙ ap (λ (l : List ℕ). take i out ++ l) c.store.ensures
     ∙ ap (λ (l : List ℕ). take i out ++ (answer_words c.of-next.result c.fill-answer.result ++ drop 3 l)) (part_to_end out i)
-    ∙ ap (λ (a : Answer). take i out ++ (answer_words c.of-next.result a ++ drop 3 (drop i out))) c.fill-answer.ensures.answer
-    ∙ ap (λ (x : Wanted). take i out ++ (answer_words x (fill_told args.header x before) ++ drop 3 (drop i out))) c.of-next.ensures in
-    let left = c.fill-answer.ensures.left ∙ ap (λ (x : Wanted). fill_leaves args.header x before) c.of-next.ensures in
-    let e : 3 * (at.k + 1) ≡ i + 3 = omega arith in
+    ∙ ap (λ (a : Answer). take i out ++ (answer_words c.of-next.result a ++ drop 3 (drop i out))) told
+    ∙ ap (λ (x : Wanted). take i out ++ (answer_words x (fill_told args.header w before) ++ drop 3 (drop i out))) c.of-next.ensures in
     rw e (step args.header args.fills.now _ args.answers.now before out i at.invariant more fits _ _ left stored)
 
 pub returns-clause-left : goal.returns-clause-left

@@ -1,10 +1,10 @@
 -- `rerun::rerun::rerun` meets its contract: its three ends are those of the definition. Assumes nothing.
 use Prim.Native.Nat.{ℕ}
-use mathlib.Core.Path.{◌≡◌, sym, ◌∙◌}
+use mathlib.Core.Path.{◌≡◌, ◌∙◌}
 use mathlib.Core.List.{List}
 use native.Mathlib.Omega.{arith}
 use borrow.Author.Rules.{rules}
-use Rattle.std.specs.Prelude.{Err}
+use Rattle.std.specs.Prelude.{Ok, Err}
 use Rattle.rerun.specs.Rerun.{Given, given}
 use Rattle.rerun.proofs.Endings.{no_place, refused, few-cells, both_asked}
 use Rattle.rerun.proofs.rerun.rerun.Goals as goal
@@ -26,18 +26,21 @@ returns-then-answers-fills c =
 pub fill_all-requires : goal.fill_all-requires
 fill_all-requires c =
     let s = (goal.at.fill_all-requires c).Start in
-    let few = few-cells (g s) (ws s) _ _ (sym c.in_ok-first.was ∙ c.ask_by.ensures.answer) in
+    let was : Ok c.in_ok-first.first ≡ c.ask_by.result = grind arith in
+    let few = few-cells (g s) (ws s) _ _ (was ∙ c.ask_by.ensures.answer) in
     (omega arith, c.if-answers-fills.false)
 
 pub returns-in_err-first : goal.returns-in_err-first
 returns-in_err-first c =
     let s = (goal.at.returns-in_err-first c).Start in
     let e : c.from_residual.result ≡ Err c.in_err-first.field-0.0 = search rules in
-    rw e (refused (g s) (ws s) c.if-answers-fills.false _ (sym c.in_err-first.was ∙ c.ask_by.ensures.answer) _ c.ask_by.ensures.buffer)
+    let was : Err c.in_err-first.field-0.0 ≡ c.ask_by.result = grind arith in
+    rw e (refused (g s) (ws s) c.if-answers-fills.false _ (was ∙ c.ask_by.ensures.answer) _ c.ask_by.ensures.buffer)
 
 pub returns : goal.returns
 returns c =
     let s = (goal.at.returns c).Start in
-    both_asked (g s) (ws s) c.if-answers-fills.false c.in_ok-first.first.truth c.in_ok-first.first.cost (sym c.in_ok-first.was ∙ c.ask_by.ensures.answer)
-    _ _ _ _ _ _ _ _ c.ask_by.ensures.buffer c.fill_all.ensures.left c.fill_all.ensures.answers c.ask_by-second.ensures.answer
+    let was : Ok c.in_ok-first.first ≡ c.ask_by.result = grind arith in
+    both_asked (g s) (ws s) c.if-answers-fills.false c.in_ok-first.first.truth c.in_ok-first.first.cost (was ∙ c.ask_by.ensures.answer)
+    _ _ _ _ _ _ _ _ c.ask_by.ensures.buffer c.fill_all.ensures.left c.fill_all.ensures.answers (grind arith ∙ c.ask_by-second.ensures.answer)
     c.ask_by-second.ensures.buffer
