@@ -117,9 +117,9 @@
  *   null counts    1,088
  *   decode           548
  *   encode           384
- *   insert           368
+ *   insert           352
  *   undo             320
- *   logged fill      304
+ *   logged fill      288
  *   substitute       256
  *
  * LINKING
