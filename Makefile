@@ -1,6 +1,7 @@
 # The program and the library are built by rt, in out/ of their crates, the C side by the rules here and in the .mk file
 # of each folder. What is built goes below target/.
-.PHONY: run test fmt lib c-test outside-names example desk desk-start verdicts bench bench-page builds builds-since bench-sqlite bench-sqlite-page sqlite
+.PHONY: run test fmt lib c-test outside-names example desk desk-start verdicts bench bench-page builds builds-since \
+	bench-sqlite bench-sqlite-page sqlite
 # objects on the way to a program are kept
 .SECONDARY:
 
